@@ -22,7 +22,7 @@ EXAMPLES = os.path.join(HERE, "..", "examples")
 # The words for the modes in which a row is played, by its key "plain".
 MODES = {None: ([], ["--plain"]), True: (["--plain"],), False: ([],)}
 # A text or a comment, which has no forms, or a word or a symbol.
-TOKEN = re.compile(rb'"[^"\n]*"|#.*|[A-Za-z]\w*|-?\d+|-->|>--|[!=<>]=|~>|=>|>>>|\*{3}|&&&|\S')
+TOKEN = re.compile(rb'"[^"\n]*"|#.*|[A-Za-z]\w*|-?\d+|-->|>--|>=-|[!=<>]=|~>|=>|>>>|\*{3}|&&&|\S')
 
 
 def text_of(given):

@@ -62,8 +62,9 @@ RUNS = [
      samples(['(event "a",true)', '(event "b",false)', '(none,true)'],
              ['((event "a","-"),((event (),none),false))', '((none,"a"),((none,none),false))', '((none,"b"),((event (),event "up"),true))'])),
     ("Int ~> (((Int, Event Int), Event Int), Int)"
-     " = (((delay 20 0 &&& repeatedly 30 1) &&& (arr x => event x >>> takeEvents 2)) &&& >--(9, identity))",
-     samples(["1", "2", "3"], ["(((0,none),event 1),9)", "(((0,none),event 2),2)", "(((1,event 1),none),3)"])),
+     " = (((delay 20 0 &&& repeatedly 30 1) &&& (arr x => event x >>> takeEvents 2))"
+     ' &&& fby(snd(("", 8)), >--(9, >=-(x => fst(((x + 1), "")), identity))))',
+     samples(["1", "2", "3"], ["(((0,none),event 1),8)", "(((0,none),event 2),10)", "(((1,event 1),none),2)"])),
     # functions that are neighbours, of which two share their input
     ("Int ~> (Int, Int) = ((arr x => (x + 1) >>> arr x => (x * 2)) >>> (arr x => (x - 3) &&& arr x => (x + 3)))",
      samples(["1", "2", "3"], ["(1,7)", "(3,9)", "(5,11)"])),

@@ -24,7 +24,7 @@ from typing import Callable, Optional
 @dataclass
 class Run:
     """A network with its inputs, over and over again, and what it gives to the sample of a number from 0 on; a sample is 1 millisecond
-    long. A network that makes chains hands itself processes at its events; one that keeps them grows by its meaning. Another may keep
+    long. A network of version 2 may begin processes anew. A network that makes chains hands itself processes at its events; one that keeps them grows by its meaning. Another may keep
     less, and take no less time for it."""
 
     name: str
@@ -34,6 +34,7 @@ class Run:
     makes_chains: bool = False
     grows: bool = False
     as_quick_as: Optional["Run"] = None
+    version: int = 1
 
 
 # How many KiB more a run may hold that is ten times as long. Runs of one length differ by some 260 from each other, whatever the length;
@@ -106,6 +107,16 @@ RUNS = [
         ["1"],
         lambda number: number,
         makes_chains=True,
+    ),
+    Run(
+        "hands itself what it froze, beside another process that may begin anew",
+        f"Int ~> Int = ((go(sf integral) &&& again()) >>> arr (x, _) => x);\n"
+        f"template again(): Int ~> Int = kSwitch(identity, never Unit, j, _ => fresh j);\n"
+        f"template go(f: Int ~> Int): Int ~> Int = kSwitch(run f, {EVENT}, k, _ => go(sf run k))",
+        ["1"],
+        lambda number: number,
+        makes_chains=True,
+        version=2,
     ),
     Run(
         "hands itself what it froze among twenty parameters at every sample but the first",
@@ -259,7 +270,7 @@ def is_slower(exe, network, mode, run):
 
 def write_network(path, run):
     with open(path, "w") as file:
-        file.write(f"network 1;\ntemplate main(): {run.network};\n")
+        file.write(f"network {run.version};\ntemplate main(): {run.network};\n")
 
 
 def main():

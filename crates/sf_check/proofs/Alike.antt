@@ -31,10 +31,10 @@ use Rattle.sf_term.specs.declared.node.Node.{Node}
 use Rattle.sf_term.specs.declared.node.Node.TheVariants as terms
 use Rattle.sf_term.specs.declared.program.Program.{Program}
 use Rattle.sf_term.specs.Headers.{Header}
-use Rattle.sf_term.specs.Trees.{Primitive, bare, probe, never, with_value, timed, selected, arrow, accumulated, fused, Term, primitive, Reference, reference, started, call, Arguments, no_arguments, value_argument, process_argument, closed_argument, joined, sided, headed, switching, keeping, staged, Template, Templates}
+use Rattle.sf_term.specs.Trees.{Primitive, bare, probe, never, with_value, timed, selected, arrow, accumulated, fused, Term, primitive, Reference, reference, started, call, Arguments, no_arguments, value_argument, process_argument, closed_argument, joined, sided, headed, transformed, switching, keeping, staged, Template, Templates}
 use Rattle.sf_term.specs.Arena.{term_number, tree, term_node_at, term_entry_of, expressions_of, arguments_under, arguments_of, headers_of, template_in, templates_of, ArgumentBelow, TermPartsBelow}
 use Rattle.sf_mean.specs.Contexts.{NameKind, value, process, Bindings, parameters_inside, context_with, bindings_inside, with_name_of, values_in}
-use Rattle.sf_mean.specs.Typing.{PrimitiveTakes, bare_takes, probe_takes, never_takes, value_takes, timed_takes, selected_takes, accumulated_takes, arrow_takes, fused_takes, Takes, takes, FormTakes, primitive_takes, started_takes, call_takes, ArgumentsFit, no_argument_fits, value_fits, process_fits, closed_fits, sequence_takes, parallel_takes, fan_takes, first_takes, second_takes, loop_takes, initialized_takes, replaced_takes, switch_takes, recurring_takes, keeping_takes, stages_take, Accepted}
+use Rattle.sf_mean.specs.Typing.{PrimitiveTakes, bare_takes, probe_takes, never_takes, value_takes, timed_takes, selected_takes, accumulated_takes, arrow_takes, fused_takes, Takes, takes, FormTakes, primitive_takes, started_takes, call_takes, ArgumentsFit, no_argument_fits, value_fits, process_fits, closed_fits, sequence_takes, parallel_takes, fan_takes, first_takes, second_takes, loop_takes, initialized_takes, replaced_takes, followed_takes, transformed_takes, switch_takes, recurring_takes, keeping_takes, stages_take, Accepted}
 use Rattle.sf_check.specs.Answering.{primitive_in}
 use Rattle.sf_check.specs.Calling.{IsCalledAlike, AreCalledAlike}
 use Rattle.sf_check.proofs.Made.{made, tree_made}
@@ -77,6 +77,7 @@ module _ (fs gs : TypesByName) where
     TermAlike (joined j f g) = TermAlike f × TermAlike g
     TermAlike (sided d t) = TermAlike t
     TermAlike (headed h e t) = Alike e × TermAlike t
+    TermAlike (transformed f t) = FunctionAlike f × TermAlike t
     TermAlike (switching w t p u) = TermAlike t × TermAlike u
     TermAlike (keeping w t q k p u) = TermAlike t × TermAlike q × TermAlike u
     TermAlike (staged x f g) = ⊥
@@ -170,6 +171,8 @@ module _ (fs gs : TypesByName) where
       form_over bs k (loop_takes e t) = loop_takes (typed_around bs k.0 e) (takes_over bs k.1 t)
       form_over bs k (initialized_takes e t) = initialized_takes (typed_around bs k.0 e) (takes_over bs k.1 t)
       form_over bs k (replaced_takes e t) = replaced_takes (typed_around bs k.0 e) (takes_over bs k.1 t)
+      form_over bs k (followed_takes e t) = followed_takes (typed_around bs k.0 e) (takes_over bs k.1 t)
+      form_over bs k (transformed_takes f t) = transformed_takes (function_around bs k.0 f) (takes_over bs k.1 t)
       form_over bs k (switch_takes {p = p} {c = c} t h u) = switch_takes (takes_over bs k.0 t) (bound_around bs h) (takes_over (bindings_inside p c bs) k.1 u)
       form_over bs k (recurring_takes {p = p} {c = c} t h u) = recurring_takes (takes_over bs k.0 t) (bound_around bs h) (takes_over (bindings_inside p c bs) k.1 u)
       form_over bs k (keeping_takes {k = x} {p = p} {a = a} {b = b} {c = c} t q h u) =
@@ -236,6 +239,7 @@ module _ (fs gs : TypesByName) where
     made_alike (terms.Joined j f g) k b parts = (parts f b.0, parts g b.1)
     made_alike (terms.Sided d f) k b parts = parts f b
     made_alike (terms.Headed h v f) k b parts = (expression_alike (expressions_of p) all v, parts f b)
+    made_alike (terms.Transformed g f) k b parts = (expression_alike (expressions_of p) all (body_at (expressions_of p) g), parts f b)
     made_alike (terms.Switching w f q g) k b parts = (parts f b.0, parts g b.1)
     made_alike (terms.Keeping w f o x s q g) k b parts = (parts f b.0, parts o b.1, parts g b.2)
 

@@ -11,9 +11,9 @@ use Rattle.sf_refusal.specs.declared.refusal.Breach.{Breach}
 use Rattle.sf_refusal.specs.Refusals.{breach_of}
 use Rattle.sf_expr.specs.declared.exprs.ExprId.{ExprId}
 use Rattle.sf_expr.specs.declared.exprs.Exprs.{Exprs}
-use Rattle.sf_expr.specs.Arena.{expression, literal_at, placed_at}
+use Rattle.sf_expr.specs.Arena.{expression, function_at, literal_at, placed_at}
 use Rattle.sf_expr.specs.Expressions.{Pattern, unnamed, named, both}
-use Rattle.sf_expr.specs.Typing.{Fits, type_of_name, Binds, HasType}
+use Rattle.sf_expr.specs.Typing.{Fits, type_of_name, Binds, HasType, FunctionTakes}
 use Rattle.sf_expr.specs.Inference.{NamesFit}
 use Rattle.sf_operator.proofs.Refusing.{kind_answered}
 use Rattle.sf_expr.proofs.Judged.{bound_or, answered, function_answered}
@@ -28,7 +28,8 @@ use Rattle.sf_term.specs.declared.form.Selection.{Selection}
 use Rattle.sf_term.specs.declared.form.Accumulation.{Accumulation}
 use Rattle.sf_term.specs.declared.form.Join.TheVariants.{InSequence, InParallel, FannedOut}
 use Rattle.sf_term.specs.declared.form.Side.TheVariants.{First, Second}
-use Rattle.sf_term.specs.declared.form.Heading.TheVariants.{LoopPre, Initialized, Replaced}
+use Rattle.sf_term.specs.declared.form.Heading.TheVariants.{LoopPre, Initialized, Replaced, Followed}
+use Rattle.sf_term.specs.declared.form.Heading.{Heading}
 use Rattle.sf_term.specs.declared.form.Observation.{Observation}
 use Rattle.sf_term.specs.declared.form.Start.{Start}
 use Rattle.sf_term.specs.declared.form.Naming.TheVariants.{Process, Probe}
@@ -47,14 +48,14 @@ use Rattle.sf_term.specs.Entries.{absent_payload}
 use Rattle.sf_term.specs.Arena.{term_number, tree, term_node_at, term_entry_of, term_spot_at, expressions_of, arguments_under, ArgumentBelow, TermPartsBelow}
 use Rattle.sf_term.proofs.Kept.{parts_below}
 use Rattle.sf_mean.specs.Contexts.{NameKind, value, process, process_named, Bindings, bindings_inside, Signature, signature_named, Context, names_of_values, inside_pattern, inside_process}
-use Rattle.sf_mean.specs.Typing.{bare_kind, value_kind, takes_input, takes_time, timed_kind, takes_number, selected_kind, accumulated_argument, accumulated_kind, PrimitiveTakes, bare_takes, probe_takes, never_takes, value_takes, timed_takes, selected_takes, accumulated_takes, arrow_takes, Takes, FormTakes, primitive_takes, started_takes, call_takes, no_argument_fits, ParameterFits, sequence_takes, parallel_takes, fan_takes, first_takes, second_takes, loop_takes, initialized_takes, replaced_takes, keeping_takes}
+use Rattle.sf_mean.specs.Typing.{bare_kind, value_kind, takes_input, takes_time, timed_kind, takes_number, selected_kind, accumulated_argument, accumulated_kind, PrimitiveTakes, bare_takes, probe_takes, never_takes, value_takes, timed_takes, selected_takes, accumulated_takes, arrow_takes, Takes, FormTakes, primitive_takes, started_takes, call_takes, no_argument_fits, ParameterFits, sequence_takes, parallel_takes, fan_takes, first_takes, second_takes, loop_takes, replaced_takes, transformed_takes, keeping_takes}
 use Rattle.sf_operator.specs.Kinds.{same_kind, payload_of}
 use Rattle.sf_operator.proofs.SameKinds.{same_is, is_same, payload_is}
 use Rattle.sf_mean.proofs.Inferred.{PartsAre, two_parts, no_parts, parts_are, names_inside, output_fits}
-use Rattle.sf_check.specs.Breaking.{IsNoEventBeside, kind_named, ProcessRefused, pattern_in, name_in, keeping_inside, BindsInside, Exceeds, PrimitiveBreaks, argument_refused, accumulator_refused, made_refused, value_refused, bare_refused, never_refused, given_refused, timed_value_refused, input_differs, time_outside, timed_refused, selected_refused, number_outside, start_value_refused, accumulation_breaks, function_refused, FormBreaks, primitive_breaks, no_process, process_differs, value_keeps, process_keeps, argument_refused, process_for_value, CallBreaks, no_template, other_number, argument_breaks, call_differs, call_breaks, parallel_input, parallel_exceeds, fan_exceeds, side_input, first_exceeds, second_exceeds, start_refused, fed_exceeds, loop_differs, initialized_differs, replaced_differs, BodyWanted, after_source, beside_input, BodyBreaks, pattern_refused, body_differs, source_differs, recurring_input, switch_body_breaks, observed_exceeds, observer_differs, keeping_body_breaks, Reaches, call_argument, sequence_left, sequence_right, parallel_left, parallel_right, fan_left, fan_right, first_part, second_part, loop_part, initialized_part, replaced_part, switch_source, recurring_first, switch_body, keeping_source, keeping_observer, keeping_body, TermBreaks, itself, within}
+use Rattle.sf_check.specs.Breaking.{IsNoEventBeside, kind_named, ProcessRefused, pattern_in, name_in, keeping_inside, BindsInside, Exceeds, PrimitiveBreaks, argument_refused, accumulator_refused, made_refused, value_refused, bare_refused, never_refused, given_refused, timed_value_refused, input_differs, time_outside, timed_refused, selected_refused, number_outside, start_value_refused, accumulation_breaks, function_refused, FormBreaks, primitive_breaks, no_process, process_differs, value_keeps, process_keeps, argument_refused, process_for_value, CallBreaks, no_template, other_number, argument_breaks, call_differs, call_breaks, parallel_input, parallel_exceeds, fan_exceeds, side_input, first_exceeds, second_exceeds, start_refused, fed_exceeds, head_differs, transform_refused, transform_differs, BodyWanted, after_source, beside_input, BodyBreaks, pattern_refused, body_differs, source_differs, recurring_input, switch_body_breaks, observed_exceeds, observer_differs, keeping_body_breaks, Reaches, call_argument, sequence_left, sequence_right, parallel_left, parallel_right, fan_left, fan_right, first_part, second_part, head_part, transformed_part, switch_source, recurring_first, switch_body, keeping_source, keeping_observer, keeping_body, TermBreaks, itself, within}
 use Rattle.sf_check.specs.Answering.{primitive_in, ArgumentFits}
 use Rattle.sf_check.proofs.Made.{made}
-use Rattle.sf_check.proofs.Terms.{form_ok, wanted_takes}
+use Rattle.sf_check.proofs.Terms.{form_ok, wanted_takes, IsAmongOutputs, output_reached, output_differs, output_takes}
 use Rattle.sf_check.specs.Laws.{ContextFits}
 use Rattle.sf_check.proofs.Types.{primitive_fits, no_event, expression_one, takes_one}
 use Rattle.sf_check.proofs.Arguments.{rest_length}
@@ -227,10 +228,10 @@ module _ (p : Program) (Γ : Context) (around : ContextFits Γ) where
   looped t v f a c d is k E T = each (parts_are d) T
     where
       each : {d : Kind} {parts : Option (Kind × Kind)} → PartsAre d parts → Takes Γ (tree p f) (pair_kind a c) d → IsAnswered p Γ t a
-      each (no_parts n) T = broken t _ a is k (loop_differs E T (λ x. n x c))
+      each (no_parts n) T = broken t _ a is k (head_differs {h = LoopPre} {a = a} E T (λ x. n x c))
       each (two_parts {t = b} {u = w}) T = elim (kinds_or w c) [
         | inl e ↦ let fit = output_fits T in taken t _ a is k b (omega arith) (loop_takes E (subst (λ w. Takes Γ (tree p f) (pair_kind a c) (pair_kind b w)) e T))
-        | inr other ↦ broken t _ a is k (loop_differs E T (λ x e. other cc))
+        | inr other ↦ broken t _ a is k (head_differs {h = LoopPre} {a = a} E T (λ x e. other cc))
       ]
 
   of_loop : (t : TermId) (v : ExprId) (f : TermId) (a : Kind) → term_node_at p t ≡ nodes.Headed LoopPre v f → Fits a → ((b : Kind) → Fits b → IsAnswered p Γ f b) → IsAnswered p Γ t a
@@ -239,20 +240,21 @@ module _ (p : Program) (Γ : Context) (around : ContextFits Γ) where
     | inl c ↦ elim (cases_lt 256 (nodes_of (pair_kind a c.0))) [
       | inl q ↦ broken t _ a is k (fed_exceeds c.1 q)
       | inr f ↦ elim (F (pair_kind a c.0) f) [
-        | inr r ↦ in_part t _ a is k (loop_part c.1 f) r.1
+        | inr r ↦ in_part t _ a is k (head_part {h = LoopPre} {a = a} c.1 f) r.1
         | inl d ↦ looped t v _ a c.0 d.0 is k c.1 d.1
       ]
     ]
   ]
 
-  of_initialized : (t : TermId) (v : ExprId) (f : TermId) (a : Kind) → term_node_at p t ≡ nodes.Headed Initialized v f → Fits a → IsAnswered p Γ f a → IsAnswered p Γ t a
-  of_initialized t v f a is k F = elim (answered (expressions_of p) (names_of_values Γ) v) [
+  -- `-->` and `fby`
+  of_output : (t : TermId) (w : Heading) (v : ExprId) (f : TermId) (a : Kind) → IsAmongOutputs w → term_node_at p t ≡ nodes.Headed w v f → Fits a → IsAnswered p Γ f a → IsAnswered p Γ t a
+  of_output t w v f a among is k F = elim (answered (expressions_of p) (names_of_values Γ) v) [
     | inr r ↦ broken t _ a is k (start_refused r.1)
     | inl c ↦ elim F [
-      | inr r ↦ in_part t _ a is k (initialized_part c.1) r.1
+      | inr r ↦ in_part t _ a is k (output_reached p Γ a w v f c.0 c.1 among k) r.1
       | inl d ↦ elim (kinds_or d.0 c.0) [
-        | inr other ↦ broken t _ a is k (initialized_differs c.1 d.1 other)
-        | inl e ↦ taken t _ a is k d.0 (output_fits d.1) (initialized_takes (subst (HasType (names_of_values Γ) (expression (expressions_of p) v)) (sym e) c.1) d.1)
+        | inr other ↦ broken t _ a is k (output_differs p Γ a w v f c.0 c.1 d.0 d.1 (term_spot_at p t) among other)
+        | inl e ↦ taken t _ a is k d.0 (output_fits d.1) (output_takes p Γ a w v f c.0 c.1 d.0 d.1 among e)
       ]
     ]
   ]
@@ -261,10 +263,22 @@ module _ (p : Program) (Γ : Context) (around : ContextFits Γ) where
   of_replaced t v f a is k F = elim (answered (expressions_of p) (names_of_values Γ) v) [
     | inr r ↦ broken t _ a is k (start_refused r.1)
     | inl c ↦ elim F [
-      | inr r ↦ in_part t _ a is k (replaced_part c.1) r.1
+      | inr r ↦ in_part t _ a is k (head_part {h = Replaced} {a = a} c.1 k) r.1
       | inl d ↦ elim (kinds_or c.0 a) [
-        | inr other ↦ broken t _ a is k (replaced_differs c.1 d.1 other)
+        | inr other ↦ broken t _ a is k (head_differs {h = Replaced} {a = a} c.1 d.1 other)
         | inl e ↦ taken t _ a is k d.0 (output_fits d.1) (replaced_takes (subst (HasType (names_of_values Γ) (expression (expressions_of p) v)) e c.1) d.1)
+      ]
+    ]
+  ]
+
+  of_transformed : (t : TermId) (g : FunctionId) (f : TermId) (a : Kind) → term_node_at p t ≡ nodes.Transformed g f → Fits a → IsAnswered p Γ f a → IsAnswered p Γ t a
+  of_transformed t g f a is k F = elim (function_answered (expressions_of p) (names_of_values Γ) g a (term_spot_at p t) k) [
+    | inr r ↦ broken t _ a is k (transform_refused r.1)
+    | inl c ↦ elim F [
+      | inr r ↦ in_part t _ a is k (transformed_part c.1) r.1
+      | inl d ↦ elim (kinds_or c.0 a) [
+        | inr other ↦ broken t _ a is k (transform_differs c.1 d.1 other)
+        | inl e ↦ taken t _ a is k d.0 (output_fits d.1) (transformed_takes (subst (FunctionTakes (names_of_values Γ) (function_at (expressions_of p) g) a) e c.1) d.1)
       ]
     ]
   ]
@@ -432,8 +446,10 @@ answered_within p (suc fuel) Γ around t h a f = by_node (term_node_at p t) refl
     by_node (nodes.Sided First j) is b parts = of_first p Γ around t j a is f (parts Γ around j b)
     by_node (nodes.Sided Second j) is b parts = of_second p Γ around t j a is f (parts Γ around j b)
     by_node (nodes.Headed LoopPre v j) is b parts = of_loop p Γ around t v j a is f (parts Γ around j b)
-    by_node (nodes.Headed Initialized v j) is b parts = of_initialized p Γ around t v j a is f (parts Γ around j b a f)
+    by_node (nodes.Headed Initialized v j) is b parts = of_output p Γ around t Initialized v j a (inl refl) is f (parts Γ around j b a f)
     by_node (nodes.Headed Replaced v j) is b parts = of_replaced p Γ around t v j a is f (parts Γ around j b a f)
+    by_node (nodes.Headed Followed v j) is b parts = of_output p Γ around t Followed v j a (inr refl) is f (parts Γ around j b a f)
+    by_node (nodes.Transformed g j) is b parts = of_transformed p Γ around t g j a is f (parts Γ around j b a f)
     by_node (nodes.Switching (Basic w) l q r) is b parts = of_switch p Γ around t w l q r a f is (parts Γ around l b.0 a f) (λ c fit. parts (inside_pattern (pattern_in p q) c Γ) fit r b.1 a f)
     by_node (nodes.Switching (Recurring w) l q r) is b parts = of_recurring p Γ around t w l q r a f is (parts Γ around l b.0) (λ c x h fit. parts (inside_pattern (pattern_in p q) c Γ) fit r b.1 x h)
     by_node (nodes.Keeping w l o k n q r) is b parts =

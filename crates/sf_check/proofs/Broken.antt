@@ -31,9 +31,9 @@ use Rattle.sf_term.specs.declared.form.Bare.{Bare}
 use Rattle.sf_term.specs.declared.form.Bare.TheVariants.{Pre}
 use Rattle.sf_term.specs.declared.form.Accumulation.{Accumulation}
 use Rattle.sf_mean.specs.Contexts.{Context, names_of_values, inside_pattern, Bindings, process_named}
-use Rattle.sf_mean.specs.Typing.{bare_kind, value_kind, takes_input, timed_kind, accumulated_argument, accumulated_kind, PrimitiveTakes, bare_takes, never_takes, value_takes, timed_takes, selected_takes, accumulated_takes, arrow_takes, Takes, FormTakes, primitive_takes, started_takes, sequence_takes, parallel_takes, fan_takes, first_takes, second_takes, loop_takes, initialized_takes, replaced_takes, switch_takes, recurring_takes, keeping_takes, call_takes, IsTyped}
+use Rattle.sf_mean.specs.Typing.{bare_kind, value_kind, takes_input, timed_kind, accumulated_argument, accumulated_kind, PrimitiveTakes, bare_takes, never_takes, value_takes, timed_takes, selected_takes, accumulated_takes, arrow_takes, Takes, FormTakes, primitive_takes, started_takes, sequence_takes, parallel_takes, fan_takes, first_takes, second_takes, loop_takes, initialized_takes, replaced_takes, followed_takes, transformed_takes, switch_takes, recurring_takes, keeping_takes, call_takes, IsTyped}
 use Rattle.sf_check.specs.Answering.{primitive_in}
-use Rattle.sf_check.specs.Breaking.{kind_named, ProcessRefused, BareRefused, pattern_in, name_in, keeping_inside, BindsInside, Exceeds, PrimitiveBreaks, AccumulationBreaks, argument_refused, accumulator_refused, made_refused, value_refused, bare_refused, never_refused, given_refused, timed_value_refused, input_differs, time_outside, timed_refused, selected_refused, number_outside, start_value_refused, accumulation_breaks, function_refused, FormBreaks, primitive_breaks, no_process, process_differs, call_breaks, parallel_input, parallel_exceeds, fan_exceeds, side_input, first_exceeds, second_exceeds, start_refused, fed_exceeds, loop_differs, initialized_differs, replaced_differs, BodyWanted, after_source, beside_input, BodyBreaks, pattern_refused, body_differs, source_differs, recurring_input, switch_body_breaks, observed_exceeds, observer_differs, keeping_body_breaks, Reaches, call_argument, sequence_left, sequence_right, parallel_left, parallel_right, fan_left, fan_right, first_part, second_part, loop_part, initialized_part, replaced_part, switch_source, recurring_first, switch_body, keeping_source, keeping_observer, keeping_body, TermBreaks, itself, within, TemplateBreaks, breaks_within, breaks_header}
+use Rattle.sf_check.specs.Breaking.{kind_named, ProcessRefused, BareRefused, pattern_in, name_in, keeping_inside, BindsInside, Exceeds, PrimitiveBreaks, AccumulationBreaks, argument_refused, accumulator_refused, made_refused, value_refused, bare_refused, never_refused, given_refused, timed_value_refused, input_differs, time_outside, timed_refused, selected_refused, number_outside, start_value_refused, accumulation_breaks, function_refused, FormBreaks, primitive_breaks, no_process, process_differs, call_breaks, parallel_input, parallel_exceeds, fan_exceeds, side_input, first_exceeds, second_exceeds, start_refused, fed_exceeds, head_differs, transform_refused, transform_differs, BodyWanted, after_source, beside_input, BodyBreaks, pattern_refused, body_differs, source_differs, recurring_input, switch_body_breaks, observed_exceeds, observer_differs, keeping_body_breaks, Reaches, call_argument, sequence_left, sequence_right, parallel_left, parallel_right, fan_left, fan_right, first_part, second_part, head_part, transformed_part, switch_source, recurring_first, switch_body, keeping_source, keeping_observer, keeping_body, TermBreaks, itself, within, TemplateBreaks, breaks_within, breaks_header}
 use Rattle.sf_check.proofs.Made.{made, tree_made}
 use Rattle.sf_check.proofs.Arguments.{call_untyped, argument_takes}
 use Rattle.sf_check.proofs.Types.{argument_fits, expression_one, takes_one, beside_one, input_fits, output_fits, form_of}
@@ -114,13 +114,17 @@ module _ {p : Program} {Γ : Context} where
   itself_untyped (second_exceeds {c = c} t big) (second_takes t') fits = too_large big fits (ap (pair_kind c) (takes_one t t'))
   itself_untyped (start_refused q) (loop_takes h t) fits = refused_untyped q h
   itself_untyped (fed_exceeds {a = a} h big) (loop_takes k t) fits = too_large big (input_fits t) (ap (pair_kind a) (expression_one h k))
-  itself_untyped (loop_differs {t = t} {a = a} h g none) (loop_takes {b = b} k g') fits =
+  itself_untyped (head_differs {t = t} {a = a} h g none) (loop_takes {b = b} k g') fits =
       let P : Kind → Type 0 = λ c. Takes Γ (tree p t) (pair_kind a c) (pair_kind b c) in
       none b (takes_one g (subst P (expression_one k h) g'))
   itself_untyped (start_refused q) (initialized_takes h t) fits = refused_untyped q h
-  itself_untyped (initialized_differs h g other) (initialized_takes k t) fits = other (takes_one g t ∙ expression_one k h)
+  itself_untyped (head_differs h g other) (initialized_takes k t) fits = other (takes_one g t ∙ expression_one k h)
   itself_untyped (start_refused q) (replaced_takes h t) fits = refused_untyped q h
-  itself_untyped (replaced_differs h g other) (replaced_takes k t) fits = other (expression_one h k)
+  itself_untyped (head_differs h g other) (replaced_takes k t) fits = other (expression_one h k)
+  itself_untyped (start_refused q) (followed_takes h t) fits = refused_untyped q h
+  itself_untyped (head_differs h g other) (followed_takes k t) fits = other (takes_one g t ∙ expression_one k h)
+  itself_untyped (transform_refused q) (transformed_takes h t) fits = refused_takes_none q h
+  itself_untyped (transform_differs h g other) (transformed_takes k t) fits = other (answer_one refl h k)
   itself_untyped (source_differs f none) (switch_takes f' binds g) fits = none _ _ (takes_one f f')
   itself_untyped (recurring_input none) (recurring_takes f binds g) fits = none _ _ refl
   itself_untyped (switch_body_breaks (after_source f) h) (switch_takes f' binds g) fits = let same = beside_one f' f in body_untyped h same.1 same.0 binds g
@@ -149,11 +153,13 @@ module _ {p : Program} {Γ : Context} where
   reached_takes (fan_right f) (fan_takes f' g) = (_, g)
   reached_takes first_part (first_takes t) = (_, t)
   reached_takes second_part (second_takes t) = (_, t)
-  reached_takes (loop_part {t = t} {a = a} h fits) (loop_takes {b = b} k g) =
+  reached_takes (head_part {t = t} {a = a} h fits) (loop_takes {b = b} k g) =
       let P : Kind → Type 0 = λ c. Takes Γ (tree p t) (pair_kind a c) (pair_kind b c) in
       (_, subst P (expression_one k h) g)
-  reached_takes (initialized_part h) (initialized_takes k g) = (_, g)
-  reached_takes (replaced_part h) (replaced_takes k g) = (_, g)
+  reached_takes (head_part h fits) (initialized_takes k g) = (_, g)
+  reached_takes (head_part h fits) (replaced_takes k g) = (_, g)
+  reached_takes (head_part h fits) (followed_takes k g) = (_, g)
+  reached_takes (transformed_part h) (transformed_takes k g) = (_, g)
   reached_takes switch_source (switch_takes f binds g) = (_, f)
   reached_takes recurring_first (recurring_takes f binds g) = (_, f)
   reached_takes (switch_body {u = u} {q = q} {a = a} (after_source f) binds) (switch_takes {b = b} f' binds' g) =

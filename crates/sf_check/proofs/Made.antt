@@ -3,13 +3,13 @@ use Rattle.std.proofs.Common.{◌≡◌, refl, sym, ap, ◌∙◌}
 use mathlib.Core.Path.{ap₂}
 use Rattle.sf_expr.specs.declared.exprs.PatternId.{PatternId}
 use Rattle.sf_expr.specs.Patterns.{pattern_of}
-use Rattle.sf_expr.specs.Arena.{expression, placed_at}
+use Rattle.sf_expr.specs.Arena.{expression, function_at, placed_at}
 use Rattle.sf_term.specs.declared.node.TermId.{TermId}
 use Rattle.sf_term.specs.declared.node.Primitive.TheVariants as primitives
 use Rattle.sf_term.specs.declared.node.Node.{Node}
 use Rattle.sf_term.specs.declared.node.Node.TheVariants as nodes
 use Rattle.sf_term.specs.declared.program.Program.{Program}
-use Rattle.sf_term.specs.Trees.{Term, primitive, reference, named_term, call, joined, sided, headed, switching, keeping, with_value, timed, arrow, accumulated}
+use Rattle.sf_term.specs.Trees.{Term, primitive, reference, named_term, call, joined, sided, headed, transformed, switching, keeping, with_value, timed, arrow, accumulated}
 use Rattle.sf_term.specs.Arena.{tree, term_node_at, expressions_of, arguments_under, arguments_of, pattern_under, term_of}
 use Rattle.sf_term.proofs.Kept.{node_builds, expression_in, function_at_in}
 use Rattle.sf_check.specs.Breaking.{pattern_in, name_in}
@@ -23,6 +23,7 @@ made p (nodes.Call k vs) = reference (call (name_in p k) (arguments_of p (argume
 made p (nodes.Joined j f g) = joined j (tree p f) (tree p g)
 made p (nodes.Sided d f) = sided d (tree p f)
 made p (nodes.Headed h v f) = headed h (expression (expressions_of p) v) (tree p f)
+made p (nodes.Transformed g f) = transformed (function_at (expressions_of p) g) (tree p f)
 made p (nodes.Switching w f q g) = switching w (tree p f) (pattern_in p q) (tree p g)
 made p (nodes.Keeping w f o k s q g) = keeping w (tree p f) (tree p o) (name_in p k) (pattern_in p q) (tree p g)
 
@@ -46,5 +47,6 @@ tree_made p t n e = node_builds p t n e ∙ by n
     by (nodes.Joined j f g) = refl
     by (nodes.Sided d f) = refl
     by (nodes.Headed h v f) = ap (λ e. headed h e (tree p f)) (sym (expression_in p v))
+    by (nodes.Transformed g f) = ap (λ g. transformed g (tree p f)) (sym (function_at_in p g))
     by (nodes.Switching w f q g) = ap (λ r. switching w (tree p f) (pattern_of r) (tree p g)) (sym (placed_in p q))
     by (nodes.Keeping w f o k s q g) = ap (λ r. keeping w (tree p f) (tree p o) (name_in p k) (pattern_of r) (tree p g)) (sym (placed_in p q))

@@ -35,7 +35,7 @@ use Rattle.sf_mean.specs.Typing.{bare_kind, value_kind, takes_input, timed_kind,
 use Rattle.sf_value.specs.Values.{Name}
 use Rattle.sf_reach.proofs.Lawful.{endless_once, endless_somewhere}
 use Rattle.sf_check.specs.Names.{IsFirstRepeat, NamesDiffer, HeaderRepeats, name_repeats, parameter_repeats, HeaderDiffers, IsFirstNameAgain}
-use Rattle.sf_check.specs.Breaking.{kind_named, ProcessRefused, BareRefused, pattern_in, name_in, keeping_inside, BindsInside, PrimitiveBreaks, AccumulationBreaks, argument_refused, accumulator_refused, made_refused, value_refused, bare_refused, never_refused, given_refused, timed_value_refused, input_differs, time_outside, timed_refused, selected_refused, number_outside, start_value_refused, accumulation_breaks, function_refused, FormBreaks, primitive_breaks, no_process, process_differs, call_breaks, parallel_input, parallel_exceeds, fan_exceeds, side_input, first_exceeds, second_exceeds, start_refused, fed_exceeds, loop_differs, initialized_differs, replaced_differs, after_source, beside_input, BodyBreaks, pattern_refused, body_differs, source_differs, recurring_input, switch_body_breaks, observed_exceeds, observer_differs, keeping_body_breaks, ArgumentKeeps, process_keeps, Reaches, call_argument, sequence_left, sequence_right, parallel_left, parallel_right, fan_left, fan_right, first_part, second_part, loop_part, initialized_part, replaced_part, switch_source, recurring_first, switch_body, keeping_source, keeping_observer, keeping_body, TermBreaks, itself, within, TemplateBreaks, breaks_within, breaks_header, AreTyped, IsFirstBreak}
+use Rattle.sf_check.specs.Breaking.{kind_named, ProcessRefused, BareRefused, pattern_in, name_in, keeping_inside, BindsInside, PrimitiveBreaks, AccumulationBreaks, argument_refused, accumulator_refused, made_refused, value_refused, bare_refused, never_refused, given_refused, timed_value_refused, input_differs, time_outside, timed_refused, selected_refused, number_outside, start_value_refused, accumulation_breaks, function_refused, FormBreaks, primitive_breaks, no_process, process_differs, call_breaks, parallel_input, parallel_exceeds, fan_exceeds, side_input, first_exceeds, second_exceeds, start_refused, fed_exceeds, under_head, head_differs, transform_refused, transform_differs, after_source, beside_input, BodyBreaks, pattern_refused, body_differs, source_differs, recurring_input, switch_body_breaks, observed_exceeds, observer_differs, keeping_body_breaks, ArgumentKeeps, process_keeps, Reaches, call_argument, sequence_left, sequence_right, parallel_left, parallel_right, fan_left, fan_right, first_part, second_part, head_part, transformed_part, switch_source, recurring_first, switch_body, keeping_source, keeping_observer, keeping_body, TermBreaks, itself, within, TemplateBreaks, breaks_within, breaks_header, AreTyped, IsFirstBreak}
 use Rattle.sf_check.specs.Refusing.{RefusesNetwork, name_refused, type_refused, endless_refused, main_missing}
 use Rattle.sf_check.proofs.Types.{argument_fits, expression_one, takes_one, input_fits}
 use Rattle.sf_check.proofs.Broken.{answer_one, too_large, pattern_none, wanted_one, seen_one, breaks_untyped, template_untyped}
@@ -136,19 +136,17 @@ module _ {p : Program} {Γ : Context} where
   itself_once (second_exceeds h big) (second_exceeds k more) = refl
   itself_once (start_refused h) (start_refused k) = refused_once h k
   itself_once (start_refused h) (fed_exceeds k big) = absurd (refused_untyped h k)
-  itself_once (start_refused h) (loop_differs k l none) = absurd (refused_untyped h k)
+  itself_once (start_refused h) (head_differs k l other) = absurd (refused_untyped h k)
   itself_once (fed_exceeds k big) (start_refused h) = absurd (refused_untyped h k)
   itself_once (fed_exceeds h big) (fed_exceeds k more) = refl
-  itself_once (fed_exceeds {a = a} h big) (loop_differs k l none) = absurd (too_large big (input_fits l) (ap (pair_kind a) (expression_one h k)))
-  itself_once (loop_differs k l none) (start_refused h) = absurd (refused_untyped h k)
-  itself_once (loop_differs {a = a} k l none) (fed_exceeds h big) = absurd (too_large big (input_fits l) (ap (pair_kind a) (expression_one h k)))
-  itself_once (loop_differs h k none) (loop_differs l m more) = refl
-  itself_once (start_refused h) (initialized_differs k l other) = absurd (refused_untyped h k)
-  itself_once (initialized_differs k l other) (start_refused h) = absurd (refused_untyped h k)
-  itself_once (initialized_differs h k other) (initialized_differs l m more) = refl
-  itself_once (start_refused h) (replaced_differs k l other) = absurd (refused_untyped h k)
-  itself_once (replaced_differs k l other) (start_refused h) = absurd (refused_untyped h k)
-  itself_once (replaced_differs h k other) (replaced_differs l m more) = refl
+  itself_once (fed_exceeds {a = a} h big) (head_differs k l none) = absurd (too_large big (input_fits l) (ap (pair_kind a) (expression_one h k)))
+  itself_once (head_differs k l other) (start_refused h) = absurd (refused_untyped h k)
+  itself_once (head_differs {a = a} k l none) (fed_exceeds h big) = absurd (too_large big (input_fits l) (ap (pair_kind a) (expression_one h k)))
+  itself_once (head_differs h k other) (head_differs l m more) = refl
+  itself_once (transform_refused h) (transform_refused k) = function_refused_once h k
+  itself_once (transform_refused h) (transform_differs k l other) = absurd (refused_takes_none h k)
+  itself_once (transform_differs k l other) (transform_refused h) = absurd (refused_takes_none h k)
+  itself_once (transform_differs h k other) (transform_differs l m more) = refl
   itself_once (source_differs f none) (source_differs g more) = refl
   itself_once (source_differs f none) (switch_body_breaks (after_source g) h) = absurd (none _ _ (takes_one f g))
   itself_once (switch_body_breaks (after_source g) h) (source_differs f none) = absurd (none _ _ (takes_one f g))
@@ -191,15 +189,13 @@ module _ {p : Program} {Γ : Context} where
   itself_parts (side_input none) second_part broken = none _ _ refl
   itself_parts (first_exceeds h big) first_part broken = breaks_untyped broken h
   itself_parts (second_exceeds h big) second_part broken = breaks_untyped broken h
-  itself_parts (start_refused h) (loop_part k fits) broken = refused_untyped h k
-  itself_parts (fed_exceeds {a = a} h big) (loop_part k fits) broken = too_large big fits (ap (pair_kind a) (expression_one h k))
-  itself_parts (loop_differs {t = t} {a = a} {d = d} h l none) (loop_part k fits) broken =
-      let P : Kind → Type 0 = λ c. Takes Γ (tree p t) (pair_kind a c) d in
+  itself_parts (start_refused h) (head_part k fits) broken = refused_untyped h k
+  itself_parts (fed_exceeds {a = a} h big) (head_part k fits) broken = too_large big fits (ap (pair_kind a) (expression_one h k))
+  itself_parts (head_differs {h = w} {t = t} {a = a} {d = d} h l other) (head_part k fits) broken =
+      let P : Kind → Type 0 = λ c. Takes Γ (tree p t) (under_head w c a) d in
       breaks_untyped broken (subst P (expression_one h k) l)
-  itself_parts (start_refused h) (initialized_part k) broken = refused_untyped h k
-  itself_parts (initialized_differs h l other) (initialized_part k) broken = breaks_untyped broken l
-  itself_parts (start_refused h) (replaced_part k) broken = refused_untyped h k
-  itself_parts (replaced_differs h l other) (replaced_part k) broken = breaks_untyped broken l
+  itself_parts (transform_refused h) (transformed_part k) broken = refused_takes_none h k
+  itself_parts (transform_differs h l other) (transformed_part k) broken = breaks_untyped broken l
   itself_parts (source_differs f none) switch_source broken = breaks_untyped broken f
   itself_parts (source_differs f none) (switch_body (after_source g) binds) broken = none _ _ (takes_one f g)
   itself_parts (recurring_input none) recurring_first broken = none _ _ refl
@@ -251,11 +247,10 @@ module _ {p : Program} {Γ : Context} where
   parts_once (fan_right h) (fan_right k) broken once other = once _ other
   parts_once first_part first_part broken once other = once _ other
   parts_once second_part second_part broken once other = once _ other
-  parts_once {f = f} (loop_part {t = t} {a = a} h fits) (loop_part k more) broken once other =
-      let P : Kind → Type 0 = λ c. TermBreaks p Γ t (pair_kind a c) f in
+  parts_once {f = f} (head_part {h = w} {t = t} {a = a} h fits) (head_part k more) broken once other =
+      let P : Kind → Type 0 = λ c. TermBreaks p Γ t (under_head w c a) f in
       once f (subst P (expression_one k h) other)
-  parts_once (initialized_part h) (initialized_part k) broken once other = once _ other
-  parts_once (replaced_part h) (replaced_part k) broken once other = once _ other
+  parts_once (transformed_part h) (transformed_part k) broken once other = once _ other
   parts_once switch_source switch_source broken once other = once _ other
   parts_once switch_source (switch_body (after_source h) binds) broken once other = absurd (breaks_untyped broken h)
   parts_once (switch_body (after_source h) binds) switch_source broken once other = absurd (breaks_untyped other h)

@@ -9,7 +9,7 @@ use Rattle.sf_expr.specs.declared.exprs.Exprs.{Exprs}
 use Rattle.sf_expr.specs.declared.exprs.FunctionId.{FunctionId}
 use Rattle.sf_expr.specs.declared.exprs.NameId.{NameId}
 use Rattle.sf_expr.specs.declared.exprs.PatternId.{PatternId}
-use Rattle.sf_expr.specs.Arena.{expression, literal_at, placed_at}
+use Rattle.sf_expr.specs.Arena.{expression, function_at, literal_at, placed_at}
 use Rattle.sf_refusal.specs.declared.spot.Spot.{Spot}
 use Rattle.sf_refusal.specs.declared.rule.Rule.TheVariants.{Mismatch, BadConstant, TypeTooLarge}
 use Rattle.sf_refusal.specs.declared.refusal.Breach.{Breach}
@@ -22,7 +22,7 @@ use Rattle.sf_operator.specs.Breaches.{AnswersKind}
 use Rattle.sf_operator.proofs.SameKinds.{same_is, is_same, payload_is}
 use Rattle.sf_expr.specs.Expressions.{Pattern}
 use Rattle.sf_expr.specs.Refusals.{Refused, Judges, JudgesFunction, PatternRefused, PairRefused, AnswersPair}
-use Rattle.sf_expr.specs.Typing.{Names, Fits, HasType}
+use Rattle.sf_expr.specs.Typing.{Names, Fits, HasType, FunctionTakes}
 use Rattle.sf_term.specs.declared.form.Bare.{Bare}
 use Rattle.sf_term.specs.declared.form.Bare.TheVariants.{Pre}
 use Rattle.sf_term.specs.declared.form.WithValue.{WithValue}
@@ -32,7 +32,7 @@ use Rattle.sf_term.specs.declared.form.Accumulation.{Accumulation}
 use Rattle.sf_term.specs.declared.form.Join.TheVariants.{InSequence, InParallel, FannedOut}
 use Rattle.sf_term.specs.declared.form.Side.{Side}
 use Rattle.sf_term.specs.declared.form.Side.TheVariants.{First, Second}
-use Rattle.sf_term.specs.declared.form.Heading.TheVariants.{LoopPre, Initialized, Replaced}
+use Rattle.sf_term.specs.declared.form.Heading.TheVariants.{LoopPre, Initialized, Replaced, Followed}
 use Rattle.sf_term.specs.declared.form.Observation.{Observation}
 use Rattle.sf_term.specs.declared.form.Start.{Start}
 use Rattle.sf_term.specs.declared.form.Naming.{Naming}
@@ -53,8 +53,8 @@ use Rattle.sf_term.specs.Entries.{absent_payload}
 use Rattle.sf_term.specs.Parameters.{parameters_of}
 use Rattle.sf_term.specs.Arena.{tree, term_node_at, term_spot_at, expressions_of, templates_of}
 use Rattle.sf_mean.specs.Contexts.{process, Context, names_of_values, context_of, inside_pattern}
-use Rattle.sf_mean.specs.Typing.{value_kind, takes_input, takes_time, timed_kind, takes_number, selected_kind, accumulated_argument, accumulated_kind, PrimitiveTakes, bare_takes, probe_takes, never_takes, value_takes, timed_takes, selected_takes, accumulated_takes, arrow_takes, Takes, takes, FormTakes, primitive_takes, started_takes, sequence_takes, parallel_takes, fan_takes, first_takes, second_takes, loop_takes, initialized_takes, replaced_takes, switch_takes, recurring_takes, keeping_takes}
-use Rattle.sf_check.specs.Breaking.{IsNoPairWith, IsNoEventBeside, kind_named, ProcessRefused, pattern_in, name_in, keeping_inside, BindsInside, Exceeds, PrimitiveBreaks, argument_refused, accumulator_refused, made_refused, value_refused, bare_refused, never_refused, given_refused, timed_value_refused, input_differs, time_outside, timed_refused, selected_refused, number_outside, start_value_refused, accumulation_breaks, function_refused, FormBreaks, primitive_breaks, no_process, process_differs, parallel_exceeds, fan_exceeds, first_exceeds, second_exceeds, start_refused, fed_exceeds, loop_differs, initialized_differs, replaced_differs, BodyWanted, after_source, beside_input, BodyBreaks, pattern_refused, body_differs, source_differs, recurring_input, switch_body_breaks, observed_exceeds, observer_differs, keeping_body_breaks, Reaches, sequence_right, parallel_left, parallel_right, first_part, second_part, loop_part, recurring_first, switch_body, keeping_observer, keeping_body, TermBreaks, itself, within, TemplateBreaks, breaks_within, breaks_header}
+use Rattle.sf_mean.specs.Typing.{value_kind, takes_input, takes_time, timed_kind, takes_number, selected_kind, accumulated_argument, accumulated_kind, PrimitiveTakes, bare_takes, probe_takes, never_takes, value_takes, timed_takes, selected_takes, accumulated_takes, arrow_takes, Takes, takes, FormTakes, primitive_takes, started_takes, sequence_takes, parallel_takes, fan_takes, first_takes, second_takes, loop_takes, initialized_takes, replaced_takes, followed_takes, transformed_takes, switch_takes, recurring_takes, keeping_takes}
+use Rattle.sf_check.specs.Breaking.{IsNoPairWith, IsNoEventBeside, kind_named, ProcessRefused, pattern_in, name_in, keeping_inside, BindsInside, Exceeds, PrimitiveBreaks, argument_refused, accumulator_refused, made_refused, value_refused, bare_refused, never_refused, given_refused, timed_value_refused, input_differs, time_outside, timed_refused, selected_refused, number_outside, start_value_refused, accumulation_breaks, function_refused, FormBreaks, primitive_breaks, no_process, process_differs, parallel_exceeds, fan_exceeds, first_exceeds, second_exceeds, start_refused, fed_exceeds, head_differs, transform_refused, transform_differs, BodyWanted, after_source, beside_input, BodyBreaks, pattern_refused, body_differs, source_differs, recurring_input, switch_body_breaks, observed_exceeds, observer_differs, keeping_body_breaks, Reaches, sequence_right, parallel_left, parallel_right, first_part, second_part, head_part, recurring_first, switch_body, keeping_observer, keeping_body, TermBreaks, itself, within, TemplateBreaks, breaks_within, breaks_header}
 use Rattle.sf_check.specs.Answering.{primitive_in, AnswersBare, AnswersPrimitive, AnswersTerm, AnswersBody}
 use Rattle.sf_check.proofs.Made.{made, tree_made}
 use Rattle.sf_check.proofs.Types.{primitive_fits, output_fits, no_event}
@@ -105,6 +105,32 @@ named_there p t {k = k} {n = n} e there = there ∙ ap (λ w. nodes.Named w k n)
 
 pub sided_there : (p : Program) (t : TermId) {d k : Side} {f : TermId} → d ≡ k → term_node_at p t ≡ nodes.Sided d f → term_node_at p t ≡ nodes.Sided k f
 sided_there p t {f = f} e there = there ∙ ap (λ d. nodes.Sided d f) e
+
+pub headed_there : (p : Program) (t : TermId) {k l : Heading} {v : ExprId} {f : TermId} → k ≡ l → term_node_at p t ≡ nodes.Headed k v f → term_node_at p t ≡ nodes.Headed l v f
+headed_there p t {v = v} {f = f} e there = there ∙ ap (λ k. nodes.Headed k v f) e
+
+-- ## A value of the type of the outputs, at the head of a part
+
+-- `-->` and `fby`
+abbrev pub IsAmongOutputs : Heading → Type 0
+IsAmongOutputs k = (k ≡ Initialized) ⊎ (k ≡ Followed)
+
+module _ (p : Program) (Γ : Context) (a : Kind) (k : Heading) (v : ExprId) (f : TermId) (c : Kind) (typed : HasType (names_of_values Γ) (expression (expressions_of p) v) c) where
+  pub output_reached : IsAmongOutputs k → Fits a → Reaches p Γ (nodes.Headed k v f) a Γ f a
+  output_reached (inl e) fits = subst (λ k. Reaches p Γ (nodes.Headed k v f) a Γ f a) (sym e) (head_part {h = Initialized} {a = a} typed fits)
+  output_reached (inr e) fits = subst (λ k. Reaches p Γ (nodes.Headed k v f) a Γ f a) (sym e) (head_part {h = Followed} {a = a} typed fits)
+
+  module _ (d : Kind) (part : Takes Γ (tree p f) a d) where
+    pub output_differs : (s : Spot) → IsAmongOutputs k → d ≢ c → FormBreaks p Γ s (nodes.Headed k v f) a (breach_of Mismatch s)
+    output_differs s (inl e) other = subst (λ k. FormBreaks p Γ s (nodes.Headed k v f) a (breach_of Mismatch s)) (sym e) (head_differs {h = Initialized} {a = a} typed part other)
+    output_differs s (inr e) other = subst (λ k. FormBreaks p Γ s (nodes.Headed k v f) a (breach_of Mismatch s)) (sym e) (head_differs {h = Followed} {a = a} typed part other)
+
+    pub output_takes : IsAmongOutputs k → d ≡ c → FormTakes Γ (made p (nodes.Headed k v f)) a d
+    output_takes among same = each among (subst (HasType (names_of_values Γ) (expression (expressions_of p) v)) (sym same) typed)
+      where
+        each : IsAmongOutputs k → HasType (names_of_values Γ) (expression (expressions_of p) v) d → FormTakes Γ (made p (nodes.Headed k v f)) a d
+        each (inl e) h = subst (λ k. FormTakes Γ (made p (nodes.Headed k v f)) a d) (sym e) (initialized_takes h part)
+        each (inr e) h = subst (λ k. FormTakes Γ (made p (nodes.Headed k v f)) a d) (sym e) (followed_takes h part)
 
 -- a switch takes inputs where its body gives what is wanted of it
 pub wanted_takes : {p : Program} {Γ : Context} {w : Switching} {f : TermId} {q : Pattern} {u : Term} {a x b c : Kind} → BodyWanted p Γ w f a x b c → BindsInside q c Γ → Takes (inside_pattern q c Γ) u x b → FormTakes Γ (switching w (tree p f) q u) a b
@@ -185,40 +211,52 @@ module _ (p : Program) (Γ : Context) (t : TermId) (a : Kind) (s : Spot) (at : s
     pub start_answers : (r : Refusal) → Judges x (names_of_values Γ) v (Err r) → OrMemory (TermBreaks p Γ t a) r
     start_answers r h = itself_refused p Γ t (nodes.Headed k v f) a is s r at (or_memory (λ b k. start_refused (subst (λ x. Refused x (names_of_values Γ) v b) of k)) h)
 
-  -- `-->`
-  module _ (v : ExprId) (f : TermId) (is : term_node_at p t ≡ nodes.Headed Initialized v f) (c : Kind) (typed : HasType (names_of_values Γ) (expression (expressions_of p) v) c) (d : Kind) (part : Takes Γ (tree p f) a d) where
-    pub initialized_answers : (r : Result Kind Refusal) → Fits a → same_kind d c ≡ is_ok r → IfOk r (λ b. b ≡ d) → IfErr r (λ e. e ≡ broken Mismatch s) → AnswersTerm p Γ t a r
-    initialized_answers (Ok b) fit same output wrong =
-        subst (Takes Γ (tree p t) a) (sym output) (form_ok p Γ t (nodes.Headed Initialized v f) a is d fit (output_fits part) (initialized_takes (subst (HasType (names_of_values Γ) (expression (expressions_of p) v)) (sym (same_is d c same)) typed) part))
-    initialized_answers (Err e) fit other output wrong =
-        itself_refused p Γ t (nodes.Headed Initialized v f) a is s e at (breaks_at Mismatch wrong refl (initialized_differs typed part (other_kind d c other)))
+  -- `-->` and `fby`
+  module _ (k : Heading) (v : ExprId) (f : TermId) (is : term_node_at p t ≡ nodes.Headed k v f) (c : Kind) (typed : HasType (names_of_values Γ) (expression (expressions_of p) v) c) (d : Kind) (part : Takes Γ (tree p f) a d) where
+    pub output_answers : IsAmongOutputs k → (r : Result Kind Refusal) → Fits a → same_kind d c ≡ is_ok r → IfOk r (λ b. b ≡ d) → IfErr r (λ e. e ≡ broken Mismatch s) → AnswersTerm p Γ t a r
+    output_answers among (Ok b) fit same output wrong =
+        subst (Takes Γ (tree p t) a) (sym output) (form_ok p Γ t (nodes.Headed k v f) a is d fit (output_fits part) (output_takes p Γ a k v f c typed d part among (same_is d c same)))
+    output_answers among (Err e) fit other output wrong =
+        itself_refused p Γ t (nodes.Headed k v f) a is s e at (breaks_at Mismatch wrong refl (output_differs p Γ a k v f c typed d part s among (other_kind d c other)))
 
   -- `>--`
-  module _ (v : ExprId) (f : TermId) (is : term_node_at p t ≡ nodes.Headed Replaced v f) (c : Kind) (typed : HasType (names_of_values Γ) (expression (expressions_of p) v) c) (d : Kind) (part : Takes Γ (tree p f) a d) where
-    pub replaced_answers : Fits a → same_kind c a ≡ true → AnswersTerm p Γ t a (Ok d)
-    replaced_answers fit same = form_ok p Γ t (nodes.Headed Replaced v f) a is d fit (output_fits part) (replaced_takes (subst (HasType (names_of_values Γ) (expression (expressions_of p) v)) (same_is c a same) typed) part)
+  module _ (v : ExprId) (f : TermId) (is : term_node_at p t ≡ nodes.Headed Replaced v f) (c : Kind) (typed : HasType (names_of_values Γ) (expression (expressions_of p) v) c) where
+    pub replaced_reached : Fits a → Reaches p Γ (nodes.Headed Replaced v f) a Γ f a
+    replaced_reached fit = head_part {h = Replaced} {a = a} typed fit
 
-    pub replaced_refused : (e : Refusal) → same_kind c a ≡ false → e ≡ broken Mismatch s → OrMemory (TermBreaks p Γ t a) e
-    replaced_refused e other wrong = itself_refused p Γ t (nodes.Headed Replaced v f) a is s e at (breaks_at Mismatch wrong refl (replaced_differs typed part (other_kind c a other)))
+    module _ (d : Kind) (part : Takes Γ (tree p f) a d) where
+      pub replaced_answers : Fits a → same_kind c a ≡ true → AnswersTerm p Γ t a (Ok d)
+      replaced_answers fit same = form_ok p Γ t (nodes.Headed Replaced v f) a is d fit (output_fits part) (replaced_takes (subst (HasType (names_of_values Γ) (expression (expressions_of p) v)) (same_is c a same) typed) part)
+
+      pub replaced_refused : (e : Refusal) → same_kind c a ≡ false → e ≡ broken Mismatch s → OrMemory (TermBreaks p Γ t a) e
+      replaced_refused e other wrong = itself_refused p Γ t (nodes.Headed Replaced v f) a is s e at (breaks_at Mismatch wrong refl (head_differs {h = Replaced} {a = a} typed part (other_kind c a other)))
 
   -- `loopPre`
-  module _ (v : ExprId) (f : TermId) (is : term_node_at p t ≡ nodes.Headed LoopPre v f) (x : Exprs) (of : x ≡ expressions_of p) where
-    module _ (c : Kind) (typed : HasType (names_of_values Γ) (expression x v) c) where
-      typed_in : HasType (names_of_values Γ) (expression (expressions_of p) v) c
-      typed_in = subst (λ x. HasType (names_of_values Γ) (expression x v) c) of typed
+  module _ (v : ExprId) (f : TermId) (is : term_node_at p t ≡ nodes.Headed LoopPre v f) (c : Kind) (typed : HasType (names_of_values Γ) (expression (expressions_of p) v) c) where
+    pub fed_refused : (e : Refusal) → OrMemory (PairRefused a c s) e → OrMemory (TermBreaks p Γ t a) e
+    fed_refused e h = itself_refused p Γ t (nodes.Headed LoopPre v f) a is s e at (or_memory (λ c k. subst (λ c. FormBreaks p Γ s (nodes.Headed LoopPre v f) a c) (sym k.0) (fed_exceeds typed k.1)) h)
 
-      pub fed_refused : (e : Refusal) → OrMemory (PairRefused a c s) e → OrMemory (TermBreaks p Γ t a) e
-      fed_refused e h = itself_refused p Γ t (nodes.Headed LoopPre v f) a is s e at (or_memory (λ c k. subst (λ c. FormBreaks p Γ s (nodes.Headed LoopPre v f) a c) (sym k.0) (fed_exceeds typed_in k.1)) h)
+    pub loop_reached : (w : Kind) → w ≡ pair_kind a c → Fits w → Reaches p Γ (nodes.Headed LoopPre v f) a Γ f w
+    loop_reached w e fits = subst (Reaches p Γ (nodes.Headed LoopPre v f) a Γ f) (sym e) (head_part {h = LoopPre} {a = a} typed (subst Fits e fits))
 
-      pub loop_reached : (w : Kind) → w ≡ pair_kind a c → Fits w → Reaches p Γ (nodes.Headed LoopPre v f) a Γ f w
-      loop_reached w e fits = subst (Reaches p Γ (nodes.Headed LoopPre v f) a Γ f) (sym e) (loop_part typed_in (subst Fits e fits))
+    pub loop_answers : (w d : Kind) (r : Result Kind Refusal) → w ≡ pair_kind a c → Fits a → Takes Γ (tree p f) w d → IfOk r (λ b. d ≡ pair_kind b c) → IfErr r (OrMemory (λ b. (b ≡ breach_of Mismatch s) × IsNoPairWith c d)) → AnswersTerm p Γ t a r
+    loop_answers w d (Ok b) same fit k ok err =
+        let h = subst (λ w. Takes Γ (tree p f) w d) same k in
+        let fits = subst Fits ok (output_fits h) in
+        form_ok p Γ t (nodes.Headed LoopPre v f) a is b fit (omega (arith, fits)) (loop_takes typed (subst (Takes Γ (tree p f) (pair_kind a c)) ok h))
+    loop_answers w d (Err e) same fit k ok err = mismatch_refused (nodes.Headed LoopPre v f) is e err (head_differs {h = LoopPre} {a = a} typed (subst (λ w. Takes Γ (tree p f) w d) same k))
 
-      pub loop_answers : (w d : Kind) (r : Result Kind Refusal) → w ≡ pair_kind a c → Fits a → Takes Γ (tree p f) w d → IfOk r (λ b. d ≡ pair_kind b c) → IfErr r (OrMemory (λ b. (b ≡ breach_of Mismatch s) × IsNoPairWith c d)) → AnswersTerm p Γ t a r
-      loop_answers w d (Ok b) same fit k ok err =
-          let h = subst (λ w. Takes Γ (tree p f) w d) same k in
-          let fits = subst Fits ok (output_fits h) in
-          form_ok p Γ t (nodes.Headed LoopPre v f) a is b fit (omega (arith, fits)) (loop_takes typed_in (subst (Takes Γ (tree p f) (pair_kind a c)) ok h))
-      loop_answers w d (Err e) same fit k ok err = mismatch_refused (nodes.Headed LoopPre v f) is e err (loop_differs typed_in (subst (λ w. Takes Γ (tree p f) w d) same k))
+  -- `>=-`
+  module _ (g : FunctionId) (f : TermId) (is : term_node_at p t ≡ nodes.Transformed g f) where
+    pub function_answers : (e : Refusal) → JudgesFunction (expressions_of p) (names_of_values Γ) g a s (Err e) → OrMemory (TermBreaks p Γ t a) e
+    function_answers e h = itself_refused p Γ t (nodes.Transformed g f) a is s e at (or_memory (λ b k. transform_refused k) h)
+
+    module _ (c : Kind) (given : FunctionTakes (names_of_values Γ) (function_at (expressions_of p) g) a c) (d : Kind) (part : Takes Γ (tree p f) a d) where
+      pub transformed_answers : Fits a → same_kind c a ≡ true → AnswersTerm p Γ t a (Ok d)
+      transformed_answers fit same = form_ok p Γ t (nodes.Transformed g f) a is d fit (output_fits part) (transformed_takes (subst (FunctionTakes (names_of_values Γ) (function_at (expressions_of p) g) a) (same_is c a same) given) part)
+
+      pub transformed_refused : (e : Refusal) → same_kind c a ≡ false → e ≡ broken Mismatch s → OrMemory (TermBreaks p Γ t a) e
+      transformed_refused e other wrong = itself_refused p Γ t (nodes.Transformed g f) a is s e at (breaks_at Mismatch wrong refl (transform_differs given part (other_kind c a other)))
 
   -- a form gives way to a body inside a pattern: its answer is that for the body
   module _ (n : Node) (is : term_node_at p t ≡ n) (Δ : Context) (q : PatternId) (u : TermId) (x b c : Kind)

@@ -28,7 +28,7 @@ use Rattle.sf_term.specs.declared.form.Join.TheVariants.{InSequence, InParallel,
 use Rattle.sf_term.specs.declared.form.Side.{Side}
 use Rattle.sf_term.specs.declared.form.Side.TheVariants.{First, Second}
 use Rattle.sf_term.specs.declared.form.Heading.{Heading}
-use Rattle.sf_term.specs.declared.form.Heading.TheVariants.{LoopPre, Initialized, Replaced}
+use Rattle.sf_term.specs.declared.form.Heading.TheVariants.{LoopPre, Replaced}
 use Rattle.sf_term.specs.declared.form.Start.{Start}
 use Rattle.sf_term.specs.declared.form.Naming.TheVariants.{Process}
 use Rattle.sf_term.specs.declared.form.Observation.{Observation}
@@ -66,6 +66,19 @@ IsNoEvent d = (c : Kind) → d ≢ event_kind c
 -- a type has more than 256 nodes
 abbrev pub Exceeds : Kind → Type 0
 Exceeds t = 256 < nodes_of t
+
+-- the type of the inputs of a part with a value of a type at its head, on inputs of a type: what is fed back stands beside them
+abbrev pub under_head : Heading → (given input : Kind) → Kind
+under_head LoopPre c a = pair_kind a c
+under_head h c a = a
+
+-- On inputs of a type, with outputs of its part of a type, a value at a head is of another type than it has to be: one that is
+-- fed back is of the type of the second outputs, one in the place of an input of that of the inputs, and any other of that of
+-- the outputs.
+abbrev pub HeadDiffers : Heading → (given input output : Kind) → Type 0
+HeadDiffers LoopPre c a d = IsNoPairWith c d
+HeadDiffers Replaced c a d = c ≢ a
+HeadDiffers h c a d = d ≢ c
 
 -- what a name stands for, if it is bound
 abbrev pub kind_named : Name → Bindings → Option NameKind
@@ -181,9 +194,10 @@ pub data FormBreaks (p : Program) (Γ : Context) (s : Spot) : Node → Kind → 
   second_exceeds : {t : TermId} {a b c : Kind} → Takes Γ (tree p t) a b → Exceeds (pair_kind c b) → FormBreaks p Γ s (nodes.Sided Second t) (pair_kind c a) (breach_of TypeTooLarge s)
   start_refused : {h : Heading} {v : ExprId} {t : TermId} {a : Kind} {r : Breach} → Refused (expressions_of p) (names_of_values Γ) v r → FormBreaks p Γ s (nodes.Headed h v t) a r
   fed_exceeds : {v : ExprId} {t : TermId} {a c : Kind} → HasType (names_of_values Γ) (expression (expressions_of p) v) c → Exceeds (pair_kind a c) → FormBreaks p Γ s (nodes.Headed LoopPre v t) a (breach_of TypeTooLarge s)
-  loop_differs : {v : ExprId} {t : TermId} {a c d : Kind} → HasType (names_of_values Γ) (expression (expressions_of p) v) c → Takes Γ (tree p t) (pair_kind a c) d → IsNoPairWith c d → FormBreaks p Γ s (nodes.Headed LoopPre v t) a (breach_of Mismatch s)
-  initialized_differs : {v : ExprId} {t : TermId} {a c d : Kind} → HasType (names_of_values Γ) (expression (expressions_of p) v) c → Takes Γ (tree p t) a d → d ≢ c → FormBreaks p Γ s (nodes.Headed Initialized v t) a (breach_of Mismatch s)
-  replaced_differs : {v : ExprId} {t : TermId} {a c d : Kind} → HasType (names_of_values Γ) (expression (expressions_of p) v) c → Takes Γ (tree p t) a d → c ≢ a → FormBreaks p Γ s (nodes.Headed Replaced v t) a (breach_of Mismatch s)
+  head_differs : {h : Heading} {v : ExprId} {t : TermId} {a c d : Kind}
+      → HasType (names_of_values Γ) (expression (expressions_of p) v) c → Takes Γ (tree p t) (under_head h c a) d → HeadDiffers h c a d → FormBreaks p Γ s (nodes.Headed h v t) a (breach_of Mismatch s)
+  transform_refused : {f : FunctionId} {t : TermId} {a : Kind} {r : Breach} → FunctionRefused (expressions_of p) (names_of_values Γ) f a s r → FormBreaks p Γ s (nodes.Transformed f t) a r
+  transform_differs : {f : FunctionId} {t : TermId} {a c d : Kind} → FunctionTakes (names_of_values Γ) (function_at (expressions_of p) f) a c → Takes Γ (tree p t) a d → c ≢ a → FormBreaks p Γ s (nodes.Transformed f t) a (breach_of Mismatch s)
   source_differs : {w : Observation} {t u : TermId} {q : PatternId} {a d : Kind} → Takes Γ (tree p t) a d → IsNoEventBeside d → FormBreaks p Γ s (nodes.Switching (Basic w) t q u) a (breach_of Mismatch s)
   recurring_input : {w : Observation} {t u : TermId} {q : PatternId} {a : Kind} → IsNoEventBeside a → FormBreaks p Γ s (nodes.Switching (Recurring w) t q u) a (breach_of Mismatch s)
   switch_body_breaks : {w : Switching} {t u : TermId} {q : PatternId} {x a b c : Kind} {r : Breach}
@@ -208,9 +222,9 @@ pub data Reaches (p : Program) (Γ : Context) : Node → Kind → Context → Te
   fan_right : {f g : TermId} {a b : Kind} → Takes Γ (tree p f) a b → Reaches p Γ (nodes.Joined FannedOut f g) a Γ g a
   first_part : {t : TermId} {a c : Kind} → Reaches p Γ (nodes.Sided First t) (pair_kind a c) Γ t a
   second_part : {t : TermId} {a c : Kind} → Reaches p Γ (nodes.Sided Second t) (pair_kind c a) Γ t a
-  loop_part : {v : ExprId} {t : TermId} {a c : Kind} → HasType (names_of_values Γ) (expression (expressions_of p) v) c → Fits (pair_kind a c) → Reaches p Γ (nodes.Headed LoopPre v t) a Γ t (pair_kind a c)
-  initialized_part : {v : ExprId} {t : TermId} {a c : Kind} → HasType (names_of_values Γ) (expression (expressions_of p) v) c → Reaches p Γ (nodes.Headed Initialized v t) a Γ t a
-  replaced_part : {v : ExprId} {t : TermId} {a c : Kind} → HasType (names_of_values Γ) (expression (expressions_of p) v) c → Reaches p Γ (nodes.Headed Replaced v t) a Γ t a
+  head_part : {h : Heading} {v : ExprId} {t : TermId} {a c : Kind}
+      → HasType (names_of_values Γ) (expression (expressions_of p) v) c → Fits (under_head h c a) → Reaches p Γ (nodes.Headed h v t) a Γ t (under_head h c a)
+  transformed_part : {f : FunctionId} {t : TermId} {a c : Kind} → FunctionTakes (names_of_values Γ) (function_at (expressions_of p) f) a c → Reaches p Γ (nodes.Transformed f t) a Γ t a
   switch_source : {w : Observation} {t u : TermId} {q : PatternId} {a : Kind} → Reaches p Γ (nodes.Switching (Basic w) t q u) a Γ t a
   recurring_first : {w : Observation} {t u : TermId} {q : PatternId} {a c : Kind} → Reaches p Γ (nodes.Switching (Recurring w) t q u) (pair_kind a (event_kind c)) Γ t a
   switch_body : {w : Switching} {t u : TermId} {q : PatternId} {x a b c : Kind}

@@ -510,28 +510,6 @@ fn sided_output(
     }
 }
 
-/// The type of the outputs of a part whose second output is fed back, on inputs of a type.
-#[cycle(output)]
-fn looped_output(
-    alloc: Global,
-    context: &TypingContext,
-    term: TermId,
-    start: ExprId,
-    part: TermId,
-    input: &Ty,
-) -> Result<Ty, Refusal>
-    requires fits { Fits input.now }
-    requires there { term_node_at (program_in context.now) term ≡ Node.Headed Heading.LoopPre start part }
-    requires below { term_number part < term_number term }
-    ensures { AnswersTerm (program_in context.now) (context_in context.now) term input.now result }
-{
-    let spot = context.program.spot(term);
-    let fed = constant_type(alloc, context, start)?;
-    let given = pair_of(alloc, input, &fed, spot)?;
-    let output = output_of(alloc, context, part, &given)?;
-    loop_output(alloc, &output, &fed, spot)
-}
-
 /// The type of outputs, where it is the one that is wanted; another one is refused with `Mismatch` at the spot.
 fn wanted_output(output: Ty, wanted: &Ty, spot: Spot) -> Result<Ty, Refusal>
     ensures same { same_kind output wanted.now ≡ is_ok result }
@@ -579,46 +557,62 @@ fn output_within(
     output_of(alloc, &inner, body, input)
 }
 
-/// The type of the outputs of a part whose first value another takes the place of, on inputs of a type.
+/// The type of the outputs of a part with a value at its head, on inputs of a type. A value that is fed back has the type of
+/// the second outputs, one in the place of an input that of the inputs, and any other that of the outputs.
 #[cycle(output)]
-fn initialized_output(
+fn headed_output(
     alloc: Global,
     context: &TypingContext,
     term: TermId,
+    heading: Heading,
     value: ExprId,
     part: TermId,
     input: &Ty,
 ) -> Result<Ty, Refusal>
     requires fits { Fits input.now }
-    requires there { term_node_at (program_in context.now) term ≡ Node.Headed Heading.Initialized value part }
+    requires there { term_node_at (program_in context.now) term ≡ Node.Headed heading value part }
     requires below { term_number part < term_number term }
     ensures { AnswersTerm (program_in context.now) (context_in context.now) term input.now result }
 {
     let spot = context.program.spot(term);
     let given = constant_type(alloc, context, value)?;
-    let output = output_of(alloc, context, part, input)?;
-    wanted_output(output, &given, spot)
+    match heading {
+        Heading::LoopPre => {
+            let fed = pair_of(alloc, input, &given, spot)?;
+            let output = output_of(alloc, context, part, &fed)?;
+            loop_output(alloc, &output, &given, spot)
+        }
+        Heading::Replaced => {
+            let output = output_of(alloc, context, part, input)?;
+            same(&given, input, spot)?;
+            Ok(output)
+        }
+        Heading::Initialized | Heading::Followed => {
+            let output = output_of(alloc, context, part, input)?;
+            wanted_output(output, &given, spot)
+        }
+    }
 }
 
-/// The type of the outputs of a part whose first input another value takes the place of, on inputs of a type.
+/// The type of the outputs of a part whose first input is what a function makes of it, on inputs of a type.
 #[cycle(output)]
-fn replaced_output(
+fn transformed_output(
     alloc: Global,
     context: &TypingContext,
     term: TermId,
-    value: ExprId,
+    function: FunctionId,
     part: TermId,
     input: &Ty,
 ) -> Result<Ty, Refusal>
     requires fits { Fits input.now }
-    requires there { term_node_at (program_in context.now) term ≡ Node.Headed Heading.Replaced value part }
+    requires there { term_node_at (program_in context.now) term ≡ Node.Transformed function part }
     requires below { term_number part < term_number term }
     ensures { AnswersTerm (program_in context.now) (context_in context.now) term input.now result }
 {
     let spot = context.program.spot(term);
-    let given = constant_type(alloc, context, value)?;
+    let made = answer_type(alloc, context, function, input, spot)?;
     let output = output_of(alloc, context, part, input)?;
-    same(&given, input, spot)?;
+    same(&made, input, spot)?;
     Ok(output)
 }
 
@@ -888,14 +882,11 @@ fn output_of(
             joined_output(alloc, context, term, join, left, right, input)
         }
         Node::Sided(side, part) => sided_output(alloc, context, term, side, part, input),
-        Node::Headed(Heading::LoopPre, start, part) => {
-            looped_output(alloc, context, term, start, part, input)
+        Node::Headed(heading, value, part) => {
+            headed_output(alloc, context, term, heading, value, part, input)
         }
-        Node::Headed(Heading::Initialized, value, part) => {
-            initialized_output(alloc, context, term, value, part, input)
-        }
-        Node::Headed(Heading::Replaced, value, part) => {
-            replaced_output(alloc, context, term, value, part, input)
+        Node::Transformed(function, part) => {
+            transformed_output(alloc, context, term, function, part, input)
         }
         Node::Switching(form, first, pattern, body) => {
             switching_output(alloc, context, term, form, first, pattern, body, input)

@@ -1,15 +1,17 @@
 -- Processes that are alike give the same, at the same cost.
 use Rattle.std.proofs.Common.{◌≢◌, inl, inr, List, ◌∷◌, refl, sym, ap, ◌∙◌, subst, Option, Some, None}
 use Rattle.sf_value.specs.Values.{Name, Data, second_of}
-use Rattle.sf_expr.specs.Expressions.{Pattern}
+use Rattle.sf_expr.specs.Expressions.{Pattern, Expression}
+use Rattle.sf_expr.specs.Evaluation.{Evaluated, eval}
+use Rattle.sf_term.specs.declared.form.Heading.TheVariants.{Followed}
 use Rattle.sf_term.specs.declared.form.Observation.{Observation}
-use Rattle.sf_term.specs.Trees.{Term}
-use Rattle.sf_mean.specs.Lives.{Step, wait_of, input_of, Life, Process, Environment, scope_around, first_input}
+use Rattle.sf_term.specs.Trees.{Term, headed}
+use Rattle.sf_mean.specs.Lives.{Step, wait_of, input_of, Life, Process, closure, Environment, scope_around, first_input}
 use Rattle.sf_mean.specs.Formulas.{occurring}
-use Rattle.sf_mean.specs.Meaning.{Network, Outcome, as_outcome, recorded, Cost, last_event, Made, Watched, itself, observed, Takeover, Standing, waits, fired, stands_after, body_of, body_with, what_runs, Gives, gives, Outputs, not_begun, and_gave, Sample, of_constants, of_form, of_resumed, Form, of_primitive, of_reference, of_join, of_side, of_loop, of_initialized, of_replaced, of_switch, of_keeping, of_recurring, of_stages, Next, goes_on, stops, Loops, no_loop, and_looped, Sees, beside_values, by_observer, Since, at_start, watched, had_fired, SwitchTurn, while_waiting, as_body, Switched, after_fault, after_value, Fires, no_event_yet, event_now}
-use Rattle.sf_coincidence.specs.Mentions.{BindsOthers, Mentions}
+use Rattle.sf_mean.specs.Meaning.{Network, Outcome, as_outcome, answered_by, newest_or, recorded, Cost, over, last_event, Made, Watched, itself, observed, Takeover, Standing, waits, fired, stands_after, body_of, body_with, what_runs, Gives, gives, Outputs, not_begun, and_gave, Sample, of_constants, of_form, of_resumed, Form, of_primitive, of_reference, of_join, of_side, of_loop, of_initialized, of_replaced, of_followed, of_transformed, of_switch, of_keeping, of_recurring, of_stages, Next, goes_on, stops, Loops, no_loop, and_looped, Sees, beside_values, by_observer, Since, at_start, watched, had_fired, SwitchTurn, while_waiting, as_body, Switched, after_fault, after_value, Fires, no_event_yet, event_now}
+use Rattle.sf_coincidence.specs.Mentions.{BindsOthers, ExpressionMentions, Mentions}
 use Rattle.sf_coincidence.specs.Alike.{Alike, of_closures, of_frozen}
-use Rattle.sf_coincidence.proofs.Worth.{differs, same_formula}
+use Rattle.sf_coincidence.proofs.Worth.{differs, same_worth, same_formula}
 use Rattle.sf_coincidence.proofs.Same.{AlikeFor, scopes_agree, at_running, at_bound, alike_frozen}
 use Rattle.sf_coincidence.proofs.Opening.{AlikeMade, same_value, alike_made, made_alike, like_answer, like_fault}
 
@@ -54,6 +56,13 @@ module _ (n : Network) where
       → (st' : Standing) × AlikeStanding (fired P (s ∷ M)) st' × Since n W B (s ∷ L) st'
   stood_later s (alike_fired A) S = (_, alike_fired A, had_fired S)
 
+  -- `fby` has the outcome of its part, with a constant that is worth the same in the other environment
+  followed_alike : {i : Expression} {t : Term} {e d : Environment} {m : Made} {s : Step} {L : Life} {ys : List Data} {o : Outcome} {c : Cost} → AlikeFor (ExpressionMentions i) e d
+      → Outputs n (closure t d) L ys → Gives n (closure t d) (s ∷ L) o c → Form n (headed Followed i t) d m s L (answered_by (newest_or (eval i (scope_around n.functions e)) ys) o) (over c)
+  followed_alike {i = i} {t = t} {e = e} {d = d} {m = m} {s = s} {L = L} {ys = ys} {o = o} {c = c} E O G =
+      let N : Evaluated Data → Type 0 = λ w. Form n (headed Followed i t) d m s L (answered_by (newest_or w ys) o) (over c) in
+      subst N (sym (same_worth i (scope_around n.functions e) (scope_around n.functions d) (scopes_agree n.functions E))) (of_followed O G)
+
   mutual
     pub same : {P Q : Process} {L : Life} {o : Outcome} {c : Cost} → Alike P Q → Gives n P L o c → Gives n Q L o c
     same A (gives O S) = gives (same_outputs A O) (same_sample A S)
@@ -76,6 +85,8 @@ module _ (n : Network) where
     same_form E same_value (of_loop R G) = of_loop (same_loops (of_closures (λ x h. E x (inr h))) R) (same (of_closures (λ x h. E x (inr h))) G)
     same_form E same_value (of_initialized G) = of_initialized (same (of_closures (λ x h. E x (inr h))) G)
     same_form E same_value (of_replaced G) = of_replaced (same (of_closures (λ x h. E x (inr h))) G)
+    same_form E M (of_followed O G) = followed_alike (λ x h. E x (inl h)) (same_outputs (of_closures (λ x h. E x (inr h))) O) (same (of_closures (λ x h. E x (inr h))) G)
+    same_form E same_value (of_transformed G) = of_transformed (same (of_closures (λ x h. E x (inr h))) G)
     same_form E M (of_switch {u = u} {p = p} S T) =
         let W = alike_itself (of_closures (λ x h. E x (inl h))) in
         let B = λ (s : Step) (L : Life). alike_bodies p u (λ x h. E x (inr h)) in

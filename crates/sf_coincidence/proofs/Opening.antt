@@ -6,13 +6,13 @@ use Rattle.sf_func.specs.Registries.{AnswersByName}
 use Rattle.sf_expr.specs.Expressions.{Expression}
 use Rattle.sf_expr.specs.Evaluation.{Evaluated, answer, failed, ◌>>=◌, eval}
 use Rattle.sf_term.specs.Parameters.{Bindings}
-use Rattle.sf_term.specs.Trees.{Term, primitive, Reference, reference, started, call, Arguments, no_arguments, value_argument, process_argument, closed_argument, template_named, joined, sided, headed, switching, keeping, staged, Template}
+use Rattle.sf_term.specs.Trees.{Term, primitive, Reference, reference, started, call, Arguments, no_arguments, value_argument, process_argument, closed_argument, template_named, joined, sided, headed, transformed, switching, keeping, staged, Template}
 use Rattle.sf_mean.specs.Lives.{Process, closure, Environment, empty, known, running, scope_around}
-use Rattle.sf_mean.specs.Meaning.{Network, Made, nothing_made, value_made, process_made, process_referred, argument_process, argued, process_called, referred, make}
+use Rattle.sf_mean.specs.Meaning.{Network, Made, nothing_made, value_made, process_made, process_referred, argument_process, argued, process_called, referred, head_made, make}
 use Rattle.sf_coincidence.specs.Mentions.{ExpressionMentions, Mentions, ReferenceMentions, ArgumentsMention}
 use Rattle.sf_coincidence.specs.Alike.{Alike, of_closures, AlikeAt}
-use Rattle.sf_coincidence.proofs.Worth.{same_worth}
-use Rattle.sf_coincidence.proofs.Same.{AlikeFor, scopes_agree, alike_passing, at_empty, at_known, at_running, alike_started}
+use Rattle.sf_coincidence.proofs.Worth.{same_worth, same_answer}
+use Rattle.sf_coincidence.proofs.Same.{AlikeFor, scopes_agree, alike_itself, alike_passing, at_empty, at_known, at_running, alike_started}
 
 -- two answers that are related, or one fault
 pub data Likewise {A : Type 0} (R : A → A → Type 0) : Evaluated A → Evaluated A → Type 0 where
@@ -47,6 +47,7 @@ alike_argument (reference r) E = alike_referred r E
 alike_argument (joined j f g) E = of_closures E
 alike_argument (sided a t) E = of_closures E
 alike_argument (headed h i t) E = of_closures E
+alike_argument (transformed f t) E = of_closures E
 alike_argument (switching w t p u) E = of_closures E
 alike_argument (keeping w t q k p u) E = of_closures E
 alike_argument (staged x f g) E = of_closures E
@@ -82,6 +83,19 @@ pub data AlikeMade : Made → Made → Type 0 where
   same_value : {v : Data} → AlikeMade (value_made v) (value_made v)
   alike_made : {P Q : Process} → Alike P Q → AlikeMade (process_made P) (process_made Q)
 
+made_itself : (m : Made) → AlikeMade m m
+made_itself nothing_made = same_nothing
+made_itself (value_made v) = same_value
+made_itself (process_made P) = alike_made (alike_itself P)
+
+-- what is made the same
+same_made : {p q : Evaluated Made} → p ≡ q → Likewise AlikeMade p q
+same_made {p = p} h = subst (λ q. Likewise AlikeMade p q) h (itself p)
+  where
+    itself : (p : Evaluated Made) → Likewise AlikeMade p p
+    itself (answer m) = both_answer (made_itself m)
+    itself (failed x) = both_fail
+
 module _ (n : Network) {e d : Environment} where
   referred_alike : (r : Reference) → AlikeFor (ReferenceMentions r) e d → Likewise Alike (referred n r e) (referred n r d)
   referred_alike (started w k) E = both_answer (alike_started w (E k refl))
@@ -92,8 +106,9 @@ module _ (n : Network) {e d : Environment} where
   made_alike (reference r) v E = then_likewise (λ P. answer (process_made P)) (λ P. answer (process_made P)) (λ P Q A. both_answer (alike_made A)) (referred_alike r E)
   made_alike (joined j f g) v E = both_answer same_nothing
   made_alike (sided a t) v E = both_answer same_nothing
-  made_alike (headed h i t) v E =
-      after_worth n.functions i (λ x h. E x (inl h)) (λ w. answer (value_made w)) (λ w. answer (value_made w)) (λ w. both_answer same_value)
+  made_alike (headed h i t) v E = same_made (ap (head_made h) (same_worth i (scope_around n.functions e) (scope_around n.functions d) (scopes_agree n.functions (λ x h. E x (inl h)))))
+  made_alike (transformed f t) v E =
+      same_made (ap (λ (w : Evaluated Data). w >>= λ u. answer (value_made u)) (same_answer f v (scope_around n.functions e) (scope_around n.functions d) (scopes_agree n.functions (λ x h. E x (inl h)))))
   made_alike (switching w t p u) v E = both_answer same_nothing
   made_alike (keeping w t q k p u) v E = both_answer same_nothing
   made_alike (staged x f g) v E = both_answer same_nothing

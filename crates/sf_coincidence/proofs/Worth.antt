@@ -75,7 +75,7 @@ same_worth (folded i o j p k) s t A =
     (fun_ext (λ d. same_worth k (bound_in p d s) (bound_in p d t) (agrees_inside p d (fewer (λ x h. inr (inr h)) A))))
 same_worth (called g i) s t A = ap₂ (λ (a : Evaluated Data) (φ : AnswersByName). a >>= λ x. granted (φ g x)) (same_worth i s t A) A.functions
 
-same_answer : (f : Function) (d : Data) (s t : Scope) → Agrees (FunctionMentions f) s t → apply f d s ≡ apply f d t
+pub same_answer : (f : Function) (d : Data) (s t : Scope) → Agrees (FunctionMentions f) s t → apply f d s ≡ apply f d t
 same_answer (function p i) d s t A = same_worth i (bound_in p d s) (bound_in p d t) (agrees_inside p d A)
 
 -- ## Primitives

@@ -11,7 +11,7 @@ use Rattle.sf_mean.specs.Meaning.{Network, gave, faulted, Gives}
 use Rattle.sf_state.specs.declared.state.State.{State}
 use Rattle.sf_state.specs.Standing.{Stands}
 use Rattle.sf_parts.specs.declared.meter.Meter.{Meter}
-use Rattle.sf_parts.specs.Meters.{readings}
+use Rattle.sf_probe.specs.declared.reading.Readings.{Readings}
 use Rattle.sf_probe.specs.Readings.{readings_of}
 use Rattle.sf_step.specs.Stepping.{Steps, stepped, faulted_so, too_large, no_memory}
 use Rattle.sf_engine.specs.declared.engine.Engine.{Engine}
@@ -60,15 +60,15 @@ goes_to {h = h} {o = o} {m = m} {L = L} {S = S} {d = d} {x = x} R H plan functio
     (subst (λ s. AreSavesOf (h.answers o.functions) o.plan m s.entries S) (sym saves) R.saves)
 
 -- a value and readings are the sample's
-pub sampled_value : {F : Type 0} {h : _} {φ : AnswersByName} {p : Plan} {n : Network} {m : Template} {L : Life} {S : Saves} {y : Data} {s : State} {t : Meter} {e : Engine F h} {z : Sample}
-    → IsRunFor φ p n m → Steps φ p (main_of_plan p) L (Ok y) s t
+pub sampled_value : {F : Type 0} {h : _} {φ : AnswersByName} {p : Plan} {n : Network} {m : Template} {L : Life} {S : Saves} {y : Data} {r : Readings} {s : State} {t : Meter} {e : Engine F h} {z : Sample}
+    → IsRunFor φ p n m → Steps φ p (main_of_plan p) L (Ok (y, r)) s t
     → (Stands φ p s (main_of_plan p) L → Runs e n m L S)
-    → z.time ≡ e.time → z.value ≡ y → readings_of z.readings ≡ readings t → Sampled n m L S (Ok z) e
-sampled_value {n = n} {m = m} {L = L} {y = y} {t = t} {z = z} q (stepped {k = k} G entered high stands) f at value read =
-    let c = q.no_more L (gave y (readings t)) k G in
+    → z.time ≡ e.time → z.value ≡ y → z.readings ≡ r → Sampled n m L S (Ok z) e
+sampled_value {n = n} {m = m} {L = L} {y = y} {r = r} {z = z} q (stepped {k = k} G entered high stands) f at value read =
+    let c = q.no_more L (gave y (readings_of r)) k G in
     gave_value
-    (subst (λ r. Gives n (closure m.body empty) L (gave z.value r) c.0) (sym read)
-    (subst (λ v. Gives n (closure m.body empty) L (gave v (readings t)) c.0) (sym value) c.1))
+    (subst (λ (r : Readings). Gives n (closure m.body empty) L (gave z.value (readings_of r)) c.0) (sym read)
+    (subst (λ v. Gives n (closure m.body empty) L (gave v (readings_of r)) c.0) (sym value) c.1))
     (at ∙ (f stands).time)
     (f stands)
 

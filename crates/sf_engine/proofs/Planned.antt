@@ -17,6 +17,7 @@ use Rattle.sf_rewrite.specs.Plans.{of_closure, of_nothing}
 use Rattle.sf_rewrite.proofs.Theorem.{plan_gives, plan_no_more}
 use Rattle.sf_optimise.specs.Optimised.{IsOptimisedPlan}
 use Rattle.sf_state.specs.declared.state.State.{State}
+use Rattle.sf_probe.specs.declared.reading.Readings.{Readings}
 use Rattle.sf_parts.specs.declared.meter.Meter.{Meter}
 use Rattle.sf_parts.specs.Meters.{entered_of, height_of}
 use Rattle.sf_step.specs.Stepping.{Steps, stepped, faulted_so, too_large, no_memory}
@@ -43,14 +44,14 @@ optimised_runs c p P φ = record {
 }
 
 -- what a sample of a plan took, by the cost of its outcome in the plan
-step_takes : (φ : AnswersByName) (p : Plan) (P : Process) (L : Life) (r : Result Data Fault) (s : State) (m : Meter) → Steps φ p P L r s m → (o : Outcome) (d : Cost) → Gives (network_of_plan φ p) P L o d → (entered_of m ≤ count d) × (height_of m ≤ height d)
+step_takes : (φ : AnswersByName) (p : Plan) (P : Process) (L : Life) (r : Result (Data × Readings) Fault) (s : State) (m : Meter) → Steps φ p P L r s m → (o : Outcome) (d : Cost) → Gives (network_of_plan φ p) P L o d → (entered_of m ≤ count d) × (height_of m ≤ height d)
 step_takes φ p P L r s m (stepped G entered high S) o d given = let same = (once (network_of_plan φ p) G given).1 in (omega (arith, entered, ap count same), omega (arith, high, ap height same))
 step_takes φ p P L r s m (faulted_so G entered high) o d given = let same = (once (network_of_plan φ p) G given).1 in (omega (arith, entered, ap count same), omega (arith, high, ap height same))
 step_takes φ p P L r s m (too_large none costs) o d given = (costs.few o d given, costs.low o d given)
 step_takes φ p P L r s m (no_memory costs) o d given = (costs.few o d given, costs.low o d given)
 
 -- a plan that is run for a network takes no more than that
-pub run_takes : (φ : AnswersByName) (c : Checked) (p : Plan) → IsRunFor φ p (network_of φ (program_of c)) (checked_main c) → (L : Life) (r : Result Data Fault) (s : State) (m : Meter) → Steps φ p (main_of_plan p) L r s m → TakesNoMore φ c L m
+pub run_takes : (φ : AnswersByName) (c : Checked) (p : Plan) → IsRunFor φ p (network_of φ (program_of c)) (checked_main c) → (L : Life) (r : Result (Data × Readings) Fault) (s : State) (m : Meter) → Steps φ p (main_of_plan p) L r s m → TakesNoMore φ c L m
 run_takes φ c p runs L r s m steps = record {
   few = λ o k G.
       let there = runs.gives L o k G in

@@ -307,13 +307,13 @@ impl<F: Holds> Engine<F> {
             input,
             &mut meter,
         ) {
-            Ok(value) => {
+            Ok((value, readings)) => {
                 self.time += dt;
                 self.last = Some(kept);
                 Ok(Sample {
                     time: self.time,
                     value,
-                    readings: meter.take_readings(self.alloc),
+                    readings,
                 })
             }
             Err(fault) => Err(stop(&mut self.stopped, fault)),

@@ -17,7 +17,7 @@ use Rattle.sf_term.specs.declared.form.Heading.TheVariants as headings
 use Rattle.sf_term.specs.declared.form.Naming.{Naming}
 use Rattle.sf_term.specs.declared.form.Naming.TheVariants as namings
 use Rattle.sf_term.specs.Parameters.{NameKind, value as value_kind, process as process_kind, Bindings}
-use Rattle.sf_term.specs.Trees.{terms_with_value, bare, probe, never, with_value, timed, selected, arrow, accumulated, fused, Term, primitive, reference, joined, sided, headed, switching, keeping, staged, started, call, named_term, Arguments, no_arguments, value_argument, process_argument, closed_argument, Template, term_depth, arguments_depth, terms_in, terms_in_arguments, expressions_in, expressions_in_arguments}
+use Rattle.sf_term.specs.Trees.{terms_with_value, bare, probe, never, with_value, timed, selected, arrow, accumulated, fused, Term, primitive, reference, joined, sided, headed, transformed, switching, keeping, staged, started, call, named_term, Arguments, no_arguments, value_argument, process_argument, closed_argument, Template, term_depth, arguments_depth, terms_in, terms_in_arguments, expressions_in, expressions_in_arguments}
 use Rattle.sf_lex.specs.declared.word.Keyword.TheVariants as words
 use Rattle.sf_lex.specs.declared.symbol.Symbol.TheVariants as symbols
 use Rattle.sf_lex.specs.Tokens.{Tok, keyword, name, number, text, symbol}
@@ -27,7 +27,7 @@ use Rattle.sf_grammar.specs.declared.head.ExpressionHead.TheVariants as expressi
 use Rattle.sf_grammar.specs.declared.head.Link.{Link}
 use Rattle.sf_grammar.specs.declared.head.Link.TheVariants as links
 use Rattle.sf_grammar.specs.Spelling.{stands_initially, head_makes, unary_word, takes_brackets, operator_token, stands_between, mapping_word, maps_in_brackets, folding_word, spell_operand, spell_operands, spell_choice, spell_mapped, spell_folded, spell_called, spell_mapping, spell_keys, spell_type, spell_pattern, spell_literal, spell_expression, spell_function, spell_further, spell_listed, spell_term, spell_arguments, spell_parameter, spell_heading, spell_signature, spell_template, bare_word, value_word, side_word, heading_token, timing_word, selection_word, accumulation_word, switching_word, keeping_word, naming_token, join_symbol, in_brackets, type_depth, WritesType, WritesExpression, WritesFunction, WritesTerm, WritesArguments, WritesNameKind, HasWrittenTypes}
-use Rattle.sf_grammar.specs.Reading.{parse_never, parse_timed, parse_selected, Read, got, ◌and_then◌, Counts, counts_with, counts_with_expression, parse_symbol, parse_keys, parse_outer_type, parse_inner_type, parse_pair_type, parse_pattern, parse_pattern_pair, parse_link, linked, parse_linked, bracketed_from, parse_none, parse_prefixed, parse_one_in_brackets, parse_two_in_brackets, parse_conditional, parse_mapping, parse_let, parse_one_and_function, parse_two_and_function, parse_called, expression_head, parse_expression, expression_read, parse_function, parse_join, parse_term, term_read, parse_joined, parse_value, parse_arrow, parse_accumulated, parse_sided, parse_headed, parse_body, parse_switching, head_at, parse_named, parse_keeping, Actual, actual_value, actual_process, with_actual, counts_with_actual, parse_argument, parse_arguments, parse_call, behind_leads, parse_further, parse_listed, parse_name_kind, parse_parameter, parse_parameters, parse_heading, parse_signature, parse_template}
+use Rattle.sf_grammar.specs.Reading.{parse_never, parse_timed, parse_selected, Read, got, ◌and_then◌, Counts, counts_with, counts_with_expression, counts_with_function, parse_symbol, parse_keys, parse_outer_type, parse_inner_type, parse_pair_type, parse_pattern, parse_pattern_pair, parse_link, linked, parse_linked, bracketed_from, parse_none, parse_prefixed, parse_one_in_brackets, parse_two_in_brackets, parse_conditional, parse_mapping, parse_let, parse_one_and_function, parse_two_and_function, parse_called, expression_head, parse_expression, expression_read, parse_function, parse_join, parse_term, term_read, parse_joined, parse_value, parse_arrow, parse_accumulated, parse_sided, parse_headed, parse_transformed, parse_body, parse_switching, head_at, parse_named, parse_keeping, Actual, actual_value, actual_process, with_actual, counts_with_actual, parse_argument, parse_arguments, parse_call, behind_leads, parse_further, parse_listed, parse_name_kind, parse_parameter, parse_parameters, parse_heading, parse_signature, parse_template}
 use Rattle.sf_grammar.proofs.Words.{head_again, heading_begins, start_again, join_again, link_again, link_token, LinksBetween, unary_again, IsInFront, operator_again, folding_again, keys_again, no_close, no_sf}
 use Rattle.sf_grammar.proofs.Parts.{spell_actual, within, type_within, brackets_behind, three_behind, parts_again, no_leads, further_long}
 
@@ -345,7 +345,7 @@ long_enough : (front : List Tok) (xs : List (List Tok)) (rest : List Tok) → le
 long_enough front xs rest = omega (arith, further_long xs, length-append (front ++ spell_further xs) rest, length-append front (spell_further xs))
 
 mutual
-  unfolding parse_term parse_joined parse_never parse_value parse_timed parse_selected parse_arrow parse_accumulated parse_sided parse_headed parse_switching parse_keeping parse_call
+  unfolding parse_term parse_joined parse_never parse_value parse_timed parse_selected parse_arrow parse_accumulated parse_sided parse_headed parse_transformed parse_switching parse_keeping parse_call
 
   pub term_again : (v : Version) (t : Term) (d : ℕ) (c : Counts) (rest : List Tok) → d ≤ 64 → term_depth t ≤ d → c.terms + terms_in t ≤ 100000 → c.expressions + expressions_in t ≤ 100000 → WritesTerm v d t
       → parse_term d v c (spell_term v t ++ rest) ≡ got t rest
@@ -362,6 +362,7 @@ mutual
   term_again v (joined j f g) zero c rest small deep few_terms few_expressions known = absurd (omega arith)
   term_again v (sided s f) zero c rest small deep few_terms few_expressions known = absurd (omega arith)
   term_again v (headed h e f) zero c rest small deep few_terms few_expressions known = absurd (omega arith)
+  term_again v (transformed h f) zero c rest small deep few_terms few_expressions known = absurd (omega arith)
   term_again v (reference r) zero c rest small deep few_terms few_expressions known = absurd (omega arith)
   term_again v (switching w f p g) zero c rest small deep few_terms few_expressions known = absurd (omega arith)
   term_again v (keeping w f g k p u) zero c rest small deep few_terms few_expressions known = absurd (omega arith)
@@ -428,6 +429,15 @@ mutual
       (term_again v f d (counts_with_expression c e) (symbol symbols.Close ∷ rest) (omega arith) (omega arith) (omega arith) (omega arith) known.2))
       ∙ ap (λ (t : Term). term_read c t start rest) known.0
       ∙ within (c.terms + terms_in (headed h e f)) (headed h e f) start rest few_terms
+  term_again v (transformed h f) (suc d) c rest small deep few_terms few_expressions known =
+      let behind : List Tok = spell_term v f ++ (symbol symbols.Close ∷ rest) in
+      let start : List Tok = symbol symbols.MapsFirstInput ∷ symbol symbols.Open ∷ (spell_function v h ++ (symbol symbols.Comma ∷ behind)) in
+      ap (λ (r : List Tok). parse_term (suc d) v c (symbol symbols.MapsFirstInput ∷ symbol symbols.Open ∷ r)) (brackets_behind (spell_function v h) (spell_term v f) rest (symbol symbols.Comma))
+      ∙ parts_again (parse_function d v c) (parse_symbol symbols.Comma) (λ h. parse_term d v (counts_with_function c h)) (λ h _ f rest. term_read c (transformed h f) start rest) h tt f
+      (spell_function v h ++ (symbol symbols.Comma ∷ behind)) (symbol symbols.Comma ∷ behind) behind rest
+      (function_again v h d c (symbol symbols.Comma ∷ behind) (omega arith) (omega arith) known.0) refl
+      (term_again v f d (counts_with_function c h) (symbol symbols.Close ∷ rest) (omega arith) (omega arith) (omega arith) (omega arith) known.1)
+      ∙ within (c.terms + terms_in (transformed h f)) (transformed h f) start rest few_terms
   term_again v (switching w f p g) (suc d) c rest small deep few_terms few_expressions known =
       let body : List Tok = spell_mapping (spell_pattern p) (spell_term v g) in
       let behind : List Tok = body ++ (symbol symbols.Close ∷ rest) in

@@ -30,7 +30,7 @@ use Rattle.sf_refusal.specs.declared.spot.Spot.{Spot}
 use Rattle.sf_lex.specs.Tokens.{Tok, keyword, name, symbol}
 use Rattle.sf_grammar.specs.declared.ty.Version.{Version}
 use Rattle.sf_grammar.specs.Spelling.{value_word, in_brackets, operator_token, join_symbol, spell_mapping, spell_pattern, spell_expression, spell_function, spell_further, spell_listed, spell_term, spell_arguments, spell_parameter, spell_signature, spell_template}
-use Rattle.sf_grammar.specs.Placing.{around, PatternPlaced, unnamed_placed, name_placed, both_placed, ExpressionPlaced, unit_placed, truth_placed, number_placed, constant_placed, variable_placed, pair_placed, prefixed_placed, one_in_brackets_placed, operation_placed, two_in_brackets_placed, conditional_placed, let_placed, one_and_function_placed, two_and_function_placed, called_placed, FunctionPlaced, function_placed, TermPlaced, bare_placed, never_placed, with_value_placed, initialized_placed, timed_placed, selected_placed, arrow_placed, accumulated_placed, joined_placed, sided_placed, headed_placed, switching_placed, named_placed, keeping_placed, call_placed, ArgumentsPlaced, no_arguments_placed, some_arguments_placed, EachArgumentPlaced, no_argument_placed, argument_placed, ArgumentPlaced, value_argument_placed, process_argument_placed, EachParameterPlaced, no_parameter_placed, parameter_placed, ParametersPlaced, no_parameters_placed, some_parameters_placed, TemplatePlaced}
+use Rattle.sf_grammar.specs.Placing.{around, PatternPlaced, unnamed_placed, name_placed, both_placed, ExpressionPlaced, unit_placed, truth_placed, number_placed, constant_placed, variable_placed, pair_placed, prefixed_placed, one_in_brackets_placed, operation_placed, two_in_brackets_placed, conditional_placed, let_placed, one_and_function_placed, two_and_function_placed, called_placed, FunctionPlaced, function_placed, TermPlaced, bare_placed, never_placed, with_value_placed, initialized_placed, timed_placed, selected_placed, arrow_placed, accumulated_placed, joined_placed, sided_placed, headed_placed, transformed_placed, switching_placed, named_placed, keeping_placed, call_placed, ArgumentsPlaced, no_arguments_placed, some_arguments_placed, EachArgumentPlaced, no_argument_placed, argument_placed, ArgumentPlaced, value_argument_placed, process_argument_placed, EachParameterPlaced, no_parameter_placed, parameter_placed, ParametersPlaced, no_parameters_placed, some_parameters_placed, TemplatePlaced}
 use Rattle.sf_grammar.proofs.Words.{named_alone}
 
 around_counted : (xs ys : List Spot) (us vs : List Tok) (opening between closing : Spot) (t : Tok) → length xs ≡ length us → length ys ≡ length vs → length (around opening xs between ys closing) ≡ length (in_brackets us t vs)
@@ -183,6 +183,9 @@ mutual
   term_counted v p t xs (headed_placed {a = a} {e = e} {xs = us} {ys = vs} opening comma closing s value part) =
       rw (node_builds p t _ s.node)
       (ap suc (around_counted us vs (spell_expression v (expression_under p e)) (spell_term v (tree p a)) opening comma closing (symbol symbols.Comma) (expression_counted v p e us value) (term_counted v p a vs part)))
+  term_counted v p t xs (transformed_placed {a = a} {f = f} {xs = us} {ys = vs} opening comma closing s function part) =
+      rw (node_builds p t _ s.node)
+      (ap suc (around_counted us vs (spell_function v (function_in p f)) (spell_term v (tree p a)) opening comma closing (symbol symbols.Comma) (function_counted v p f us function) (term_counted v p a vs part)))
   term_counted v p t xs (switching_placed {a = a} {b = b} {q = q} {xs = us} {ps = ps} {ys = vs} opening comma leads closing s one pattern two) =
       let names : List Tok = spell_pattern (pattern_of (pattern_under p q)) in
       let body : List Tok = spell_term v (tree p b) in

@@ -25,7 +25,7 @@ use Rattle.sf_term.specs.declared.form.Start.TheVariants as starts
 use Rattle.sf_term.specs.declared.form.Naming.{Naming}
 use Rattle.sf_term.specs.declared.form.Naming.TheVariants as namings
 use Rattle.sf_term.specs.Parameters.{NameKind, value as value_kind, process as process_kind, Bindings}
-use Rattle.sf_term.specs.Trees.{Primitive, terms_with_value, bare, never, with_value, timed, selected, arrow, accumulated, Term, primitive, reference, joined, sided, headed, switching, keeping, call, named_term, Arguments, no_arguments, Template, term_depth, arguments_depth, terms_in, expressions_in, expressions_in_arguments}
+use Rattle.sf_term.specs.Trees.{Primitive, terms_with_value, bare, never, with_value, timed, selected, arrow, accumulated, Term, primitive, reference, joined, sided, headed, transformed, switching, keeping, call, named_term, Arguments, no_arguments, Template, term_depth, arguments_depth, terms_in, expressions_in, expressions_in_arguments}
 use Rattle.sf_lex.specs.declared.word.Keyword.{Keyword}
 use Rattle.sf_lex.specs.declared.word.Keyword.TheVariants as words
 use Rattle.sf_lex.specs.declared.symbol.Symbol.{Symbol}
@@ -41,7 +41,7 @@ use Rattle.sf_grammar.specs.declared.head.ExpressionHead.TheVariants as expressi
 use Rattle.sf_grammar.specs.declared.head.Link.{Link}
 use Rattle.sf_grammar.specs.declared.head.Link.TheVariants as links
 use Rattle.sf_grammar.specs.Spelling.{stands_initially, spell_value, head_makes, in_brackets, version_number, mapping_word, folding_word, spell_keys, spell_type, spell_mapping, spell_pattern, spell_expression, spell_function, spell_further, spell_listed, spell_term, spell_arguments, spell_name_kind, spell_parameter, spell_heading, spell_signature, spell_template, value_word, side_word, heading_token, timing_word, selection_word, accumulation_word, switching_word, keeping_word, naming_token, join_symbol, type_depth, WritesType, IsWrittenType, WritesExpression, WritesFunction, WritesTerm, WritesArguments, WritesNameKind, HasWrittenTypes}
-use Rattle.sf_grammar.specs.Reading.{parse_number, parse_never, parse_timed, parse_selected, Read, got, ◌and_then◌, Counts, counts_with, counts_with_expression, begins_type, begins_pattern, begins_expression, begins_term, type_head, word_kind, parse_keys, parse_outer_type, parse_headed_type, type_from, parse_inner_type, parse_pair_type, parse_pattern, parse_pattern_pair, link_of, link_from, parse_link, linked, parse_linked, behind_close, bracketed_from, parse_none, expression_head, parse_prefixed, parse_one_in_brackets, parse_two_in_brackets, parse_conditional, parse_mapping, parse_let, mapped_by, folded_by, parse_one_and_function, parse_two_and_function, parse_called, parse_worded_expression, parse_expression, expression_read, parse_function, parse_term, parse_joined, parse_value, parse_arrow, parse_accumulated, parse_sided, parse_headed, parse_body, parse_switching, parse_named, parse_keeping, Actual, actual_value, actual_process, with_actual, counts_with_actual, behind_sf, argument_from, parse_argument, parse_arguments, parse_call, behind_leads, further_from, parse_further, listed_from, parse_listed, parameter_kind_from, parse_name_kind, parse_parameter, parse_parameters, parse_separator, parse_behind_head, begins_fresh, head_of, join_of, parse_join, join_from, term_read, parse_parts, parse_opening, parse_heading, parse_signature, parse_template, template_of, parse_symbol, parse_name, parse_type, parse_keyword, parse_version}
+use Rattle.sf_grammar.specs.Reading.{parse_number, parse_never, parse_timed, parse_selected, Read, got, ◌and_then◌, Counts, counts_with, counts_with_expression, counts_with_function, begins_type, begins_pattern, begins_expression, begins_term, type_head, word_kind, parse_keys, parse_outer_type, parse_headed_type, type_from, parse_inner_type, parse_pair_type, parse_pattern, parse_pattern_pair, link_of, link_from, parse_link, linked, parse_linked, behind_close, bracketed_from, parse_none, expression_head, parse_prefixed, parse_one_in_brackets, parse_two_in_brackets, parse_conditional, parse_mapping, parse_let, mapped_by, folded_by, parse_one_and_function, parse_two_and_function, parse_called, parse_worded_expression, parse_expression, expression_read, parse_function, parse_term, parse_joined, parse_value, parse_arrow, parse_accumulated, parse_sided, parse_headed, parse_transformed, parse_body, parse_switching, parse_named, parse_keeping, Actual, actual_value, actual_process, with_actual, counts_with_actual, behind_sf, argument_from, parse_argument, parse_arguments, parse_call, behind_leads, further_from, parse_further, listed_from, parse_listed, parameter_kind_from, parse_name_kind, parse_parameter, parse_parameters, parse_separator, parse_behind_head, begins_fresh, head_of, join_of, parse_join, join_from, term_read, parse_parts, parse_opening, parse_heading, parse_signature, parse_template, template_of, parse_symbol, parse_name, parse_type, parse_keyword, parse_version}
 use Rattle.sf_grammar.proofs.Words.{IsHeadToken, head_takes, IsFresh, fresh_takes, IsLone, named_alone, keyword_written, join_takes, link_token, LinksBetween, IsLinkToken, link_takes, BeginsWith, expression_head_takes, type_word, type_token, type_head_takes, IsWordKind, word_kind_is, close_takes, leads_takes, sf_takes}
 use Rattle.sf_grammar.proofs.Parts.{spell_actual, separator_token, separator_takes, Same, bind_got, got_same, within_takes, deep_takes, met_takes, parts_takes, brackets_took, three_behind, symbol_takes, keyword_takes, name_takes, version_takes, TookKeys, keys_takes}
 
@@ -651,6 +651,27 @@ headed_takes v d c h tokens t rest part is =
     (headed_took v d c (head_view h e f) (ap (λ r. heading_token h ∷ r) (symbol_takes symbols.Open tokens u r0 opened
     ∙ brackets_took (spell_expression v e) (spell_term v f) r0 r1 r2 r3 r4 (symbol symbols.Comma) one.spelled (symbol_takes symbols.Comma r1 m r2 at_m) two.spelled closed)) one two few_terms))))
 
+transformed_takes : (v : Version) (d : ℕ) (c : Counts) (tokens : List Tok) (t : Term) (rest : List Tok) → Takes v d
+    → parse_transformed d v (parse_term d v) c (symbol symbols.MapsFirstInput ∷ tokens) tokens ≡ got t rest → Took v (suc d) c (symbol symbols.MapsFirstInput ∷ tokens) t rest
+unfolding parse_transformed
+transformed_takes v d c tokens t rest part is =
+    let start : List Tok = symbol symbols.MapsFirstInput ∷ tokens in
+    bind_got (λ _ r. parse_parts (parse_function d v c) (parse_symbol symbols.Comma) (λ h. parse_term d v (counts_with_function c h)) (λ h _ f rest. term_read c (transformed h f) start rest) r)
+    (parse_symbol symbols.Open tokens) t rest is (λ u r0 opened is_u.
+    parts_takes (parse_function d v c) (parse_symbol symbols.Comma) (λ h. parse_term d v (counts_with_function c h)) (λ h _ f rest. term_read c (transformed h f) start rest) r0 t rest is_u
+    (λ h m f r1 r2 r3 r4 at_h at_m at_f closed is_t.
+    within_takes (c.terms + terms_in (transformed h f)) (transformed h f) t start r4 rest is_t (λ few_terms same.
+    let one : TookFunction v d c r0 h r1 = function_takes v d c r0 h r1 at_h in
+    let two : Took v d (counts_with_function c h) r2 f r3 = part (counts_with_function c h) r2 f r3 one.few at_f in
+    took_as v (suc d) c start (transformed h f) t r4 rest same (record {
+      spelled = ap (λ r. symbol symbols.MapsFirstInput ∷ r) (symbol_takes symbols.Open tokens u r0 opened
+          ∙ brackets_took (spell_function v h) (spell_term v f) r0 r1 r2 r3 r4 (symbol symbols.Comma) one.spelled (symbol_takes symbols.Comma r1 m r2 at_m) two.spelled closed);
+      shallow = omega (arith, one.shallow, two.shallow);
+      few_terms = few_terms;
+      few_expressions = omega (arith, two.few_expressions);
+      known = (one.known, two.known);
+    }))))
+
 -- what was taken of the body of a switch
 pub record TookBody (v : Version) (d : ℕ) (c : Counts) (tokens : List Tok) (b : Pattern × Term) (rest : List Tok) : Type 0 where
   pub spelled : tokens ≡ spell_mapping (spell_pattern b.0) (spell_term v b.1) ++ rest
@@ -964,6 +985,8 @@ behind_head_takes v d c (Some (heads.Sided s)) k tokens t rest part found few is
     by_token v d c k (keyword (side_word s)) tokens t rest (λ start. parse_sided (parse_term d v) c s start tokens) (head_takes k (heads.Sided s) tt found).token is (sided_takes v d c s tokens t rest part few)
 behind_head_takes v d c (Some (heads.Headed h)) k tokens t rest part found few is =
     by_token v d c k (heading_token h) tokens t rest (λ start. parse_headed d v (parse_term d v) c h start tokens) (head_takes k (heads.Headed h) tt found).token is (headed_takes v d c h tokens t rest part)
+behind_head_takes v d c (Some heads.Transformed) k tokens t rest part found few is =
+    by_token v d c k (symbol symbols.MapsFirstInput) tokens t rest (λ start. parse_transformed d v (parse_term d v) c start tokens) (head_takes k heads.Transformed tt found).token is (transformed_takes v d c tokens t rest part)
 behind_head_takes v d c (Some (heads.Switching w)) k tokens t rest part found few is =
     by_token v d c k (keyword (switching_word w)) tokens t rest (λ start. parse_switching d (parse_term d v) c w start tokens) (head_takes k (heads.Switching w) tt found).token is (switching_takes v d c w tokens t rest part few)
 behind_head_takes v d c (Some (heads.Named w)) k tokens t rest part found few is =

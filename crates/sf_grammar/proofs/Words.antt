@@ -66,6 +66,7 @@ head_token (heads.Accumulated k) = keyword (accumulation_word k)
 head_token heads.Joined = symbol symbols.Open
 head_token (heads.Sided s) = keyword (side_word s)
 head_token (heads.Headed h) = heading_token h
+head_token heads.Transformed = symbol symbols.MapsFirstInput
 head_token (heads.Switching w) = keyword (switching_word w)
 head_token (heads.Named w) = naming_token w
 head_token (heads.Keeping w) = keyword (keeping_word w)
@@ -117,6 +118,8 @@ head_again (heads.Sided sides.Second) begins = refl
 head_again (heads.Headed headings.LoopPre) begins = refl
 head_again (heads.Headed headings.Initialized) begins = refl
 head_again (heads.Headed headings.Replaced) begins = refl
+head_again (heads.Headed headings.Followed) begins = refl
+head_again heads.Transformed begins = refl
 head_again (heads.Switching (switches.Basic observations.Immediate)) begins = refl
 head_again (heads.Switching (switches.Basic observations.Delayed)) begins = refl
 head_again (heads.Switching (switches.Recurring observations.Immediate)) begins = refl
@@ -175,6 +178,8 @@ head_takes (keyword words.Second) h own e = head_as (keyword words.Second) (head
 head_takes (keyword words.LoopPre) h own e = head_as (keyword words.LoopPre) (heads.Headed headings.LoopPre) h e refl tt
 head_takes (symbol symbols.Initially) h own e = head_as (symbol symbols.Initially) (heads.Headed headings.Initialized) h e refl tt
 head_takes (symbol symbols.OnFirstInput) h own e = head_as (symbol symbols.OnFirstInput) (heads.Headed headings.Replaced) h e refl tt
+head_takes (keyword words.Fby) h own e = head_as (keyword words.Fby) (heads.Headed headings.Followed) h e refl tt
+head_takes (symbol symbols.MapsFirstInput) h own e = head_as (symbol symbols.MapsFirstInput) heads.Transformed h e refl tt
 head_takes (keyword words.Switch) h own e = head_as (keyword words.Switch) (heads.Switching (switches.Basic observations.Immediate)) h e refl tt
 head_takes (keyword words.DSwitch) h own e = head_as (keyword words.DSwitch) (heads.Switching (switches.Basic observations.Delayed)) h e refl tt
 head_takes (keyword words.RSwitch) h own e = head_as (keyword words.RSwitch) (heads.Switching (switches.Recurring observations.Immediate)) h e refl tt
@@ -191,6 +196,7 @@ pub heading_begins : (v : Version) (h : Heading) (rest : List Tok) → head_at v
 heading_begins v headings.LoopPre rest = refl
 heading_begins v headings.Initialized rest = refl
 heading_begins v headings.Replaced rest = refl
+heading_begins v headings.Followed rest = refl
 
 -- a process begins again where it is written to begin
 pub start_again : (v : Version) (w : Start) (k : Name) (rest : List Tok) → WritesStart v w → head_at v (naming_token (namings.Process w) ∷ name k ∷ rest) ≡ Some (heads.Named (namings.Process w))

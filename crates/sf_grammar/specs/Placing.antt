@@ -125,6 +125,8 @@ mutual
         → TermPlaced v p a xs → TermPlaced v p id (at ∷ xs)
     headed_placed : {id a : TermId} {e : ExprId} {h : Heading} {xs ys : List Spot} {at : Spot} (opening comma closing : Spot) → TermStands p id (nodes.Headed h e a) at
         → ExpressionPlaced v p e xs → TermPlaced v p a ys → TermPlaced v p id (at ∷ around opening xs comma ys closing)
+    transformed_placed : {id a : TermId} {f : FunctionId} {xs ys : List Spot} {at : Spot} (opening comma closing : Spot) → TermStands p id (nodes.Transformed f a) at
+        → FunctionPlaced v p f xs → TermPlaced v p a ys → TermPlaced v p id (at ∷ around opening xs comma ys closing)
     switching_placed : {id a b : TermId} {w : Switching} {q : PatternId} {xs ps ys : List Spot} {at : Spot} (opening comma leads closing : Spot) → TermStands p id (nodes.Switching w a q b) at
         → TermPlaced v p a xs → PatternStands p q ps → TermPlaced v p b ys → TermPlaced v p id (at ∷ around opening xs comma (ps ++ (leads ∷ ys)) closing)
     named_placed : {id : TermId} {w : Naming} {k : NameId} {at place : Spot} → TermStands p id (nodes.Named w k place) at → TermPlaced v p id (at ∷ place ∷ [])

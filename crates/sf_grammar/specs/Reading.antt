@@ -16,7 +16,7 @@ use Rattle.sf_operator.specs.declared.operator.Mapping.{Mapping}
 use Rattle.sf_operator.specs.declared.operator.Mapping.TheVariants as mappings
 use Rattle.sf_operator.specs.declared.operator.Folding.{Folding}
 use Rattle.sf_operator.specs.declared.operator.Folding.TheVariants as foldings
-use Rattle.sf_expr.specs.Expressions.{Pattern, unnamed, named, both, unit_literal, truth_literal, int_literal, text_literal, none_literal, Expression, variable, literal, paired, applied, operation, conditional, mapped, folded, called, size, Function, function}
+use Rattle.sf_expr.specs.Expressions.{Pattern, unnamed, named, both, unit_literal, truth_literal, int_literal, text_literal, none_literal, Expression, variable, literal, paired, applied, operation, conditional, mapped, folded, called, size, Function, function, function_size}
 use Rattle.sf_term.specs.declared.form.Bare.TheVariants as bares
 use Rattle.sf_term.specs.declared.form.WithValue.{WithValue}
 use Rattle.sf_term.specs.declared.form.WithValue.TheVariants as values
@@ -40,7 +40,7 @@ use Rattle.sf_term.specs.declared.form.Start.TheVariants as starts
 use Rattle.sf_term.specs.declared.form.Naming.{Naming}
 use Rattle.sf_term.specs.declared.form.Naming.TheVariants as namings
 use Rattle.sf_term.specs.Parameters.{NameKind, value as value_kind, process as process_kind, Bindings}
-use Rattle.sf_term.specs.Trees.{Term, primitive, reference, joined, sided, switching, keeping, call, named_term, Arguments, no_arguments, value_argument, process_argument, bare, never, with_value, timed, selected, arrow, accumulated, Template, terms_in, expressions_in}
+use Rattle.sf_term.specs.Trees.{Term, primitive, reference, joined, sided, transformed, switching, keeping, call, named_term, Arguments, no_arguments, value_argument, process_argument, bare, never, with_value, timed, selected, arrow, accumulated, Template, terms_in, expressions_in}
 use Rattle.sf_lex.specs.declared.word.Keyword.{Keyword}
 use Rattle.sf_lex.specs.declared.word.Keyword.TheVariants as words
 use Rattle.sf_lex.specs.declared.symbol.Symbol.{Symbol}
@@ -268,6 +268,10 @@ pub record Counts : Type 0 where
 -- how many it has with an expression
 abbrev pub counts_with_expression : Counts → Expression → Counts
 counts_with_expression c e = record { terms = c.terms; expressions = c.expressions + size e }
+
+-- how many it has with a function
+abbrev pub counts_with_function : Counts → Function → Counts
+counts_with_function c f = record { terms = c.terms; expressions = c.expressions + function_size f }
 
 -- how many it has with a term
 abbrev pub counts_with : Counts → Term → Counts
@@ -507,9 +511,11 @@ head_of (keyword words.Sscan) = Some (heads.Accumulated accumulations.Scan)
 head_of (keyword words.First) = Some (heads.Sided sides.First)
 head_of (keyword words.Second) = Some (heads.Sided sides.Second)
 head_of (keyword words.LoopPre) = Some (heads.Headed headings.LoopPre)
+head_of (keyword words.Fby) = Some (heads.Headed headings.Followed)
 head_of (symbol symbols.Open) = Some heads.Joined
 head_of (symbol symbols.Initially) = Some (heads.Headed headings.Initialized)
 head_of (symbol symbols.OnFirstInput) = Some (heads.Headed headings.Replaced)
+head_of (symbol symbols.MapsFirstInput) = Some heads.Transformed
 head_of (keyword words.Switch) = Some (heads.Switching (switches.Basic observations.Immediate))
 head_of (keyword words.DSwitch) = Some (heads.Switching (switches.Basic observations.Delayed))
 head_of (keyword words.RSwitch) = Some (heads.Switching (switches.Recurring observations.Immediate))
@@ -577,6 +583,12 @@ unfoldable pub parse_headed : ℕ → Version → (Counts → List Tok → Read 
 parse_headed left v part c h start tokens =
     parse_symbol symbols.Open tokens and_then λ _ rest.
     parse_parts (parse_expression left v c) (parse_symbol symbols.Comma) (λ e. part (counts_with_expression c e)) (λ e _ f rest. term_read c (head_makes h e f) start rest) rest
+
+-- behind `>=-`, with which `start` begins: a function and a term in brackets, where the term is read so
+unfoldable pub parse_transformed : ℕ → Version → (Counts → List Tok → Read Term) → Counts → List Tok → List Tok → Read Term
+parse_transformed left v part c start tokens =
+    parse_symbol symbols.Open tokens and_then λ _ rest.
+    parse_parts (parse_function left v c) (parse_symbol symbols.Comma) (λ h. part (counts_with_function c h)) (λ h _ f rest. term_read c (transformed h f) start rest) rest
 
 -- the body of a switch: a pattern of so much depth at most, and a term, where that is read so
 abbrev pub parse_body : ℕ → (Counts → List Tok → Read Term) → Counts → List Tok → Read (Pattern × Term)
@@ -674,6 +686,7 @@ parse_behind_head left v part c (Some (heads.Accumulated k)) start tokens = pars
 parse_behind_head left v part c (Some heads.Joined) start tokens = parse_joined part c start tokens
 parse_behind_head left v part c (Some (heads.Sided s)) start tokens = parse_sided part c s start tokens
 parse_behind_head left v part c (Some (heads.Headed h)) start tokens = parse_headed left v part c h start tokens
+parse_behind_head left v part c (Some heads.Transformed) start tokens = parse_transformed left v part c start tokens
 parse_behind_head left v part c (Some (heads.Switching w)) start tokens = parse_switching left part c w start tokens
 parse_behind_head left v part c (Some (heads.Named w)) start tokens = parse_named w c start tokens
 parse_behind_head left v part c (Some (heads.Keeping w)) start tokens = parse_keeping left part c w start tokens

@@ -41,7 +41,7 @@ use Rattle.sf_term.specs.declared.form.Start.TheVariants as starts
 use Rattle.sf_term.specs.declared.form.Naming.{Naming}
 use Rattle.sf_term.specs.declared.form.Naming.TheVariants as namings
 use Rattle.sf_term.specs.Parameters.{NameKind, value as value_kind, process as process_kind}
-use Rattle.sf_term.specs.Trees.{bare, probe, never, with_value, timed, selected, arrow, accumulated, fused, Term, primitive, reference, joined, sided, headed, switching, keeping, staged, Reference, started, call, Arguments, no_arguments, value_argument, process_argument, closed_argument, Template, Templates, term_depth, terms_in, expressions_in}
+use Rattle.sf_term.specs.Trees.{bare, probe, never, with_value, timed, selected, arrow, accumulated, fused, Term, primitive, reference, joined, sided, headed, transformed, switching, keeping, staged, Reference, started, call, Arguments, no_arguments, value_argument, process_argument, closed_argument, Template, Templates, term_depth, terms_in, expressions_in}
 use Rattle.sf_lex.specs.declared.word.Keyword.{Keyword}
 use Rattle.sf_lex.specs.declared.word.Keyword.TheVariants as words
 use Rattle.sf_lex.specs.declared.symbol.Symbol.{Symbol}
@@ -120,6 +120,7 @@ abbrev pub heading_token : Heading → Tok
 heading_token headings.LoopPre = keyword words.LoopPre
 heading_token headings.Initialized = symbol symbols.Initially
 heading_token headings.Replaced = symbol symbols.OnFirstInput
+heading_token headings.Followed = keyword words.Fby
 
 -- the word of a term that gives way to another
 abbrev pub switching_word : Switching → Keyword
@@ -329,6 +330,7 @@ abbrev mutual
   spell_term v (joined j f g) = in_brackets (spell_term v f) (symbol (join_symbol j)) (spell_term v g)
   spell_term v (sided s f) = keyword (side_word s) ∷ spell_term v f
   spell_term v (headed h e f) = heading_token h ∷ in_brackets (spell_expression v e) (symbol symbols.Comma) (spell_term v f)
+  spell_term v (transformed h f) = symbol symbols.MapsFirstInput ∷ in_brackets (spell_function v h) (symbol symbols.Comma) (spell_term v f)
   spell_term v (switching w f p g) = keyword (switching_word w) ∷ in_brackets (spell_term v f) (symbol symbols.Comma) (spell_mapping (spell_pattern p) (spell_term v g))
   spell_term v (keeping w f g k p u) = spell_keeping w (spell_term v f) (spell_term v g) k (spell_pattern p) (spell_term v u)
   spell_term v (staged x f g) = []
@@ -451,6 +453,7 @@ abbrev mutual
   WritesTerm v (suc d) (joined j f g) = WritesTerm v d f × WritesTerm v d g
   WritesTerm v (suc d) (sided s f) = WritesTerm v d f
   WritesTerm v (suc d) (headed h e f) = (head_makes h e f ≡ headed h e f) × WritesExpression v d e × WritesTerm v d f
+  WritesTerm v (suc d) (transformed h f) = WritesFunction v d h × WritesTerm v d f
   WritesTerm v (suc d) (switching w f p g) = WritesTerm v d f × WritesTerm v d g
   WritesTerm v (suc d) (keeping w f g k p u) = WritesTerm v d f × WritesTerm v d g × WritesTerm v d u
   WritesTerm v d t = ⊤

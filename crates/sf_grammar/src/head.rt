@@ -31,8 +31,10 @@ pub enum Head {
     Joined,
     /// A word, and a term behind it.
     Sided(Side),
-    /// A word or `-->`, and behind it an expression and a term in brackets.
+    /// A word or a symbol, and behind it an expression and a term in brackets.
     Headed(Heading),
+    /// `>=-`, and behind it a function and a term in brackets.
+    Transformed,
     /// A word, and behind it a term, a pattern and another term in brackets.
     Switching(Switching),
     /// A word, and a name behind it.
@@ -115,6 +117,8 @@ pub fn head_of(token: &Token) -> Option<Head>
         Token::Keyword(Keyword::LoopPre) => Some(Head::Headed(Heading::LoopPre)),
         Token::Symbol(Symbol::Initially) => Some(Head::Headed(Heading::Initialized)),
         Token::Symbol(Symbol::OnFirstInput) => Some(Head::Headed(Heading::Replaced)),
+        Token::Keyword(Keyword::Fby) => Some(Head::Headed(Heading::Followed)),
+        Token::Symbol(Symbol::MapsFirstInput) => Some(Head::Transformed),
         Token::Keyword(Keyword::Switch) => Some(Head::Switching(Switching::Basic(
             Observation::Immediate,
         ))),

@@ -4,7 +4,7 @@ use Rattle.sf_value.specs.Values.{Name}
 use Rattle.sf_func.specs.Registries.{AnswersByName}
 use Rattle.sf_expr.specs.Evaluation.{answer}
 use Rattle.sf_term.specs.Parameters.{NameKind, Bindings}
-use Rattle.sf_term.specs.Trees.{Term, primitive, reference, started, call, Arguments, joined, sided, headed, switching, keeping, staged, Template, template_named}
+use Rattle.sf_term.specs.Trees.{Term, primitive, reference, started, call, Arguments, joined, sided, headed, transformed, switching, keeping, staged, Template, template_named}
 use Rattle.sf_term.specs.Entries.{identity_term}
 use Rattle.sf_mean.specs.Lives.{Environment, empty, running, closure}
 use Rattle.sf_mean.specs.Meaning.{argued, process_called}
@@ -22,6 +22,7 @@ argued_closed φ q qs (reference (call g ws)) vs e d = refl
 argued_closed φ q qs (joined j f g) vs e d = refl
 argued_closed φ q qs (sided s t) vs e d = refl
 argued_closed φ q qs (headed h i t) vs e d = refl
+argued_closed φ q qs (transformed f t) vs e d = refl
 argued_closed φ q qs (switching w t p u) vs e d = refl
 argued_closed φ q qs (keeping w t r k p u) vs e d = refl
 argued_closed φ q qs (staged x f g) vs e d = refl

@@ -24,7 +24,7 @@ use Rattle.sf_term.specs.declared.form.Timing.{Timing}
 use Rattle.sf_term.specs.declared.form.Selection.{Selection}
 use Rattle.sf_code.specs.declared.open.OpenCode.{OpenCode}
 use Rattle.sf_term.specs.declared.program.Program.{Program}
-use Rattle.sf_term.specs.Trees.{Term, Template, Templates, Arguments, value_argument, process_argument, primitive, reference, started, call, probe, joined, sided, headed, never, switching, keeping, with_value, timed, arrow, accumulated}
+use Rattle.sf_term.specs.Trees.{Term, Template, Templates, Arguments, value_argument, process_argument, primitive, reference, started, call, probe, joined, sided, headed, transformed, never, switching, keeping, with_value, timed, arrow, accumulated}
 use Rattle.sf_term.specs.Parameters.{PlacedParameter, parameters_of}
 use Rattle.sf_term.specs.Headers.{Header as TermHeader}
 use Rattle.sf_term.specs.Entries.{absent_payload}
@@ -39,8 +39,8 @@ use Rattle.sf_law.specs.declared.node.PlanPrimitive.TheVariants as plan_primitiv
 use Rattle.sf_law.specs.declared.plan.Plan.{Plan}
 use Rattle.sf_law.specs.Headers.{ParameterHeader, PlanHeader}
 use Rattle.sf_law.specs.Entries.{primitive_over, closed_before, arguments_end, parts_end, is_whole}
-use Rattle.sf_law.specs.Arena.{plan_expressions, node_count, plan_tree, plan_headers, plan_binding, plan_template, plan_arguments, network_of_plan, BuildsPlan, builds_primitive, builds_started, builds_probe, builds_call, builds_joined, builds_sided, builds_headed, builds_switching, builds_keeping, KeepsPlan, AddsNode}
-use Rattle.sf_law.specs.Copies.{plan_id, named_process, CopiesArgument, copies_value, copies_started, copies_closed, CopiesPrimitive, copies_bare, copies_never, copies_with_value, copies_timed, copies_selected, copies_accumulated, copies_arrow, CopiesNode, copies_primitive, copies_process, copies_probe, copies_call, copies_joined, copies_sided, copies_headed, copies_switching, copies_keeping, CopiesParameter, CopiesTemplate, ShowsTerms}
+use Rattle.sf_law.specs.Arena.{plan_expressions, node_count, plan_tree, plan_headers, plan_binding, plan_template, plan_arguments, network_of_plan, BuildsPlan, builds_primitive, builds_started, builds_probe, builds_call, builds_joined, builds_sided, builds_headed, builds_transformed, builds_switching, builds_keeping, KeepsPlan, AddsNode}
+use Rattle.sf_law.specs.Copies.{plan_id, named_process, CopiesArgument, copies_value, copies_started, copies_closed, CopiesPrimitive, copies_bare, copies_never, copies_with_value, copies_timed, copies_selected, copies_accumulated, copies_arrow, CopiesNode, copies_primitive, copies_process, copies_probe, copies_call, copies_joined, copies_sided, copies_headed, copies_transformed, copies_switching, copies_keeping, CopiesParameter, CopiesTemplate, ShowsTerms}
 use Rattle.sf_law.proofs.Kept.{tree_past}
 
 -- a primitive with an equal time is copied
@@ -75,6 +75,7 @@ parts_fit p _ _ i (copies_call {a = a} {v = v} z) h = arguments_fit p (arguments
 parts_fit p _ _ i copies_joined h = omega (arith, h.0, h.1)
 parts_fit p _ _ i copies_sided h = omega arith
 parts_fit p _ _ i copies_headed h = omega arith
+parts_fit p _ _ i copies_transformed h = omega arith
 parts_fit p _ _ i copies_switching h = omega (arith, h.0, h.1)
 parts_fit p _ _ i copies_keeping h = omega (arith, h.0, h.1, h.2)
 
@@ -87,6 +88,7 @@ no_pipeline p _ _ (copies_call z) = refl
 no_pipeline p _ _ copies_joined = refl
 no_pipeline p _ _ copies_sided = refl
 no_pipeline p _ _ copies_headed = refl
+no_pipeline p _ _ copies_transformed = refl
 no_pipeline p _ _ copies_switching = refl
 no_pipeline p _ _ copies_keeping = refl
 
@@ -102,6 +104,7 @@ module _ (p : Program) where
   named_node (ast.Joined j a b) w k held h = absurd cc
   named_node (ast.Sided d a) w k held h = absurd cc
   named_node (ast.Headed g e a) w k held h = absurd cc
+  named_node (ast.Transformed f a) w k held h = absurd cc
   named_node (ast.Switching w a q b) v k held h = absurd cc
   named_node (ast.Keeping w a o j s q b) v k held h = absurd cc
 
@@ -119,6 +122,7 @@ module _ (p : Program) where
   closed_node (ast.Joined j a b) vs h = refl
   closed_node (ast.Sided d a) vs h = refl
   closed_node (ast.Headed g e a) vs h = refl
+  closed_node (ast.Transformed f a) vs h = refl
   closed_node (ast.Switching w a q b) vs h = refl
   closed_node (ast.Keeping w a o j s q b) vs h = refl
 
@@ -174,6 +178,7 @@ module _ (p : Program) (q : Plan) (kept : Keeps (program_expressions p) (plan_ex
   same_term _ _ _ i (copies_joined {j} {a} {b}) below held shows builds_joined = ap₂ (λ f g. joined j f g) (shows a below.0) (shows b below.1)
   same_term _ _ _ i (copies_sided {d} {a}) below held shows builds_sided = ap (λ f. sided d f) (shows a below)
   same_term _ _ _ i (copies_headed {h = k} {e} {c} {a}) below held shows (builds_headed w) = ap₂ (λ v f. headed k v f) (value_same e held.0) (shows a below)
+  same_term _ _ _ i (copies_transformed {f} {c} {a}) below held shows (builds_transformed w) = ap₂ (λ g t. transformed g t) (function_same f held.0) (shows a below)
   same_term _ _ _ i (copies_switching {w = k} {a} {b} {q = r}) below held shows builds_switching =
       ap₂ (λ f g. switching k f (pattern_of (placed_at (plan_expressions q) r)) g) (shows a below.0) (shows b below.1) ∙ ap (λ z. switching k (term p a) (pattern_of z) (term p b)) (pattern_same r held.1)
   same_term _ _ _ i (copies_keeping {w} {a} {o} {b} {k} {q = r}) below held shows builds_keeping =

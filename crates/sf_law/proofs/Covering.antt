@@ -1,7 +1,6 @@
 -- Lists of names, beside the nodes of a plan.
-use Rattle.std.proofs.Common.{◌≡◌, ℕ, suc, ◌<◌, ◌≤◌, get_or, ◌∙◌, List, [], ◌∷◌, ◌++◌, length, map, Bool, true, false, cond, IsTrue, All, refl, length-append, sym, ap, subst, arith, ◌⊎◌, inl, inr, ⊎_elim}
+use Rattle.std.proofs.Common.{◌≡◌, ℕ, suc, ◌<◌, ◌≤◌, get_or, ◌∙◌, List, [], ◌∷◌, ◌++◌, length, Bool, true, false, cond, IsTrue, All, refl, length-append, sym, ap, subst, arith, ◌⊎◌, inl, inr, ⊎_elim}
 use Rattle.std.proofs.lemmas.List.{get_or_past, get_or_default}
-use Rattle.std.proofs.lemmas.List.Elements.{All-head, All-tail}
 use Rattle.std.proofs.lemmas.Bool.{cases_lt}
 use Rattle.sf_arena.specs.Items.{Added}
 use Rattle.sf_arena.proofs.Grown.{tree_kept, each_item}
@@ -9,6 +8,7 @@ use Rattle.std.specs.Prelude.{Result, OnOk, is_some, Vec, String, ◌≢◌}
 use Rattle.std.specs.declared.rc.Rc.{Rc}
 use Rattle.std.specs.declared.alloc.Global.{Global}
 use Rattle.sf_expr.specs.declared.exprs.ExprId.{ExprId}
+use Rattle.sf_expr.specs.declared.exprs.FunctionId.{FunctionId}
 use Rattle.sf_expr.specs.declared.exprs.PatternId.{PatternId}
 use Rattle.sf_expr.specs.Patterns.{pattern_of}
 use Rattle.sf_term.specs.declared.form.Start.{Start}
@@ -23,14 +23,14 @@ use Rattle.sf_code.specs.PlaceView.{around_pattern}
 use Rattle.sf_law.specs.declared.node.TemplateId.{TemplateId}
 use Rattle.sf_law.specs.declared.node.PlanPrimitive.{PlanPrimitive}
 use Rattle.sf_law.specs.declared.node.PlanNode.TheVariants as nodes
-use Rattle.sf_law.proofs.Naming.{closed_mentions}
+use Rattle.sf_law.proofs.Naming.{closed_mentions, function_mentions}
 use Rattle.sf_value.specs.Values.{Name}
 use Rattle.sf_expr.specs.declared.exprs.Exprs.{Exprs}
 use Rattle.sf_expr.specs.declared.exprs.NameId.{NameId}
-use Rattle.sf_expr.specs.Arena.{name_at, placed_at}
+use Rattle.sf_expr.specs.Arena.{function_at, name_at, placed_at}
 use Rattle.sf_term.specs.Entries.{identity_term}
-use Rattle.sf_term.specs.Trees.{Term, primitive, reference, started, call, joined, sided, headed, switching, keeping, staged, whole, rest}
-use Rattle.sf_coincidence.specs.Mentions.{BindsOthers, ExpressionMentions, PrimitiveMentions, Mentions, ArgumentsMention}
+use Rattle.sf_term.specs.Trees.{Term, primitive, reference, started, call, joined, sided, headed, transformed, switching, keeping, staged, whole, rest}
+use Rattle.sf_coincidence.specs.Mentions.{BindsOthers, ExpressionMentions, FunctionMentions, PrimitiveMentions, Mentions, ArgumentsMention}
 use Rattle.sf_law.specs.declared.node.PlanId.{PlanId}
 use Rattle.sf_law.specs.declared.node.PlanArgument.{PlanArgument}
 use Rattle.sf_law.specs.declared.node.PlanArgument.TheVariants as arguments
@@ -39,7 +39,7 @@ use Rattle.sf_law.specs.declared.mentioned.Mentioned.{Mentioned}
 use Rattle.sf_law.specs.declared.mentioned.Mentioned.TheVariants.{Any}
 use Rattle.sf_law.specs.declared.plan.Plan.{Plan}
 use Rattle.sf_law.specs.Entries.{IsCodedPrimitive, IsCodedArgument, primitive_over, plan_over, plan_term, stages, pipeline, closed_before}
-use Rattle.sf_law.specs.Arena.{plan_tree, plan_expressions, plan_expression_at, plan_arguments, trees_at, BuildsPlan, builds_primitive, builds_started, builds_probe, builds_call, builds_joined, builds_sided, builds_headed, builds_switching, builds_keeping, builds_pipeline}
+use Rattle.sf_law.specs.Arena.{plan_tree, plan_expressions, plan_expression_at, plan_arguments, trees_at, BuildsPlan, builds_primitive, builds_started, builds_probe, builds_call, builds_joined, builds_sided, builds_headed, builds_transformed, builds_switching, builds_keeping, builds_pipeline}
 use Rattle.sf_law.specs.Mentioned.{is_mentioned, HasAll, Covers, mentioned_at, AreCovered}
 use Rattle.sf_law.specs.Mentioning.{ArgumentMentions}
 
@@ -111,6 +111,7 @@ module _ (p : Plan) where
   closed_mention (joined j f g) vs x h = h
   closed_mention (sided d t) vs x h = h
   closed_mention (headed k i t) vs x h = h
+  closed_mention (transformed f t) vs x h = h
   closed_mention (switching w t q u) vs x h = h
   closed_mention (keeping w t q k r u) vs x h = h
   closed_mention (staged e f g) vs x h = h
@@ -169,6 +170,14 @@ module _ (p : Plan) where
     where
       both : (x : Name) → ExpressionMentions (plan_expression_at p e) x ⊎ Mentions (plan_tree p a) x → IsTrue (is_mentioned m x)
       both x (inl h) = C x (closed_mentions (around_pattern c.around) (plan_expression_at p e) x k.closed h)
+      both x (inr h) = A x h
+
+  pub covers_transformed : (m : Mentioned) {f : FunctionId} {c : OpenCode} {a : PlanId} {t : Term} → BuildsPlan p (nodes.Transformed f c a) t
+      → ((x : Name) → is_some (place_in x (around_pattern c.around)) ≡ true → IsTrue (is_mentioned m x)) → Covers m (plan_tree p a) → Covers m t
+  covers_transformed m {f = f} {c = c} {a = a} (builds_transformed k) C A = both
+    where
+      both : (x : Name) → FunctionMentions (function_at (plan_expressions p) f) x ⊎ Mentions (plan_tree p a) x → IsTrue (is_mentioned m x)
+      both x (inl h) = C x (function_mentions (around_pattern c.around) (function_at (plan_expressions p) f) x k.closed h)
       both x (inr h) = A x h
 
   pub covers_switching : (m : Mentioned) {w : Switching} {a b : PlanId} {q : PatternId} {t : Term} → BuildsPlan p (nodes.Switching w a q b) t → Covers m (plan_tree p a)

@@ -16,14 +16,15 @@ use Rattle.sf_law.specs.declared.node.PlanNode.TheVariants as nodes
 use Rattle.sf_law.specs.declared.plan.Plan.{Plan}
 use Rattle.sf_law.specs.declared.node.TemplateId.{TemplateId}
 use Rattle.sf_law.specs.Headers.{PlanHeader, place_named, no_header}
-use Rattle.sf_law.specs.Entries.{IsCoded, is_within, plan_over, parts_end, is_whole, calls_first, identity_node, node_among, plan_terms, plan_term}
-use Rattle.sf_law.specs.Arena.{node_count, plan_anew, plan_node_at, plan_tree, BuildsPlan, plan_expressions, plan_headers, plan_template, header_at, IsCalled, builds_primitive, builds_started, builds_probe, builds_call, builds_joined, builds_sided, builds_headed, builds_switching, builds_keeping, builds_pipeline, KeepsPlan, AddsNode}
+use Rattle.sf_law.specs.Entries.{IsCoded, plan_over, parts_end, is_whole, calls_first, identity_node, node_among, plan_terms, plan_term}
+use Rattle.sf_law.specs.Arena.{node_count, plan_asks, plan_node_at, plan_tree, BuildsPlan, plan_expressions, plan_headers, plan_template, header_at, IsCalled, builds_primitive, builds_started, builds_probe, builds_call, builds_joined, builds_sided, builds_headed, builds_transformed, builds_switching, builds_keeping, builds_pipeline, KeepsPlan, AddsNode}
+use Rattle.sf_law.specs.Asking.{is_asked}
 use Rattle.sf_law.proofs.Placed.{term-built}
 
--- processes begin anew in a node only where they may in the plan
-pub within_held : (p : Plan) (a : PlanId) → IsTrue (is_within (plan_anew p) (plan_node_at p a))
+-- a plan asks for what its nodes ask for
+pub asked_held : (p : Plan) (a : PlanId) → IsTrue (is_asked (plan_expressions p) (plan_headers p) (plan_asks p) (plan_node_at p a))
 unfolding plan_node_at
-within_held p a = p.within a.0
+asked_held p a = p.enough a.0
 
 -- what is called by a name is the first template of that name, among these
 first_called : (p : Plan) (x : Name) (hs : List PlanHeader) → plan_template p (slice_index_or hs (place_named x hs) no_header) ≡ unwrap_or (template_named x (map (plan_template p) hs)) (plan_template p no_header)
@@ -49,6 +50,7 @@ made p (nodes.Call i g v) w k f = builds_call (is_called p (name_at (plan_expres
 made p (nodes.Joined j a b) w k f = builds_joined
 made p (nodes.Sided d a) w k f = builds_sided
 made p (nodes.Headed h e c a) w k f = builds_headed k
+made p (nodes.Transformed g c a) w k f = builds_transformed k
 made p (nodes.Switching s a q b) w k f = builds_switching
 made p (nodes.Keeping s a o i q b) w k f = builds_keeping
 made p (nodes.Pipeline v) w k f = builds_pipeline w

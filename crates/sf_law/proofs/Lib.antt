@@ -8,3 +8,4 @@ mod Numbers
 mod Located
 pub mod Naming
 mod Covering
+pub mod Enough

@@ -1,15 +1,13 @@
 -- The nodes of a plan, of which one more is put behind.
 use Rattle.std.proofs.Common.{◌≡◌, ℕ, suc, ◌<◌, ◌≤◌, List, [], ◌∷◌, ◌++◌, length, map, Bool, true, false, cond, IsTrue, refl, sym, ◌∙◌, ap, subst, arith}
-use Rattle.std.specs.List.{list_all}
 use mathlib.Core.Path.{ap₂}
 use Rattle.std.proofs.lemmas.List.{get_or_append_left}
 use Rattle.sf_arena.specs.Items.{Added}
 use Rattle.sf_arena.proofs.Grown.{each_item, tree_made}
 use Rattle.sf_expr.specs.declared.exprs.Exprs.{Exprs}
 use Rattle.sf_expr.specs.Patterns.{pattern_of}
-use Rattle.sf_expr.specs.Arena.{expression, name_at, placed_at}
-use Rattle.sf_term.specs.declared.form.Start.TheVariants.{Run, Fresh}
-use Rattle.sf_term.specs.Trees.{Term, reference, call, value_argument, process_argument, started, joined, sided, headed, switching, keeping}
+use Rattle.sf_expr.specs.Arena.{expression, function_at, name_at, placed_at}
+use Rattle.sf_term.specs.Trees.{Term, reference, call, value_argument, process_argument, started, joined, sided, headed, transformed, switching, keeping}
 use Rattle.sf_term.specs.Entries.{identity_term, term_among}
 use Rattle.sf_law.specs.declared.node.PlanId.{PlanId}
 use Rattle.sf_law.specs.declared.node.PlanArgument.{PlanArgument}
@@ -17,7 +15,7 @@ use Rattle.sf_law.specs.declared.node.PlanArgument.TheVariants as arguments
 use Rattle.sf_law.specs.declared.node.PlanNode.{PlanNode}
 use Rattle.sf_law.specs.declared.node.PlanNode.TheVariants as nodes
 use Rattle.sf_law.specs.Headers.{PlanHeader}
-use Rattle.sf_law.specs.Entries.{argument_within, is_within, AreWithin, closed_before, arguments_with, pipeline, IsCoded, plan_over, ids_end, arguments_end, parts_end, is_whole, calls_first, identity_node, node_among, plan_terms, plan_term, ArePlanNodes}
+use Rattle.sf_law.specs.Entries.{closed_before, arguments_with, pipeline, IsCoded, plan_over, ids_end, arguments_end, parts_end, is_whole, calls_first, identity_node, node_among, plan_terms, plan_term, ArePlanNodes}
 
 part : (ts more : List Term) (i : ℕ) → suc i ≤ length ts → term_among (ts ++ more) i ≡ term_among ts i
 part ts more i h = get_or_append_left ts more identity_term i (omega arith)
@@ -42,6 +40,7 @@ local x ts more (nodes.Call k g v) h = ap (λ vs. reference (call (name_at x k) 
 local x ts more (nodes.Joined j a b) h = ap₂ (λ s t. joined j s t) (part ts more a.0 (omega arith)) (part ts more b.0 (omega arith))
 local x ts more (nodes.Sided d a) h = ap (λ t. sided d t) (part ts more a.0 h)
 local x ts more (nodes.Headed k e c a) h = ap (λ t. headed k (expression x e) t) (part ts more a.0 h)
+local x ts more (nodes.Transformed f c a) h = ap (λ t. transformed (function_at x f) t) (part ts more a.0 h)
 local x ts more (nodes.Switching w a q b) h = ap₂ (λ s t. switching w s (pattern_of (placed_at x q)) t) (part ts more a.0 (omega arith)) (part ts more b.0 (omega arith))
 local x ts more (nodes.Keeping w a o k q b) h =
     let name = name_at x k in
@@ -66,39 +65,6 @@ arena_put x hs old new n true e a below whole coded called =
       called = each_item old new n _ added (λ i m. IsTrue (calls_first x hs m)) identity_node a.called called;
     }
 arena_put x hs old new n false e a below whole coded called = subst (λ ns. ArePlanNodes x hs ns) (sym e) a
-
-all-anywhere : (vs : List PlanArgument) → IsTrue (list_all (argument_within true) vs)
-all-anywhere [] = refl
-all-anywhere (arguments.Value e c ∷ vs) = all-anywhere vs
-all-anywhere (arguments.Started Run k ∷ vs) = all-anywhere vs
-all-anywhere (arguments.Started Fresh k ∷ vs) = all-anywhere vs
-all-anywhere (arguments.Closed a ∷ vs) = all-anywhere vs
-
--- where processes may begin anew, they do so anywhere
-anywhere : (n : PlanNode) → IsTrue (is_within true n)
-anywhere (nodes.Primitive q) = refl
-anywhere (nodes.Started Run k) = refl
-anywhere (nodes.Started Fresh k) = refl
-anywhere (nodes.Probe r) = refl
-anywhere (nodes.Call k g v) = all-anywhere v.items
-anywhere (nodes.Joined j a b) = refl
-anywhere (nodes.Sided d a) = refl
-anywhere (nodes.Headed h e c a) = refl
-anywhere (nodes.Switching w a q b) = refl
-anywhere (nodes.Keeping w a o k q b) = refl
-anywhere (nodes.Pipeline v) = refl
-
--- processes begin anew where they did, or in the node, if one was put behind
-pub within_put : (b : Bool) (old new : List PlanNode) (n : PlanNode) (put : Bool) → new ≡ cond put (old ++ n ∷ []) old → AreWithin b old → AreWithin (cond (is_within false n) b true) new
-within_put b old new n put e h = by b (is_within false n) put refl e h
-  where
-    by : (b kept put : Bool) → is_within false n ≡ kept → new ≡ cond put (old ++ n ∷ []) old → AreWithin b old → AreWithin (cond kept b true) new
-    by b false put k e h = λ i. anywhere (node_among new i)
-    by true true put k e h = λ i. anywhere (node_among new i)
-    by false true true k e h =
-        let added : Added old new n (length old) = record { next = refl; grown = e } in
-        each_item old new n _ added (λ i m. IsTrue (is_within false m)) identity_node h k
-    by false true false k e h = subst (λ ns. AreWithin false ns) (sym e) h
 
 -- the term at a place is made over all terms
 pub term-built : (x : Exprs) (hs : List PlanHeader) (ns : List PlanNode) (i : ℕ) → ArePlanNodes x hs ns → plan_term x ns i ≡ plan_over x (plan_terms x ns) (node_among ns i)

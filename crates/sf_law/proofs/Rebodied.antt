@@ -1,5 +1,5 @@
 -- Templates of a plan with other bodies.
-use Rattle.std.proofs.Common.{◌≡◌, ℕ, ◌+◌, List, [], ◌∷◌, map, not, cond, nat_eq, bytes_eq, unwrap_or, IsTrue, String, refl, sym, ◌∙◌, ap, subst}
+use Rattle.std.proofs.Common.{◌≡◌, ℕ, zero, suc, ◌+◌, Bool, List, [], ◌∷◌, map, not, cond, nat_eq, bytes_eq, unwrap_or, slice_index_or, IsTrue, String, refl, sym, ◌∙◌, ap, subst}
 use Rattle.indexmap.specs.IndexMap.{IndexMap, get_by_text}
 use Rattle.std.proofs.lemmas.List.{length-map}
 use Rattle.sf_value.specs.Values.{Name}
@@ -8,8 +8,11 @@ use Rattle.sf_expr.specs.Arena.{name_at}
 use Rattle.sf_law.specs.declared.node.PlanId.{PlanId}
 use Rattle.sf_law.specs.declared.node.PlanNode.{PlanNode}
 use Rattle.sf_law.specs.declared.node.PlanNode.TheVariants as nodes
-use Rattle.sf_law.specs.Headers.{PlanHeader, rebodied, place_named, NumbersFirst}
+use Rattle.sf_law.specs.declared.mentioned.Mentioned.{Mentioned}
+use Rattle.sf_law.specs.Headers.{PlanHeader, no_header, rebodied, place_named, NumbersFirst}
 use Rattle.sf_law.specs.Entries.{calls_first, node_among, ArePlanNodes}
+use Rattle.sf_law.specs.Mentioned.{is_mentioned}
+use Rattle.sf_law.specs.Asking.{arguments_asked, is_asked, AreAsked}
 
 module _ (ids : List PlanId) (n : ℕ) where
   -- a name stands where it stood
@@ -28,6 +31,7 @@ module _ (ids : List PlanId) (n : ℕ) where
   calls_kept x hs (nodes.Joined j a b) = refl
   calls_kept x hs (nodes.Sided d a) = refl
   calls_kept x hs (nodes.Headed h e c a) = refl
+  calls_kept x hs (nodes.Transformed f c a) = refl
   calls_kept x hs (nodes.Switching w a q b) = refl
   calls_kept x hs (nodes.Keeping w a o k q b) = refl
   calls_kept x hs (nodes.Pipeline v) = refl
@@ -39,3 +43,26 @@ module _ (ids : List PlanId) (n : ℕ) where
     coded = a.coded;
     called = λ i. subst IsTrue (sym (calls_kept x hs (node_among ns i))) (a.called i);
   }
+
+  -- a template has the parameters that it had
+  parameters_kept : (hs : List PlanHeader) (i : ℕ) → (slice_index_or (map (rebodied ids n) hs) i no_header).parameters ≡ (slice_index_or hs i no_header).parameters
+  parameters_kept [] i = refl
+  parameters_kept (h ∷ hs) zero = refl
+  parameters_kept (h ∷ hs) (suc i) = parameters_kept hs i
+
+  asked_kept : (x : Exprs) (hs : List PlanHeader) (asks : Name → Bool) (m : PlanNode) → is_asked x (map (rebodied ids n) hs) asks m ≡ is_asked x hs asks m
+  asked_kept x hs asks (nodes.Primitive q) = refl
+  asked_kept x hs asks (nodes.Started w k) = refl
+  asked_kept x hs asks (nodes.Probe r) = refl
+  asked_kept x hs asks (nodes.Call k g v) = ap (λ qs. arguments_asked x asks qs v.items) (parameters_kept hs g.0)
+  asked_kept x hs asks (nodes.Joined j a b) = refl
+  asked_kept x hs asks (nodes.Sided d a) = refl
+  asked_kept x hs asks (nodes.Headed h e c a) = refl
+  asked_kept x hs asks (nodes.Transformed f c a) = refl
+  asked_kept x hs asks (nodes.Switching w a q b) = refl
+  asked_kept x hs asks (nodes.Keeping w a o k q b) = refl
+  asked_kept x hs asks (nodes.Pipeline v) = refl
+
+  -- nodes ask for what they asked for
+  pub enough_kept : (x : Exprs) (hs : List PlanHeader) (m : Mentioned) (ns : List PlanNode) → AreAsked x hs m ns → AreAsked x (map (rebodied ids n) hs) m ns
+  enough_kept x hs m ns h i = subst IsTrue (sym (asked_kept x hs (is_mentioned m) (node_among ns i))) (h i)

@@ -7,10 +7,11 @@ use Rattle.sf_func.specs.Registries.{AnswersByName}
 use Rattle.sf_expr.specs.declared.exprs.ExprId.{ExprId}
 use Rattle.sf_expr.specs.declared.exprs.Exprs.{Exprs}
 use Rattle.sf_expr.specs.Expressions.{Expression}
+use Rattle.sf_expr.specs.declared.exprs.FunctionId.{FunctionId}
 use Rattle.sf_expr.specs.declared.exprs.NameId.{NameId}
 use Rattle.sf_expr.specs.declared.exprs.PatternId.{PatternId}
 use Rattle.sf_expr.specs.Patterns.{pattern_of}
-use Rattle.sf_expr.specs.Arena.{expression, name_at, placed_at}
+use Rattle.sf_expr.specs.Arena.{expression, function_at, name_at, placed_at}
 use Rattle.sf_term.specs.declared.form.Join.{Join}
 use Rattle.sf_term.specs.declared.form.Start.{Start}
 use Rattle.sf_term.specs.declared.form.Side.{Side}
@@ -18,8 +19,8 @@ use Rattle.sf_term.specs.declared.form.Heading.{Heading}
 use Rattle.sf_term.specs.declared.form.Observation.{Observation}
 use Rattle.sf_term.specs.declared.form.Switching.{Switching}
 use Rattle.sf_code.specs.declared.open.OpenCode.{OpenCode}
-use Rattle.sf_code.specs.Worth.{IsCodeOf}
-use Rattle.sf_term.specs.Trees.{Term, primitive, probe, reference, started, call, Arguments, joined, sided, headed, switching, keeping, Template, Templates, template_named}
+use Rattle.sf_code.specs.Worth.{IsCodeOf, IsCodeOfFunction}
+use Rattle.sf_term.specs.Trees.{Term, primitive, probe, reference, started, call, Arguments, joined, sided, headed, transformed, switching, keeping, Template, Templates, template_named}
 use Rattle.sf_term.specs.Parameters.{NameKind}
 use Rattle.sf_mean.specs.Meaning.{Network}
 use Rattle.sf_law.specs.declared.node.PlanId.{PlanId}
@@ -29,6 +30,10 @@ use Rattle.sf_law.specs.declared.node.PlanNode.{PlanNode}
 use Rattle.sf_law.specs.declared.node.PlanPrimitive.{PlanPrimitive}
 use Rattle.sf_law.specs.declared.node.PlanNode.TheVariants as nodes
 use Rattle.sf_law.specs.declared.plan.Plan.{Plan}
+use Rattle.sf_law.specs.declared.mentioned.Mentioned.{Mentioned}
+use Rattle.sf_law.specs.declared.mentioned.Mentioned.TheVariants.{Names, Any}
+use Rattle.sf_law.specs.Mentioned.{has_name, is_mentioned}
+use Rattle.sf_law.specs.Asking.{is_asked}
 use Rattle.sf_law.specs.Headers.{ParameterHeader, PlanHeader, no_header}
 use Rattle.sf_law.specs.Entries.{primitive_over, IsCodedPrimitive, IsCodedArgument, arguments_with, pipeline, node_among, plan_term}
 
@@ -40,9 +45,13 @@ plan_number id = id.0
 abbrev pub plan_expressions : Plan → Exprs
 plan_expressions p = p.expressions
 
--- whether a process may begin anew in a plan
-abbrev pub plan_anew : Plan → Bool
-plan_anew p = p.anew
+-- the names for which a plan may ask what their processes began as
+abbrev pub plan_asked : Plan → Mentioned
+plan_asked p = p.asked
+
+-- whether a plan may ask what a process of a name began as
+abbrev pub plan_asks : Plan → Name → Bool
+plan_asks p x = is_mentioned (plan_asked p) x
 
 -- the expression at an id; the number 0 where the plan holds none
 abbrev pub plan_expression_at : Plan → ExprId → Expression
@@ -80,6 +89,19 @@ plan_template p h = record { name = h.name; parameters = map (plan_binding p) h.
 abbrev pub plan_templates : Plan → Templates
 plan_templates p = map (plan_template p) (plan_headers p)
 
+-- all names that a plan asks for are among these
+abbrev pub IsEnough : Plan → (Name → Bool) → Type 0
+IsEnough p asks = (a : PlanId) → IsTrue (is_asked (plan_expressions p) (plan_headers p) asks (plan_node_at p a))
+
+-- a plan asks for a name: it is among all names that are enough
+abbrev pub IsAsked : Plan → Name → Type 0
+IsAsked p x = (asks : Name → Bool) → IsEnough p asks → IsTrue (asks x)
+
+-- a plan asks for each name of a list; where that is any name, it asks for one at least
+abbrev pub AsksOnly : Plan → Mentioned → Type 0
+AsksOnly p (Names v) = (x : Name) → IsTrue (has_name v.items x) → IsAsked p x
+AsksOnly p Any = (x : Name) × IsAsked p x
+
 -- the number of a template's id
 abbrev pub template_number : TemplateId → ℕ
 template_number g = g.0
@@ -114,6 +136,7 @@ pub data BuildsPlan (p : Plan) : PlanNode → Term → Type 0 where
   builds_joined : {j : Join} {a b : PlanId} → BuildsPlan p (nodes.Joined j a b) (joined j (plan_tree p a) (plan_tree p b))
   builds_sided : {d : Side} {a : PlanId} → BuildsPlan p (nodes.Sided d a) (sided d (plan_tree p a))
   builds_headed : {h : Heading} {e : ExprId} {c : OpenCode} {a : PlanId} → IsCodeOf (plan_expression_at p e) c → BuildsPlan p (nodes.Headed h e c a) (headed h (plan_expression_at p e) (plan_tree p a))
+  builds_transformed : {f : FunctionId} {c : OpenCode} {a : PlanId} → IsCodeOfFunction (function_at (plan_expressions p) f) c → BuildsPlan p (nodes.Transformed f c a) (transformed (function_at (plan_expressions p) f) (plan_tree p a))
   builds_switching : {w : Switching} {a b : PlanId} {q : PatternId} → BuildsPlan p (nodes.Switching w a q b) (switching w (plan_tree p a) (pattern_of (placed_at (plan_expressions p) q)) (plan_tree p b))
   builds_keeping : {w : Observation} {a o b : PlanId} {k : NameId} {q : PatternId} → BuildsPlan p (nodes.Keeping w a o k q b) (keeping w (plan_tree p a) (plan_tree p o) (name_at (plan_expressions p) k) (pattern_of (placed_at (plan_expressions p) q)) (plan_tree p b))
   builds_pipeline : {v : Vec PlanId Global} → IsTrue (nat_le 2 (length v.items)) → BuildsPlan p (nodes.Pipeline v) (pipeline (trees_at p v.items))

@@ -71,6 +71,7 @@ named_process (terms.Call k a) = None
 named_process (terms.Joined j a b) = None
 named_process (terms.Sided d a) = None
 named_process (terms.Headed h e a) = None
+named_process (terms.Transformed f a) = None
 named_process (terms.Switching w a q b) = None
 named_process (terms.Keeping w a o k s q b) = None
 
@@ -91,6 +92,7 @@ pub data CopiesNode (p : Program) : Node → PlanNode → Type 0 where
   copies_switching : {w : Switching} {a b : TermId} {q : PatternId} → CopiesNode p (terms.Switching w a q b) (plans.Switching w (plan_id a) q (plan_id b))
   copies_keeping : {w : Observation} {a o b : TermId} {k : NameId} {s : _} {q : PatternId} → CopiesNode p (terms.Keeping w a o k s q b) (plans.Keeping w (plan_id a) (plan_id o) k q (plan_id b))
   copies_headed : {h : Heading} {e : ExprId} {c : OpenCode} {a : TermId} → CopiesNode p (terms.Headed h e a) (plans.Headed h e c (plan_id a))
+  copies_transformed : {f : FunctionId} {c : OpenCode} {a : TermId} → CopiesNode p (terms.Transformed f a) (plans.Transformed f c (plan_id a))
 
 -- A plan's parameter is a program's, with its name and the pattern that binds it among the expressions.
 pub record CopiesParameter (x : Exprs) (q : PlacedParameter) (r : ParameterHeader) : Type 0 where

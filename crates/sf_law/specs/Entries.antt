@@ -1,5 +1,4 @@
 -- The nodes of an arena of plans.
-use Rattle.std.specs.List.{list_all}
 use Rattle.std.specs.Prelude.{◌≡◌, ℕ, suc, ◌≤◌, max, Bool, true, nat_le, nat_eq, IsTrue, ⊤, List, [], ◌∷◌, length, map, slice_index_or, All, string_bytes}
 use Rattle.sf_expr.specs.declared.exprs.ExprId.{ExprId}
 use Rattle.sf_expr.specs.declared.exprs.Exprs.{Exprs}
@@ -8,12 +7,10 @@ use Rattle.sf_expr.specs.Patterns.{pattern_of}
 use Rattle.sf_expr.specs.Arena.{expression, function_at, name_at, literal_at, placed_at}
 use Rattle.sf_arena.specs.Folded.{trees, tree_at}
 use Rattle.sf_term.specs.declared.form.Bare.TheVariants.{Identity}
-use Rattle.sf_term.specs.declared.form.Start.{Start}
-use Rattle.sf_term.specs.declared.form.Start.TheVariants.{Run, Fresh}
 use Rattle.sf_code.specs.declared.open.OpenCode.{OpenCode}
 use Rattle.sf_code.specs.Worth.{IsCodeOf, IsCodeOfFunction}
 use Rattle.sf_term.specs.Entries.{identity_term, absent_payload, term_among}
-use Rattle.sf_term.specs.Trees.{Chain, lone, chained, on_side, on_both, fanned, fused, Extent, whole, rest, Primitive, Term, primitive, reference, started, call, probe, Arguments, no_arguments, value_argument, process_argument, closed_argument, joined, sided, headed, switching, keeping, staged, bare, never, with_value, timed, selected, arrow, accumulated}
+use Rattle.sf_term.specs.Trees.{Chain, lone, chained, on_side, on_both, fanned, fused, Extent, whole, rest, Primitive, Term, primitive, reference, started, call, probe, Arguments, no_arguments, value_argument, process_argument, closed_argument, joined, sided, headed, transformed, switching, keeping, staged, bare, never, with_value, timed, selected, arrow, accumulated}
 use Rattle.sf_law.specs.declared.node.PlanId.{PlanId}
 use Rattle.sf_law.specs.declared.node.PlanArgument.{PlanArgument}
 use Rattle.sf_law.specs.declared.node.PlanArgument.TheVariants as arguments
@@ -92,6 +89,7 @@ IsCoded x (nodes.Call k g v) = All (IsCodedArgument x) v.items
 IsCoded x (nodes.Joined j a b) = ⊤
 IsCoded x (nodes.Sided d a) = ⊤
 IsCoded x (nodes.Headed h e c a) = IsCodeOf (expression x e) c
+IsCoded x (nodes.Transformed f c a) = IsCodeOfFunction (function_at x f) c
 IsCoded x (nodes.Switching w a q b) = ⊤
 IsCoded x (nodes.Keeping w a o k q b) = ⊤
 IsCoded x (nodes.Pipeline v) = ⊤
@@ -105,6 +103,7 @@ closed_before (reference (call g ws)) vs = process_argument (reference (call g w
 closed_before (joined j f g) vs = process_argument (joined j f g) vs
 closed_before (sided d t) vs = process_argument (sided d t) vs
 closed_before (headed h i t) vs = process_argument (headed h i t) vs
+closed_before (transformed f t) vs = process_argument (transformed f t) vs
 closed_before (switching w t p u) vs = process_argument (switching w t p u) vs
 closed_before (keeping w t q k p u) vs = process_argument (keeping w t q k p u) vs
 closed_before (staged e f g) vs = process_argument (staged e f g) vs
@@ -125,6 +124,7 @@ plan_over x ts (nodes.Call k g v) = reference (call (name_at x k) (arguments_wit
 plan_over x ts (nodes.Joined j a b) = joined j (term_among ts a.0) (term_among ts b.0)
 plan_over x ts (nodes.Sided d a) = sided d (term_among ts a.0)
 plan_over x ts (nodes.Headed h e c a) = headed h (expression x e) (term_among ts a.0)
+plan_over x ts (nodes.Transformed f c a) = transformed (function_at x f) (term_among ts a.0)
 plan_over x ts (nodes.Switching w a q b) = switching w (term_among ts a.0) (pattern_of (placed_at x q)) (term_among ts b.0)
 plan_over x ts (nodes.Keeping w a o k q b) = keeping w (term_among ts a.0) (term_among ts o.0) (name_at x k) (pattern_of (placed_at x q)) (term_among ts b.0)
 plan_over x ts (nodes.Pipeline v) = pipeline (map (λ (a : PlanId). term_among ts a.0) v.items)
@@ -150,6 +150,7 @@ parts_end (nodes.Call k g v) = arguments_end v.items
 parts_end (nodes.Joined j a b) = suc (max a.0 b.0)
 parts_end (nodes.Sided d a) = suc a.0
 parts_end (nodes.Headed h e c a) = suc a.0
+parts_end (nodes.Transformed f c a) = suc a.0
 parts_end (nodes.Switching w a q b) = suc (max a.0 b.0)
 parts_end (nodes.Keeping w a o k q b) = suc (max (max a.0 o.0) b.0)
 parts_end (nodes.Pipeline v) = ids_end v.items
@@ -163,6 +164,7 @@ is_whole (nodes.Call k g v) = true
 is_whole (nodes.Joined j a b) = true
 is_whole (nodes.Sided d a) = true
 is_whole (nodes.Headed h e c a) = true
+is_whole (nodes.Transformed f c a) = true
 is_whole (nodes.Switching w a q b) = true
 is_whole (nodes.Keeping w a o k q b) = true
 is_whole (nodes.Pipeline v) = nat_le 2 (length v.items)
@@ -176,33 +178,10 @@ calls_first x hs (nodes.Call k g v) = nat_eq g.0 (place_named (name_at x k) hs)
 calls_first x hs (nodes.Joined j a b) = true
 calls_first x hs (nodes.Sided d a) = true
 calls_first x hs (nodes.Headed h e c a) = true
+calls_first x hs (nodes.Transformed f c a) = true
 calls_first x hs (nodes.Switching w a q b) = true
 calls_first x hs (nodes.Keeping w a o k q b) = true
 calls_first x hs (nodes.Pipeline v) = true
-
--- where a process begins; anew only where that is allowed
-abbrev pub start_within : Bool → Start → Bool
-start_within b Run = true
-start_within b Fresh = b
-
--- the same of an argument
-abbrev pub argument_within : Bool → PlanArgument → Bool
-argument_within b (arguments.Value e c) = true
-argument_within b (arguments.Started w k) = start_within b w
-argument_within b (arguments.Closed a) = true
-
--- the same of a node
-abbrev pub is_within : Bool → PlanNode → Bool
-is_within b (nodes.Primitive q) = true
-is_within b (nodes.Started w k) = start_within b w
-is_within b (nodes.Probe r) = true
-is_within b (nodes.Call k g v) = list_all (argument_within b) v.items
-is_within b (nodes.Joined j a c) = true
-is_within b (nodes.Sided d a) = true
-is_within b (nodes.Headed h e c a) = true
-is_within b (nodes.Switching w a q c) = true
-is_within b (nodes.Keeping w a o k q c) = true
-is_within b (nodes.Pipeline v) = true
 
 -- the identity
 abbrev pub identity_node : PlanNode
@@ -211,10 +190,6 @@ identity_node = nodes.Primitive (primitives.Bare Identity)
 -- the node at a place; the identity past the end
 abbrev pub node_among : List PlanNode → ℕ → PlanNode
 node_among ns i = slice_index_or ns i identity_node
-
--- processes begin anew only where that is allowed
-abbrev pub AreWithin : Bool → List PlanNode → Type 0
-AreWithin b ns = (i : ℕ) → IsTrue (is_within b (node_among ns i))
 
 -- the terms of nodes
 abbrev pub plan_terms : Exprs → List PlanNode → List Term

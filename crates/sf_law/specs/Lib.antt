@@ -6,4 +6,5 @@ pub mod Arena
 pub mod Copies
 pub mod Plans
 pub mod Mentioned
+pub mod Asking
 pub mod Mentioning

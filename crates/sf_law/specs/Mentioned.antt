@@ -1,5 +1,5 @@
 -- The names that terms mention, in lists.
-use Rattle.std.specs.Prelude.{◌≡◌, ℕ, Bool, true, false, ◌||◌, IsTrue, bytes_eq, List, length, slice_index_or, Option, Some, None, String, string_bytes}
+use Rattle.std.specs.Prelude.{◌≡◌, ℕ, Bool, true, false, ◌||◌, IsTrue, ⊤, bytes_eq, List, slice_index_or, Option, Some, None, String, string_bytes}
 use Rattle.std.specs.List.{list_any}
 use Rattle.std.specs.declared.rc.Rc.{Rc}
 use Rattle.std.specs.declared.alloc.Global.{Global}
@@ -39,6 +39,12 @@ bound_pattern (OfName x) = named x.now
 -- the names of a list are in another
 abbrev pub HasAll : Mentioned → Mentioned → Type 0
 HasAll old new = (x : Name) → IsTrue (is_mentioned old x) → IsTrue (is_mentioned new x)
+
+-- a list has the names of another and at most one more; any name may be mentioned where it might before, or where they are too many
+abbrev pub AddsOnly : Mentioned → Name → Mentioned → Type 0
+AddsOnly (Names v) x (Names w) = (y : Name) → IsTrue (has_name w.items y) → IsTrue (has_name v.items y || bytes_eq y x)
+AddsOnly (Names v) x Any = ⊤
+AddsOnly Any x m = m ≡ Any
 
 -- each name that a term mentions is in a list
 abbrev pub Covers : Mentioned → Term → Type 0

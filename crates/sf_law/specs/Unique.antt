@@ -105,6 +105,7 @@ IsCoded-prop x (nodes.Call k g v) = λ a b i n d h. IsCodedArgument-prop x (slic
 IsCoded-prop x (nodes.Joined j a b) = Unit-prop
 IsCoded-prop x (nodes.Sided d a) = Unit-prop
 IsCoded-prop x (nodes.Headed h e c a) = IsCodeOf-prop (expression x e) c
+IsCoded-prop x (nodes.Transformed f c a) = IsCodeOfFunction-prop (function_at x f) c
 IsCoded-prop x (nodes.Switching w a q b) = Unit-prop
 IsCoded-prop x (nodes.Keeping w a o k q b) = Unit-prop
 IsCoded-prop x (nodes.Pipeline v) = Unit-prop

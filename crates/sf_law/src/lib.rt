@@ -1,6 +1,8 @@
 //! The plans that are run.
 #![tactic(auto)]
 
+mod asked;
+mod laws;
 mod mentioned;
 mod mentions;
 mod node;
@@ -9,6 +11,7 @@ mod plain_plan;
 mod plan;
 mod template;
 
+pub use laws::asks_for_none;
 pub use mentioned::{Binder, Mentioned};
 pub use node::{PlanArgument, PlanChain, PlanId, PlanNode, PlanPrimitive, TemplateId};
 pub use plain_plan::{empty_plan, plain, plan_named, plan_primitive, started};

@@ -5,7 +5,7 @@ ghost use Rattle.sf_expr.specs.Patterns.{pattern_of};
 ghost use Rattle.sf_code.specs.Compiling.{place_in};
 ghost use Rattle.sf_code.specs.PlaceView.{around_pattern};
 ghost use Rattle.sf_coincidence.specs.Mentions.{BindsOthers};
-ghost use Rattle.sf_law.specs.Mentioned.{has_name, is_mentioned, binds_name, bound_pattern, HasAll};
+ghost use Rattle.sf_law.specs.Mentioned.{has_name, is_mentioned, binds_name, bound_pattern, HasAll, AddsOnly};
 
 use sf_code::OpenCode;
 use sf_expr::{Pat, PatForm};
@@ -30,8 +30,8 @@ pub enum Binder<'a> {
     Name(&'a str),
 }
 
-// So many names are listed.
-const MOST: usize = 16;
+/// So many names are listed.
+pub(crate) const MOST: usize = 16;
 
 impl Mentioned {
     /// No names.
@@ -48,6 +48,16 @@ impl Mentioned {
         match self {
             Mentioned::Names(names) => names.is_empty(),
             Mentioned::Any => false,
+        }
+    }
+
+    /// Whether a name is one of them.
+    pub(crate) fn has(&self, name: &str) -> bool
+        ensures { result ≡ is_mentioned self.now name.now }
+    {
+        match self {
+            Mentioned::Names(names) => is_among(names, name),
+            Mentioned::Any => true,
         }
     }
 
@@ -95,6 +105,7 @@ impl Mentioned {
     fn add(&mut self, name: Rc<String>) -> Result<(), AllocError>
         ensures kept { OnOk result (HasAll self.old self.new) }
         ensures added { OnOk result (IsTrue (is_mentioned self.new (string_bytes name.value))) }
+        ensures only { OnOk result (AddsOnly self.old (string_bytes name.value) self.new) }
     {
         match self {
             Mentioned::Any => return Ok(()),
@@ -144,6 +155,7 @@ impl Mentioned {
     pub(crate) fn add_text(&mut self, alloc: Global, name: &str) -> Result<(), AllocError>
         ensures kept { OnOk result (HasAll self.old self.new) }
         ensures added { OnOk result (IsTrue (is_mentioned self.new name.now)) }
+        ensures only { OnOk result (AddsOnly self.old name.now self.new) }
     {
         let text = String::from_str(alloc, name)?;
         self.add(Rc::new(alloc, text)?)

@@ -57,6 +57,10 @@ impl Mentioned {
                 self.add_code(alloc, code)?;
                 self.add_part(lists, *part)
             }
+            PlanNode::Transformed(_, code, part) => {
+                self.add_code(alloc, code)?;
+                self.add_part(lists, *part)
+            }
             PlanNode::Switching(_, first, pattern, body) => {
                 self.add_part(lists, *first)?;
                 let within = inside(alloc, lists, *body, Binder::Pattern(exprs.placed(*pattern)))?;

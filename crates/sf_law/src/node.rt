@@ -1,7 +1,4 @@
 //! Nodes of an arena of plans.
-ghost use Rattle.std.specs.Prelude.{◌≡◌, false};
-ghost use Rattle.std.specs.List.{list_all};
-ghost use Rattle.sf_law.specs.Entries.{argument_within, is_within};
 
 use sf_code::OpenCode;
 use sf_expr::{ConstantId, ExprId, FunctionId, NameId, PatternId};
@@ -105,42 +102,12 @@ pub enum PlanNode {
     Sided(Side, PlanId),
     /// A term with an expression at its head, and the code that is run for the expression.
     Headed(Heading, ExprId, OpenCode, PlanId),
+    /// A term with a function at its head, and the code that is run for the function.
+    Transformed(FunctionId, OpenCode, PlanId),
     /// A term that waits for its event, and the body that takes over inside a pattern.
     Switching(Switching, PlanId, PatternId, PlanId),
     /// A term and its observer, and the body that takes over inside a name and a pattern.
     Keeping(Observation, PlanId, PlanId, NameId, PatternId, PlanId),
     /// Two or more stages, each before the others.
     Pipeline(Vec<PlanId>),
-}
-
-impl PlanNode {
-    // Whether no process begins anew in it.
-    pub(crate) fn goes_on(&self) -> bool
-        ensures { result ≡ is_within false self.now }
-    {
-        match self {
-            PlanNode::Started(start, _) => matches!(start, Start::Run),
-            PlanNode::Call(_, _, arguments) => all_go_on(arguments),
-            _ => true,
-        }
-    }
-}
-
-impl PlanArgument {
-    // Whether it is no process that begins anew.
-    pub(crate) fn goes_on(&self) -> bool
-        ensures { result ≡ argument_within false self.now }
-    {
-        match self {
-            PlanArgument::Started(start, _) => matches!(start, Start::Run),
-            PlanArgument::Value(_, _) | PlanArgument::Closed(_) => true,
-        }
-    }
-}
-
-// Whether none of them is a process that begins anew.
-fn all_go_on(arguments: &[PlanArgument]) -> bool
-    ensures { result ≡ list_all (argument_within false) arguments.now }
-{
-    arguments.iter().all(|argument| argument.goes_on())
 }

@@ -1,5 +1,5 @@
 //! The plan that is the network itself.
-ghost use Rattle.std.specs.Prelude.{◌≡◌, false, List, map, All, IsTrue, IfOk, OnOk};
+ghost use Rattle.std.specs.Prelude.{◌≡◌, List, map, All, IsTrue, IfOk, OnOk};
 ghost use Rattle.std.specs.List.{AllZip};
 ghost use Rattle.sf_expr.specs.Arena.{function_at, placed_at, HoldsPattern, Keeps};
 ghost use Rattle.sf_expr.specs.Patterns.{placed_name};
@@ -9,9 +9,10 @@ ghost use Rattle.sf_code.specs.Worth.{IsCodeOfFunction};
 ghost use Rattle.sf_refusal.specs.declared.spot.Spot.{Spot};
 ghost use Rattle.sf_law.specs.Headers.{PlanHeader};
 ghost use Rattle.sf_law.specs.Entries.{IsCodedPrimitive, IsCodedArgument, IsCoded, calls_first};
-ghost use Rattle.sf_law.specs.Arena.{plan_expressions, plan_anew, node_count, plan_headers};
+ghost use Rattle.sf_law.specs.Arena.{plan_expressions, plan_asked, node_count, plan_headers};
 ghost use Rattle.sf_law.specs.Copies.{plan_id as id_of, named_process, CopiesArgument, CopiesPrimitive, CopiesNode, CopiesParameter, CopiesTemplate, ShowsTerms};
 ghost use Rattle.sf_law.specs.Plans.{IsPlainPlan};
+ghost use Rattle.sf_law.specs.declared.mentioned.Mentioned.TheVariants.{Any as any_name};
 
 use crate::node::{PlanArgument, PlanId, PlanNode, PlanPrimitive};
 use crate::plan::Plan;
@@ -41,7 +42,7 @@ pub fn plain(alloc: Global, checked: &Checked) -> Result<Plan, AllocError>
 /// A plan with the expressions and the templates of a program, and no term yet.
 pub fn empty_plan(alloc: Global, program: &Program) -> Result<Plan, AllocError>
     ensures empty { IfOk result (λ plan. node_count plan ≡ 0) }
-    ensures anew { IfOk result (λ plan. plan_anew plan ≡ false) }
+    ensures asked { IfOk result (λ plan. plan_asked plan ≡ any_name) }
     ensures kept { IfOk result (λ plan. Keeps (program_expressions program.now) (plan_expressions plan)) }
     ensures copied { IfOk result (λ plan. AllZip (CopiesTemplate (plan_expressions plan)) (program_headers program.now) (plan_headers plan)) }
 {
@@ -175,6 +176,10 @@ fn plan_node(
         Node::Headed(heading, value, part) => {
             let code = expression_code(alloc, exprs, value)?;
             Ok(PlanNode::Headed(heading, value, code, plan_id(part)))
+        }
+        Node::Transformed(function, part) => {
+            let head = function_code(alloc, exprs, function)?;
+            Ok(PlanNode::Transformed(function, head, plan_id(part)))
         }
         Node::Switching(form, source, pattern, body) => {
             let source = plan_id(source);

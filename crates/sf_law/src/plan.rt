@@ -1,5 +1,5 @@
 //! Plans.
-ghost use Rattle.std.specs.Prelude.{◌≡◌, ◌≤◌, true, false, cond, All, IsTrue, IfOk, OnOk, OnErr};
+ghost use Rattle.std.specs.Prelude.{◌≡◌, ◌≤◌, All, IsTrue, IfOk, OnOk, OnErr};
 ghost use Rattle.sf_term.specs.declared.form.Bare.TheVariants.{Identity as identity_form};
 ghost use Rattle.sf_law.specs.declared.node.PlanPrimitive.TheVariants.{Bare as bare_node};
 ghost use Rattle.sf_law.specs.declared.node.PlanNode.TheVariants.{Primitive as primitive_node};
@@ -8,17 +8,21 @@ ghost use Rattle.std.specs.Prelude.{map, length, option_map};
 ghost use Rattle.sf_law.specs.Headers.{place_named, rebodied, NumbersFirst, no_header};
 ghost use Rattle.sf_law.specs.Places.{last_parameter, names_of_parameters, ArePlaces};
 ghost use Rattle.sf_law.specs.Mentioned.{AreCovered, MayCover};
-ghost use Rattle.sf_law.specs.Entries.{ArePlanNodes, AreWithin, BindsNames, IsCoded, is_whole, is_within, calls_first, parts_end};
+ghost use Rattle.sf_law.specs.Entries.{ArePlanNodes, BindsNames, IsCoded, is_whole, calls_first, parts_end};
+ghost use Rattle.sf_law.specs.Asking.{AreAsked, is_asked};
+ghost use Rattle.sf_law.specs.declared.mentioned.Mentioned.TheVariants.{Any as any_name};
+ghost use Rattle.sf_expr.specs.Arena.{name_at};
 ghost use Rattle.sf_law.specs.Unique.{IsCoded-prop, BindsNames-prop, ArePlaces-prop};
 ghost use Rattle.std.proofs.Props.{props};
 
+use crate::asked::asked_names;
 use crate::mentioned::Mentioned;
 use crate::mentions::mentions_of;
 use crate::node::{PlanId, PlanNode, PlanPrimitive, TemplateId};
 use crate::places::{all_places, place_in};
 use crate::template::{PlanTemplate, first_templates, put_bodies};
 use indexmap::IndexMap;
-use sf_expr::Exprs;
+use sf_expr::{Exprs, NameId};
 use sf_term::Bare;
 use sf_value::Ty;
 use std::alloc::{AllocError, Global};
@@ -32,12 +36,12 @@ pub struct Plan {
     numbers: IndexMap<String, usize>,
     places: Vec<BTreeMap<String, usize>>,
     main: PlanId,
-    anew: bool,
+    asked: Mentioned,
     mentions: Vec<Mentioned>,
     identity: PlanNode,
     absent: PlanTemplate,
     ghost arena: { ArePlanNodes expressions templates.items nodes.items } by { Prim.hlevel (props, IsCoded-prop) },
-    ghost within: { AreWithin anew nodes.items },
+    ghost enough: { AreAsked expressions templates.items asked nodes.items },
     ghost few: { length mentions.items ≤ length nodes.items },
     ghost covered: { AreCovered expressions nodes.items mentions.items },
     ghost bound: { All (BindsNames expressions) templates.items } by { Prim.hlevel (props, BindsNames-prop) },
@@ -56,7 +60,7 @@ impl Drop for Plan {
             numbers,
             places,
             main: _,
-            anew: _,
+            asked,
             mentions,
             identity,
             absent,
@@ -66,6 +70,7 @@ impl Drop for Plan {
         drop(templates);
         drop(numbers);
         drop(places);
+        drop(asked);
         drop(mentions);
         drop(identity);
         drop(absent);
@@ -74,10 +79,10 @@ impl Drop for Plan {
 
 impl Plan {
     ghost use Rattle.sf_law.specs.declared.node.PlanId.{PlanId as PlanIdOf};
-    ghost use Rattle.sf_law.specs.Arena.{plan_expressions, plan_anew, node_count, plan_node_at, plan_tree, plan_headers, plan_main};
-    ghost use Rattle.sf_law.specs.Arena.{plan_number, template_number, header_at, BuildsPlan, KeepsPlan, AddsNode};
+    ghost use Rattle.sf_law.specs.Arena.{plan_expressions, plan_asked, plan_asks, node_count, plan_node_at, plan_tree, plan_headers, plan_main};
+    ghost use Rattle.sf_law.specs.Arena.{plan_number, template_number, header_at, AsksOnly, BuildsPlan, KeepsPlan, AddsNode};
 
-    /// A plan over these expressions, with these templates and no term yet.
+    /// A plan over these expressions, with these templates and no term yet. It asks for any name.
     pub(crate) fn new(
         alloc: Global,
         expressions: Exprs,
@@ -87,7 +92,7 @@ impl Plan {
         ensures expressions { IfOk result (λ plan. plan_expressions plan ≡ expressions) }
         ensures nodes { IfOk result (λ plan. node_count plan ≡ 0) }
         ensures templates { IfOk result (λ plan. plan_headers plan ≡ templates.items) }
-        ensures anew { IfOk result (λ plan. plan_anew plan ≡ false) }
+        ensures asked { IfOk result (λ plan. plan_asked plan ≡ any_name) }
     {
         let numbers = first_templates(alloc, &templates)?;
         let places = all_places(alloc, &expressions, &templates)?;
@@ -98,38 +103,30 @@ impl Plan {
             numbers,
             places,
             main: PlanId(0),
-            anew: false,
+            asked: Mentioned::Any,
             mentions: Vec::new(alloc),
             identity: PlanNode::Primitive(PlanPrimitive::Bare(Bare::Identity)),
             absent: PlanTemplate::absent(alloc),
         })
     }
 
-    /// Puts a term behind the others. A refused call changes nothing.
+    /// Puts a term behind the others, and asks for any name. A refused call changes nothing.
     pub fn add(&mut self, node: PlanNode) -> Result<PlanId, AllocError>
         requires held { parts_end node ≤ node_count self.old }
         requires whole { IsTrue (is_whole node) }
         requires coded { IsCoded (plan_expressions self.old) node }
         requires called { IsTrue (calls_first (plan_expressions self.old) (plan_headers self.old) node) }
         ensures ok { IfOk result (λ id. AddsNode self.old self.new id node) }
-        ensures err { OnErr result ((node_count self.new ≡ node_count self.old) × (plan_anew self.new ≡ plan_anew self.old)) }
+        ensures err { OnErr result ((node_count self.new ≡ node_count self.old) × (plan_asked self.new ≡ plan_asked self.old)) }
         ensures kept { KeepsPlan self.old self.new }
         ensures templates { plan_headers self.new ≡ plan_headers self.old }
         ensures main { plan_main self.new ≡ plan_main self.old }
-        ensures anew { OnOk result (plan_anew self.new ≡ cond (is_within false node) (plan_anew self.old) true) }
+        ensures asked { OnOk result (plan_asked self.new ≡ any_name) }
     {
         let id = PlanId(self.nodes.len());
-        let anew = self.anew_with(&node);
         self.nodes.push(node)?;
-        self.anew = anew;
+        self.asked = Mentioned::Any;
         Ok(id)
-    }
-
-    // Whether a process may begin anew in the plan or in this node.
-    fn anew_with(&self, node: &PlanNode) -> bool
-        ensures { result ≡ cond (is_within false node.now) (plan_anew self.now) true }
-    {
-        if node.goes_on() { self.anew } else { true }
     }
 
     /// The first template of a name; an id that the plan does not hold where none has it.
@@ -146,7 +143,7 @@ impl Plan {
     #[tactic(auto, unfolding(crate::specs::Arena::plan_tree))]
     pub fn with_main(self, main: PlanId) -> Plan
         ensures main { plan_main result ≡ main }
-        ensures anew { plan_anew result ≡ plan_anew self }
+        ensures asked { plan_asked result ≡ plan_asked self }
         ensures trees { (a : PlanIdOf) → plan_tree result a ≡ plan_tree self a }
         ensures templates { plan_headers result ≡ plan_headers self }
         ensures expressions { plan_expressions result ≡ plan_expressions self }
@@ -163,7 +160,7 @@ impl Plan {
         ensures templates { plan_headers result ≡ map (rebodied bodies.now (node_count self)) (plan_headers self) }
         ensures trees { (a : PlanIdOf) → plan_tree result a ≡ plan_tree self a }
         ensures nodes { node_count result ≡ node_count self }
-        ensures anew { plan_anew result ≡ plan_anew self }
+        ensures asked { plan_asked result ≡ plan_asked self }
         ensures main { plan_main result ≡ plan_main self }
         ensures expressions { plan_expressions result ≡ plan_expressions self }
     {
@@ -173,18 +170,21 @@ impl Plan {
         plan
     }
 
-    /// The plan with lists of what its terms mention. The error is a want of memory.
+    /// The plan with lists of what its terms mention, and of the names for which it asks what their processes began as. The error
+    /// is a want of memory.
     #[tactic(auto, unfolding(crate::specs::Arena::plan_tree))]
     pub fn with_mentions(self, alloc: Global) -> Result<Plan, AllocError>
         ensures main { IfOk result (λ plan. plan_main plan ≡ plan_main self) }
-        ensures anew { IfOk result (λ plan. plan_anew plan ≡ plan_anew self) }
+        ensures asked { IfOk result (λ plan. AsksOnly plan (plan_asked plan)) }
         ensures trees { IfOk result (λ plan. (a : PlanIdOf) → plan_tree plan a ≡ plan_tree self a) }
         ensures templates { IfOk result (λ plan. plan_headers plan ≡ plan_headers self) }
         ensures expressions { IfOk result (λ plan. plan_expressions plan ≡ plan_expressions self) }
     {
         let mentions = mentions_of(alloc, &self)?;
+        let asked = asked_names(alloc, &self)?;
         let mut plan = self;
         plan.mentions = mentions;
+        plan.asked = asked;
         Ok(plan)
     }
 
@@ -206,13 +206,13 @@ impl Plan {
     }
 
     /// The node at an id, with the ids of its parts; the identity at an id that the plan does not hold.
-    #[tactic(auto, using(crate::proofs::Kept::builds, crate::proofs::Kept::parts_below, crate::proofs::Kept::parts_held, crate::proofs::Kept::within_held), unfolding(crate::specs::Arena::plan_node_at))]
+    #[tactic(auto, using(crate::proofs::Kept::builds, crate::proofs::Kept::parts_below, crate::proofs::Kept::parts_held, crate::proofs::Kept::asked_held), unfolding(crate::specs::Arena::plan_node_at))]
     pub fn node(&self, id: PlanId) -> &PlanNode
         ensures value { result.now ≡ plan_node_at self.now id }
         ensures builds { BuildsPlan self.now result.now (plan_tree self.now id) }
         ensures below { parts_end result.now ≤ plan_number id }
         ensures held { parts_end result.now ≤ node_count self.now }
-        ensures within { IsTrue (is_within (plan_anew self.now) result.now) }
+        ensures asked { IsTrue (is_asked (plan_expressions self.now) (plan_headers self.now) (plan_asks self.now) result.now) }
     {
         match self.nodes.get(id.0) {
             Some(node) => node,
@@ -255,11 +255,11 @@ impl Plan {
         &self.expressions
     }
 
-    /// Whether a process may begin anew in it: where none does, what processes began as need not be kept.
-    pub fn begins_anew(&self) -> bool
-        ensures { result ≡ plan_anew self.now }
+    /// Whether it may ask what a process of this name began as: where it doesn't, that need not be kept.
+    pub fn asks(&self, name: NameId) -> bool
+        ensures { result ≡ plan_asks self.now (name_at (plan_expressions self.now) name) }
     {
-        self.anew
+        self.asked.has(self.expressions.name_of(name))
     }
 
     /// The term that is run.

@@ -6,7 +6,7 @@ use Rattle.sf_value.specs.Values.{Name, Kind, unit_kind, bool_kind, int_kind, te
 use Rattle.sf_operator.specs.Kinds.{same_kind, only, parts_of, payload_of}
 use Rattle.sf_operator.proofs.SameKinds.{same_is, is_same, found_is, only_is, parts_is, payload_is}
 use Rattle.sf_func.specs.Registries.{TypesByName}
-use Rattle.sf_expr.specs.Expressions.{Pattern, Expression}
+use Rattle.sf_expr.specs.Expressions.{Pattern, Expression, Function}
 use Rattle.sf_expr.specs.Typing.{Names, typed_name, Fits, HasType, AddsNames, adds_nothing, adds_name, adds_both, Binds}
 use Rattle.sf_expr.specs.Inference.{found_then, fitting, names_bound, expression_type, function_output}
 use Rattle.sf_expr.proofs.Inferred.{test_fits, fits_test, bound_found, found_bound, fitting_is, fitting_found, found_typed, typed_found, output_takes, takes_output}
@@ -16,15 +16,15 @@ use Rattle.sf_term.specs.declared.form.Join.{Join}
 use Rattle.sf_term.specs.declared.form.Join.TheVariants.{InSequence, InParallel, FannedOut}
 use Rattle.sf_term.specs.declared.form.Side.{Side}
 use Rattle.sf_term.specs.declared.form.Side.TheVariants.{First, Second}
-use Rattle.sf_term.specs.declared.form.Heading.TheVariants.{LoopPre, Initialized, Replaced}
-use Rattle.sf_term.specs.Trees.{Chain, lone, chained, on_side, on_both, fanned, Primitive, bare, probe, never, with_value, timed, selected, arrow, accumulated, fused, Extent, Term, primitive, Reference, reference, started, call, Arguments, no_arguments, value_argument, process_argument, closed_argument, joined, sided, headed, switching, keeping, staged}
+use Rattle.sf_term.specs.declared.form.Heading.TheVariants.{LoopPre, Initialized, Replaced, Followed}
+use Rattle.sf_term.specs.Trees.{Chain, lone, chained, on_side, on_both, fanned, Primitive, bare, probe, never, with_value, timed, selected, arrow, accumulated, fused, Extent, Term, primitive, Reference, reference, started, call, Arguments, no_arguments, value_argument, process_argument, closed_argument, joined, sided, headed, transformed, switching, keeping, staged}
 use Rattle.sf_term.specs.Parameters.{NameKind, value, process, Bindings}
 use Rattle.sf_term.specs.declared.form.Observation.{Observation}
 use Rattle.sf_term.specs.declared.form.Start.{Start}
 use Rattle.sf_term.specs.declared.form.Switching.TheVariants.{Basic, Recurring}
 use Rattle.sf_mean.specs.Contexts.{Signature, signature_named, values_in, bindings_inside, Context, names_of_values, inside_pattern, inside_process, process_named}
-use Rattle.sf_mean.specs.Typing.{ChainTakes, lone_takes, chained_takes, on_first_takes, on_second_takes, on_both_takes, fanned_takes, bare_kind, value_kind, accumulated_argument, accumulated_kind, takes_input, takes_time, timed_kind, takes_number, selected_kind, PrimitiveTakes, bare_takes, probe_takes, never_takes, value_takes, timed_takes, selected_takes, accumulated_takes, arrow_takes, fused_takes, Takes, takes, FormTakes, primitive_takes, started_takes, call_takes, ArgumentsFit, no_argument_fits, value_fits, process_fits, closed_fits, sequence_takes, parallel_takes, fan_takes, first_takes, second_takes, loop_takes, initialized_takes, replaced_takes, switch_takes, keeping_takes, recurring_takes, stages_take}
-use Rattle.sf_mean.specs.Inference.{Finds, both_outputs, join_output, side_output, first_beside, heading_output, body_output, switch_output, keeping_output, process_output, chain_output, primitive_output, with_fitting, is_found, value_is_argument, process_is_argument, call_output, form_output, reference_output, arguments_fit, term_output}
+use Rattle.sf_mean.specs.Typing.{ChainTakes, lone_takes, chained_takes, on_first_takes, on_second_takes, on_both_takes, fanned_takes, bare_kind, value_kind, accumulated_argument, accumulated_kind, takes_input, takes_time, timed_kind, takes_number, selected_kind, PrimitiveTakes, bare_takes, probe_takes, never_takes, value_takes, timed_takes, selected_takes, accumulated_takes, arrow_takes, fused_takes, Takes, takes, FormTakes, primitive_takes, started_takes, call_takes, ArgumentsFit, no_argument_fits, value_fits, process_fits, closed_fits, sequence_takes, parallel_takes, fan_takes, first_takes, second_takes, loop_takes, initialized_takes, replaced_takes, followed_takes, transformed_takes, switch_takes, keeping_takes, recurring_takes, stages_take}
+use Rattle.sf_mean.specs.Inference.{Finds, both_outputs, join_output, side_output, first_beside, heading_output, transformed_output, body_output, switch_output, keeping_output, process_output, chain_output, primitive_output, with_fitting, is_found, value_is_argument, process_is_argument, call_output, form_output, reference_output, arguments_fit, term_output}
 
 -- ## Types of pairs
 
@@ -266,6 +266,20 @@ replaced Γ e t F a b (Some c) h k =
     replaced_takes (subst (HasType (names_of_values Γ) e) same.0 (found_typed (names_of_values Γ) e c h)) (F a b same.1)
 replaced Γ e t F a b None h k = absurd cc
 
+followed : (Γ : Context) (e : Expression) (t : Term) → ((a b : Kind) → term_output Γ t a ≡ Some b → Takes Γ t a b) → (a b : Kind) (o : Option Kind) → expression_type (names_of_values Γ) e ≡ o → heading_output Followed o (term_output Γ t) a ≡ Some b → FormTakes Γ (headed Followed e t) a b
+followed Γ e t F a b (Some c) h k =
+    let made = found_is (term_output Γ t a) (λ b. only b c (Some b)) k in
+    let same = only_is made.0 c (Some made.0) made.2 in
+    let is : made.0 ≡ b = same_some same.1 in
+    followed_takes (subst (HasType (names_of_values Γ) e) (sym same.0 ∙ is) (found_typed (names_of_values Γ) e c h)) (F a b (made.1 ∙ ap Some is))
+followed Γ e t F a b None h k = absurd cc
+
+changed_first : (Γ : Context) (f : Function) (t : Term) → ((a b : Kind) → term_output Γ t a ≡ Some b → Takes Γ t a b) → (a b : Kind) (o : Option Kind) → function_output (names_of_values Γ) f a ≡ o → transformed_output o (term_output Γ t) a ≡ Some b → FormTakes Γ (transformed f t) a b
+changed_first Γ f t F a b (Some c) h k =
+    let same = only_is c a (term_output Γ t a) k in
+    transformed_takes (output_takes (names_of_values Γ) f a a (h ∙ ap Some same.0)) (F a b same.1)
+changed_first Γ f t F a b None h k = absurd cc
+
 stages : (Γ : Context) (x : Extent) (f g : Term) {a b : Kind} → ((a b : Kind) → term_output Γ f a ≡ Some b → Takes Γ f a b) → ((a b : Kind) → term_output Γ g a ≡ Some b → Takes Γ g a b) → Went (term_output Γ f) (term_output Γ g) a b → FormTakes Γ (staged x f g) a b
 stages Γ x f g F G (went h k) = stages_take (F _ _ h) (G _ _ k)
 
@@ -389,6 +403,8 @@ mutual
   form_found Γ (headed LoopPre e t) a b h = looped Γ e t (within Γ t (form_found Γ t)) a b (expression_type (names_of_values Γ) e) refl h
   form_found Γ (headed Initialized e t) a b h = initialized Γ e t (within Γ t (form_found Γ t)) a b (expression_type (names_of_values Γ) e) refl h
   form_found Γ (headed Replaced e t) a b h = replaced Γ e t (within Γ t (form_found Γ t)) a b (expression_type (names_of_values Γ) e) refl h
+  form_found Γ (headed Followed e t) a b h = followed Γ e t (within Γ t (form_found Γ t)) a b (expression_type (names_of_values Γ) e) refl h
+  form_found Γ (transformed f t) a b h = changed_first Γ f t (within Γ t (form_found Γ t)) a b (function_output (names_of_values Γ) f a) refl h
   form_found Γ (switching (Basic w) t p u) a b h = switches Γ w t p u (within Γ t (form_found Γ t)) (λ Δ. within Δ u (form_found Δ u)) a b h
   form_found Γ (switching (Recurring w) t p u) a b h = recurs Γ w t p u (within Γ t (form_found Γ t)) (λ Δ. within Δ u (form_found Δ u)) a b h
   form_found Γ (keeping w t q k p u) a b h = keepings Γ w t q k p u (within Γ t (form_found Γ t)) (within Γ q (form_found Γ q)) (λ Δ. within Δ u (form_found Δ u)) a b h
@@ -449,6 +465,10 @@ mutual
       ap (λ o. heading_output Initialized o (term_output Γ t) a) (typed_found E) ∙ ap (λ o. found_then o (λ d. only d b (Some d))) (takes_found F) ∙ ap (λ s. cond s (Some b) None) (is_same b)
   form_is {Γ} f (replaced_takes {t = t} {a = a} E F) =
       ap (λ o. heading_output Replaced o (term_output Γ t) a) (typed_found E) ∙ ap (λ s. cond s (term_output Γ t a) None) (is_same a) ∙ takes_found F
+  form_is {Γ} f (followed_takes {t = t} {a = a} {b = b} E F) =
+      ap (λ o. heading_output Followed o (term_output Γ t) a) (typed_found E) ∙ ap (λ o. found_then o (λ d. only d b (Some d))) (takes_found F) ∙ ap (λ s. cond s (Some b) None) (is_same b)
+  form_is {Γ} f (transformed_takes {t = t} {a = a} G F) =
+      ap (λ o. transformed_output o (term_output Γ t) a) (takes_output G) ∙ ap (λ s. cond s (term_output Γ t a) None) (is_same a) ∙ takes_found F
   form_is {Γ} f (switch_takes {u = u} {p = p} {a = a} {b = b} {c = c} F B G) =
       ap (λ o. found_then (found_then o parts_of) (λ k. found_then (payload_of k.1) (λ c. body_output Γ p (λ Δ. term_output Δ u) c a k.0))) (takes_found F)
       ∙ body_found Γ u a (part_fits b c (output_fits F)) B (takes_found G)

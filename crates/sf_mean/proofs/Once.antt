@@ -4,13 +4,13 @@ use mathlib.Core.Path.{ap₂, subst₂}
 use Rattle.sf_value.specs.Values.{Data, pair, first_of, second_of}
 use Rattle.sf_value.specs.declared.fault.ValueFault.{ValueFault}
 use Rattle.sf_value.specs.declared.fault.ValueFault.TheVariants.{Overflow}
-use Rattle.sf_expr.specs.Evaluation.{Evaluated, answer, failed}
+use Rattle.sf_expr.specs.Evaluation.{Evaluated, answer, failed, eval}
 use Rattle.sf_term.specs.declared.form.Join.TheVariants.{InSequence}
 use Rattle.sf_term.specs.declared.form.Observation.{Observation}
 use Rattle.sf_term.specs.Trees.{Term}
-use Rattle.sf_mean.specs.Lives.{Step, input_of, Life, Process, closure, Environment, relay, observed_life, fed}
+use Rattle.sf_mean.specs.Lives.{Step, input_of, Life, Process, closure, Environment, scope_around, relay, observed_life, fed}
 use Rattle.sf_mean.specs.Formulas.{at_first, occurring, with_side}
-use Rattle.sf_mean.specs.Meaning.{Network, Outcome, gave, faulted, changed, combined, value_in, Cost, both_costs, over, over_first, Made, nothing_made, right_life, join_value, Watched, itself, observed, Takeover, Standing, waits, fired, stands_after, switched_value, body_of, whenever, body_with, Gives, gives, Outputs, not_begun, and_gave, Sample, of_constants, of_form, of_resumed, Form, of_primitive, of_reference, of_join, of_side, of_loop, of_initialized, of_replaced, of_switch, of_keeping, of_recurring, of_stages, over_stages, event_beside, unless_faulted, without_event, Next, goes_on, stops, Loops, no_loop, and_looped, Sees, beside_values, by_observer, Since, at_start, watched, had_fired, SwitchTurn, while_waiting, as_body, Switched, after_fault, after_value, Fires, no_event_yet, event_now}
+use Rattle.sf_mean.specs.Meaning.{Network, Outcome, gave, faulted, changed, combined, value_in, answered_by, newest_or, Cost, both_costs, over, over_first, Made, nothing_made, right_life, join_value, Watched, itself, observed, Takeover, Standing, waits, fired, stands_after, switched_value, body_of, whenever, body_with, Gives, gives, Outputs, not_begun, and_gave, Sample, of_constants, of_form, of_resumed, Form, of_primitive, of_reference, of_join, of_side, of_loop, of_initialized, of_replaced, of_followed, of_transformed, of_switch, of_keeping, of_recurring, of_stages, over_stages, event_beside, unless_faulted, without_event, Next, goes_on, stops, Loops, no_loop, and_looped, Sees, beside_values, by_observer, Since, at_start, watched, had_fired, SwitchTurn, while_waiting, as_body, Switched, after_fault, after_value, Fires, no_event_yet, event_now}
 
 -- two outcomes are one, at one cost
 abbrev pub Same : Outcome → Outcome → Cost → Cost → Type 0
@@ -66,6 +66,10 @@ module _ (n : Network) where
         (ap (changed first_of) q.0, ap over q.1)
     once_form (of_initialized {v = v} {L = L} A) (of_initialized B) = let q = once A B in (ap (changed (at_first L v)) q.0, ap over q.1)
     once_form (of_replaced A) (of_replaced B) = let q = once A B in (q.0, ap over q.1)
+    once_form (of_followed {i = i} {e = e} A B) (of_followed A' B') =
+        let q = once B B' in
+        (ap₂ (λ ys o. answered_by (newest_or (eval i (scope_around n.functions e)) ys) o) (onces A A') q.0, ap over q.1)
+    once_form (of_transformed A) (of_transformed B) = let q = once A B in (q.0, ap over q.1)
     once_form (of_switch {w = w} {t = t} {u = u} {p = p} {e = e} {s = s} {L = L} A B) (of_switch {o = b} {c = c} A' B') =
         let N : Standing → Type 0 = λ st. SwitchTurn n w (itself (closure t e)) (whenever (body_of p u e)) s L st b c in
         once_turn B (subst N (sym (once_since A A')) B')

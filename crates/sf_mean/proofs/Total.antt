@@ -3,22 +3,21 @@ use Rattle.std.proofs.Common.{ℕ, ◌≡◌, Bool, true, false, ◌&&◌, IsTru
 use Rattle.std.specs.Prelude.{bytes_eq}
 use Rattle.sf_value.specs.Values.{Name, Data, pair, first_of, second_of}
 use Rattle.sf_value.specs.declared.fault.ValueFault.{ValueFault}
-use Rattle.sf_expr.specs.Expressions.{Pattern, unnamed, named, both, Expression}
-use Rattle.sf_expr.specs.Evaluation.{Evaluated, answer, failed, ◌>>=◌, eval}
+use Rattle.sf_expr.specs.Expressions.{Pattern, unnamed, named, both, Expression, Function}
+use Rattle.sf_expr.specs.Evaluation.{Evaluated, answer, failed, ◌>>=◌, eval, apply}
 use Rattle.sf_term.specs.declared.form.Join.{Join}
 use Rattle.sf_term.specs.declared.form.Join.TheVariants.{InSequence, InParallel, FannedOut}
 use Rattle.sf_term.specs.declared.form.Side.{Side}
-use Rattle.sf_term.specs.declared.form.Heading.TheVariants.{LoopPre, Initialized, Replaced}
+use Rattle.sf_term.specs.declared.form.Heading.TheVariants.{LoopPre, Initialized, Replaced, Followed}
 use Rattle.sf_term.specs.declared.form.Observation.{Observation}
 use Rattle.sf_term.specs.declared.form.Start.{Start}
 use Rattle.sf_term.specs.declared.form.Start.TheVariants.{Run, Fresh}
 use Rattle.sf_term.specs.declared.form.Switching.TheVariants.{Basic, Recurring}
-use Rattle.sf_term.specs.declared.form.Heading.{Heading}
-use Rattle.sf_term.specs.Trees.{Extent, Term, primitive, reference, started, call, joined, sided, headed, switching, keeping, staged}
-use Rattle.sf_mean.specs.Lives.{Step, step, wait_of, input_of, Life, Process, closure, resumed, Environment, empty, known as known_name, running, process_of, base, process_started, passing, scope_around, bind, after, frozen, with_inputs, observed_life, fed, fed_back, older}
+use Rattle.sf_term.specs.Trees.{Extent, Term, primitive, reference, started, call, joined, sided, headed, transformed, switching, keeping, staged}
+use Rattle.sf_mean.specs.Lives.{Step, step, wait_of, input_of, Life, Process, closure, resumed, Environment, empty, known as known_name, running, process_of, base, process_started, passing, scope_around, bind, after, frozen, with_inputs, observed_life, fed, fed_back, older, first_input as input_at_first}
 use Rattle.sf_mean.specs.Formulas.{occurring, at_first, side_of, with_first}
 use Rattle.sf_mean.proofs.Refrozen.{frozen_base}
-use Rattle.sf_mean.specs.Meaning.{Network, Outcome, gave, faulted, Cost, Made, value_made, process_made, left_life, right_life, Watched, itself, observed, Takeover, Standing, waits, fired, stands_after, body_of, whenever, body_with, event_beside, or_earlier, last_event, kept_before, since_event, what_runs, unless_faulted, without_event, Gives, gives, Outputs, not_begun, and_gave, Sample, of_constants, of_form, of_resumed, Form, of_primitive, of_reference, of_join, of_side, of_loop, of_initialized, of_replaced, of_switch, of_keeping, of_recurring, of_stages, goes_on, stops, Loops, no_loop, and_looped, Sees, beside_values, by_observer, Since, at_start, watched, had_fired, SwitchTurn, while_waiting, as_body, after_fault, after_value, Fires, no_event_yet, event_now}
+use Rattle.sf_mean.specs.Meaning.{Network, Outcome, gave, faulted, Cost, Made, value_made, process_made, make, left_life, right_life, Watched, itself, observed, Takeover, Standing, waits, fired, stands_after, body_of, whenever, body_with, event_beside, or_earlier, last_event, kept_before, since_event, what_runs, unless_faulted, without_event, Gives, gives, Outputs, not_begun, and_gave, Sample, of_constants, of_form, of_resumed, Form, of_primitive, of_reference, of_join, of_side, of_loop, of_initialized, of_replaced, of_followed, of_transformed, of_switch, of_keeping, of_recurring, of_stages, goes_on, stops, Loops, no_loop, and_looped, Sees, beside_values, by_observer, Since, at_start, watched, had_fired, SwitchTurn, while_waiting, as_body, after_fault, after_value, Fires, no_event_yet, event_now}
 use Rattle.sf_mean.specs.Soundness.{is_without_calls, HasNoCalls, closed_without_calls, frozen_without_calls, HaveNoCalls, none_calls, value_without_calls, process_without_calls, HasLived, closed, was_frozen, HaveLived, none_lived, value_beside, process_lived}
 use Rattle.sf_mean.proofs.TypedProcesses.{made_in}
 use Rattle.sf_mean.proofs.Once.{not_both}
@@ -166,9 +165,9 @@ module _ (n : Network) where
   loop_lived k not_begun = looped no_loop (lived not_begun)
   loop_lived k (and_gave A B) = loop_at k B tt
 
-  no_fault : {h : Heading} {i : Expression} {t : Term} {e : Environment} {x : ValueFault} {s : Step} {L : Life} {q : Outcome} {c : Cost} → eval i (scope_around n.functions e) ≡ failed x → Sample n (closure (headed h i t) e) s L q c → IsGave q → ⊥
+  no_fault : {t : Term} {e : Environment} {x : ValueFault} {s : Step} {L : Life} {q : Outcome} {c : Cost} → make n t e (input_at_first s L) ≡ failed x → Sample n (closure t e) s L q c → IsGave q → ⊥
   no_fault k (of_constants h) z = z
-  no_fault k (of_form h F) z = absurd (let e = sym (ap opened k) ∙ h in cc)
+  no_fault k (of_form h F) z = absurd (let e = sym k ∙ h in cc)
 
   with_right : {j : Join} {f g : Term} {e : Environment} {s : Step} {L : Life} {ys : List Data} {y : Data} {r : _} {c : Cost} {zs : List Data}
       → Outputs n (closure f e) (left_life j L) ys → Gives n (closure f e) (left_life j (s ∷ L)) (gave y r) c → Outputs n (closure g e) (right_life j L ys) zs
@@ -190,8 +189,8 @@ module _ (n : Network) where
       → Has (closure t e) (step (wait_of s) (pair (input_of s) (fed_back v zs))) (fed v L (older zs)) → Has (closure (headed LoopPre i t) e) s L
   with_loop k A B (has S) = has (of_form (ap opened k) (of_loop A (gives B S)))
 
-  constants_fail : {h : Heading} {i : Expression} {t : Term} {e : Environment} {x : ValueFault} (s : Step) {L : Life} {ws : List Data} → eval i (scope_around n.functions e) ≡ failed x → Outputs n (closure (headed h i t) e) L ws → Has (closure (headed h i t) e) s L
-  constants_fail s k not_begun = has (of_constants (ap opened k))
+  constants_fail : {t : Term} {e : Environment} {x : ValueFault} (s : Step) {L : Life} {ws : List Data} → make n t e (input_at_first s L) ≡ failed x → Outputs n (closure t e) L ws → Has (closure t e) s L
+  constants_fail s k not_begun = has (of_constants k)
   constants_fail s k (and_gave A B) = absurd (no_fault k B tt)
 
   from_initialized : {i : Expression} {t : Term} {e : Environment} {m : Made} {s : Step} {L : Life} {q : Outcome} {c : Cost} → Form n (headed Initialized i t) e m s L q c → IsGave q → Lived (closure t e) (s ∷ L)
@@ -227,6 +226,39 @@ module _ (n : Network) where
   with_replaced : {i : Expression} {t : Term} {e : Environment} {v : Data} {s : Step} {L : Life} {us : List Data}
       → eval i (scope_around n.functions e) ≡ answer v → Outputs n (closure t e) (with_first v L) us → Has (closure t e) (step (wait_of s) (at_first L v (input_of s))) (with_first v L) → Has (closure (headed Replaced i t) e) s L
   with_replaced k A (has S) = has (of_form (ap opened k) (of_replaced (gives A S)))
+
+  from_followed : {i : Expression} {t : Term} {e : Environment} {m : Made} {s : Step} {L : Life} {q : Outcome} {c : Cost} → Form n (headed Followed i t) e m s L q c → IsGave q → Lived (closure t e) (s ∷ L)
+  from_followed (of_followed {o = gave y r} A B) h = whole B tt
+  from_followed (of_followed {o = faulted x} A B) h = absurd h
+
+  followed_at : {i : Expression} {t : Term} {e : Environment} {s : Step} {L : Life} {q : Outcome} {c : Cost} → Sample n (closure (headed Followed i t) e) s L q c → IsGave q → Lived (closure t e) (s ∷ L)
+  followed_at (of_constants h) i = absurd i
+  followed_at (of_form h F) i = from_followed F i
+
+  followed_lived : {i : Expression} {t : Term} {e : Environment} {L : Life} {ws : List Data} → Outputs n (closure (headed Followed i t) e) L ws → Lived (closure t e) L
+  followed_lived not_begun = lived not_begun
+  followed_lived (and_gave A B) = followed_at B tt
+
+  with_followed : {i : Expression} {t : Term} {e : Environment} {s : Step} {L : Life} {us : List Data} → Outputs n (closure t e) L us → Has (closure t e) s L → Has (closure (headed Followed i t) e) s L
+  with_followed A (has S) = has (of_form refl (of_followed A (gives A S)))
+
+  from_transformed : {f : Function} {t : Term} {e : Environment} {v : Data} {m : Made} {s : Step} {L : Life} {q : Outcome} {c : Cost} → m ≡ value_made v → Form n (transformed f t) e m s L q c → IsGave q → Lived (closure t e) (with_first v (s ∷ L))
+  from_transformed {t = t} {e = e} {v = v} k (of_transformed {v = w} {s = s} {L = L} {o = gave y r} B) h =
+      let N : Data → Type 0 = λ x. Lived (closure t e) (with_first x (s ∷ L)) in
+      subst N (ap (λ m. made_in v (answer m)) k) (whole B tt)
+  from_transformed k (of_transformed {o = faulted x} B) h = absurd h
+
+  transformed_at : {f : Function} {t : Term} {e : Environment} {v : Data} {s : Step} {L : Life} {q : Outcome} {c : Cost} → apply f (input_at_first s L) (scope_around n.functions e) ≡ answer v → Sample n (closure (transformed f t) e) s L q c → IsGave q → Lived (closure t e) (with_first v (s ∷ L))
+  transformed_at k (of_constants h) z = absurd z
+  transformed_at {v = v} k (of_form {m = m} h F) z = from_transformed (ap (λ q. made_of q m) (sym h ∙ ap opened k)) F z
+
+  transformed_lived : {f : Function} {t : Term} {e : Environment} {v : Data} (s : Step) {L : Life} {ws : List Data} → apply f (input_at_first s L) (scope_around n.functions e) ≡ answer v → Outputs n (closure (transformed f t) e) L ws → Lived (closure t e) (with_first v L)
+  transformed_lived s k not_begun = lived not_begun
+  transformed_lived s k (and_gave A B) = transformed_at k B tt
+
+  with_transformed : {f : Function} {t : Term} {e : Environment} {v : Data} {s : Step} {L : Life} {us : List Data} → apply f (input_at_first s L) (scope_around n.functions e) ≡ answer v → Outputs n (closure t e) (with_first v L) us
+      → Has (closure t e) (step (wait_of s) (at_first L v (input_of s))) (with_first v L) → Has (closure (transformed f t) e) s L
+  with_transformed k A (has S) = has (of_form (ap opened k) (of_transformed (gives A S)))
 
   -- ## Switches
 
@@ -457,18 +489,25 @@ module _ (n : Network) where
       elim (side_lived O) [ lived A ↦ with_part A (total t e h E _ _ _ A) ]
   total (headed LoopPre i t) e h E s L ws O =
       elim (known (eval i (scope_around n.functions e))) [
-        | refused x k ↦ constants_fail s k O
+        | refused x k ↦ constants_fail s (ap opened k) O
         | answered v k ↦ elim (loop_lived k O) [ looped A R ↦ elim R [ lived B ↦ with_loop k A B (total t e h E _ _ _ B) ] ]
       ]
   total (headed Initialized i t) e h E s L ws O =
       elim (known (eval i (scope_around n.functions e))) [
-        | refused x k ↦ constants_fail s k O
+        | refused x k ↦ constants_fail s (ap opened k) O
         | answered v k ↦ elim (initialized_lived O) [ lived A ↦ with_initial k A (total t e h E s L _ A) ]
       ]
   total (headed Replaced i t) e h E s L ws O =
       elim (known (eval i (scope_around n.functions e))) [
-        | refused x k ↦ constants_fail s k O
+        | refused x k ↦ constants_fail s (ap opened k) O
         | answered v k ↦ elim (replaced_lived k O) [ lived A ↦ with_replaced k A (total t e h E _ _ _ A) ]
+      ]
+  total (headed Followed i t) e h E s L ws O =
+      elim (followed_lived O) [ lived A ↦ with_followed A (total t e h E s L _ A) ]
+  total (transformed f t) e h E s L ws O =
+      elim (known (apply f (input_at_first s L) (scope_around n.functions e))) [
+        | refused x k ↦ constants_fail s (ap opened k) O
+        | answered v k ↦ elim (transformed_lived s k O) [ lived A ↦ with_transformed k A (total t e h E _ _ _ A) ]
       ]
   total (switching (Basic w) t p u) e h E s L ws O =
       let c = both_without (is_without_calls t) (is_without_calls u) h in

@@ -6,7 +6,7 @@ use Rattle.sf_expr.specs.Evaluation.{Evaluated}
 use Rattle.sf_expr.specs.Soundness.{Yields, yields, fails}
 use Rattle.sf_mean.specs.Lives.{Step, step, wait_of, input_of, Life, after, with_inputs, relay, observed_life, fed_back, older, fed, first_input}
 use Rattle.sf_mean.specs.Formulas.{at_first, with_first}
-use Rattle.sf_mean.specs.Meaning.{Readings, Outcome, gave, faulted, changed, combined, value_in, as_outcome}
+use Rattle.sf_mean.specs.Meaning.{Readings, Outcome, gave, faulted, changed, combined, value_in, as_outcome, answered_by, newest_or}
 use Rattle.sf_mean.specs.Soundness.{Have, have_nothing, have_more, LifeHas, no_steps, more_steps, OutcomeHas}
 use Rattle.sf_mean.proofs.TypedPrimitives.{first_has}
 
@@ -69,6 +69,16 @@ pub combined_has : {a b c : Kind} {f : Data → Data → Data} (o q : Outcome) �
 combined_has (gave y r) (gave z k) m h i = m y z h i
 combined_has (gave y r) (faulted x) m h i = tt
 combined_has (faulted x) q m h i = tt
+
+-- what stands in the place of an outcome's value, where it is of the type or a fault
+pub newest_is : {t : Kind} {q : Evaluated Data} {ys : List Data} → Yields t q → Have ys t → Yields t (newest_or q ys)
+newest_is h have_nothing = h
+newest_is h (have_more i k) = yields i
+
+pub answered_has : {t : Kind} {q : Evaluated Data} (o : Outcome) → Yields t q → OutcomeHas (answered_by q o) t
+answered_has (gave y r) (yields h) = h
+answered_has (gave y r) fails = tt
+answered_has (faulted x) h = tt
 
 -- a life of this type, unless there was a fault before
 abbrev pub LifeIf : Outcome → Life → Kind → Type 0

@@ -1,8 +1,7 @@
 -- What primitives give has the type that the tables of types say.
 use Rattle.std.proofs.Common.{cond, ℤ, ◌≡◌, ℕ, pos, [], ◌∷◌, Bool, true, false, Option, Some, None, sym, ◌∙◌, subst}
-use Rattle.std.specs.Prelude.{nat_le}
 use Rattle.std.proofs.lemmas.Option.{same_Some}
-use Rattle.sf_value.specs.Values.{Kind, unit_kind, bool_kind, int_kind, pair_kind, event_kind, Data, no_event, event, HasKind, has_unit, has_no_event, has_event}
+use Rattle.sf_value.specs.Values.{Kind, unit_kind, bool_kind, int_kind, event_kind, Data, no_event, event, HasKind, has_unit, has_no_event, has_event}
 use Rattle.sf_operator.specs.Outcomes.{Evaluated, answer, ◌>>=◌}
 use Rattle.sf_operator.specs.Answers.{Yields, yields, fails}
 use Rattle.sf_operator.specs.Kinds.{only, payload_of}

@@ -4,7 +4,7 @@ use Rattle.std.specs.Prelude.{⊤, bytes_eq, slice_get}
 use Rattle.std.proofs.lemmas.Option.{same_Some}
 use Rattle.sf_value.specs.Values.{Name, Kind, pair_kind, event_kind, Data, pair, HasKind, has_pair, first_of, second_of, has_no_event}
 use mathlib.Core.Path.{subst₂}
-use Rattle.sf_operator.specs.Kinds.{found_then, only, payload_of}
+use Rattle.sf_operator.specs.Kinds.{found_then, payload_of}
 use Rattle.sf_operator.proofs.SameKinds.{only_is, found_is}
 use Rattle.sf_operator.proofs.Yielding.{as_kind, yields_as}
 use Rattle.sf_func.specs.Registries.{TypesByName, AnswersByName, KeepTheirTypes}
@@ -19,15 +19,15 @@ use Rattle.sf_term.specs.declared.form.Observation.{Observation}
 use Rattle.sf_term.specs.declared.form.Start.{Start}
 use Rattle.sf_term.specs.declared.form.Start.TheVariants.{Run, Fresh}
 use Rattle.sf_term.specs.declared.form.Observation.TheVariants.{Immediate, Delayed}
-use Rattle.sf_term.specs.Trees.{Chain, Primitive, Term, primitive, reference, started, call, Arguments, joined, sided, headed, switching, keeping, staged, Template, Templates, template_named}
+use Rattle.sf_term.specs.Trees.{Chain, Primitive, Term, primitive, reference, started, call, Arguments, joined, sided, headed, transformed, switching, keeping, staged, Template, Templates, template_named}
 use Rattle.sf_mean.specs.Lives.{Step, wait_of, input_of, Life, Environment, scope_around, bind, Process, process_of, base, process_started, passing, closure, empty, known, frozen, first_input as input_at_first}
-use Rattle.sf_mean.specs.Formulas.{timed_formula, selected_formula, before, occurring, next_value, accumulation, event_where, accumulated_formula, value_formula, with_side, apply_chain, formula}
-use Rattle.sf_mean.specs.Meaning.{Network, Outcome, gave, faulted, recorded, Cost, Made, value_made, process_made, argument_process, argued, process_called, referred, make, Watched, itself, observed, Takeover, Standing, waits, fired, stands_after, switched_value, body_of, event_beside, or_earlier, last_event, kept_before, since_event, what_runs, unless_faulted, Gives, gives, Outputs, not_begun, and_gave, Sample, of_constants, of_form, of_resumed, Form, of_primitive, of_reference, of_join, of_side, of_loop, of_initialized, of_replaced, of_switch, of_keeping, of_recurring, of_stages, Next, goes_on, stops, Loops, no_loop, and_looped, Sees, beside_values, by_observer, Since, at_start, watched, had_fired, SwitchTurn, while_waiting, as_body, Switched, after_fault, after_value, Fires, no_event_yet, event_now}
+use Rattle.sf_mean.specs.Formulas.{timed_formula, occurring, next_value, accumulation, event_where, accumulated_formula, value_formula, with_side, apply_chain, formula}
+use Rattle.sf_mean.specs.Meaning.{Network, Outcome, gave, faulted, recorded, Cost, Made, value_made, process_made, argument_process, argued, process_called, referred, make, Watched, itself, observed, Takeover, Standing, waits, fired, stands_after, switched_value, body_of, event_beside, or_earlier, last_event, kept_before, since_event, what_runs, unless_faulted, Gives, gives, Outputs, not_begun, and_gave, Sample, of_constants, of_form, of_resumed, Form, of_primitive, of_reference, of_join, of_side, of_loop, of_initialized, of_replaced, of_followed, of_transformed, of_switch, of_keeping, of_recurring, of_stages, Next, goes_on, stops, Loops, no_loop, and_looped, Sees, beside_values, by_observer, Since, at_start, watched, had_fired, SwitchTurn, while_waiting, as_body, Switched, after_fault, after_value, Fires, no_event_yet, event_now}
 use Rattle.sf_mean.specs.Contexts.{Signature, signature_of, signature_named, parameters_inside, value, process, Bindings, bindings_inside, values_in, types_of_process, process_named, context_with, Context, names_of_values}
-use Rattle.sf_mean.specs.Typing.{accumulated_argument, accumulated_kind, ChainTakes, lone_takes, chained_takes, on_first_takes, on_second_takes, on_both_takes, fanned_takes, PrimitiveTakes, bare_takes, probe_takes, never_takes, value_takes, timed_takes, selected_takes, accumulated_takes, arrow_takes, fused_takes, Takes, takes, FormTakes, primitive_takes, started_takes, call_takes, ArgumentsFit, no_argument_fits, value_fits, process_fits, closed_fits, sequence_takes, parallel_takes, fan_takes, first_takes, second_takes, loop_takes, initialized_takes, replaced_takes, switch_takes, keeping_takes, recurring_takes, stages_take}
+use Rattle.sf_mean.specs.Typing.{accumulated_argument, accumulated_kind, ChainTakes, lone_takes, chained_takes, on_first_takes, on_second_takes, on_both_takes, fanned_takes, PrimitiveTakes, bare_takes, probe_takes, never_takes, value_takes, timed_takes, selected_takes, accumulated_takes, arrow_takes, fused_takes, Takes, takes, FormTakes, primitive_takes, started_takes, call_takes, ArgumentsFit, no_argument_fits, value_fits, process_fits, closed_fits, sequence_takes, parallel_takes, fan_takes, first_takes, second_takes, loop_takes, initialized_takes, replaced_takes, followed_takes, transformed_takes, switch_takes, keeping_takes, recurring_takes, stages_take}
 use Rattle.sf_mean.specs.Soundness.{NetworkIsTyped, Have, have_nothing, have_more, LifeHas, no_steps, more_steps, EnvironmentHas, has_nothing, has_value, has_process, ProcessTakes, closure_takes, resumed_takes, OutcomeHas}
 use Rattle.sf_mean.proofs.TypedPrimitives.{before_has, first_has, bare_typed, value_typed, timed_typed, selected_typed, event_comes, Comes, comes_none, comes_some, occurring_comes, event_has}
-use Rattle.sf_mean.proofs.TypedLives.{first_is, second_is, with_inputs_has, with_first_has, after_has, fed_has, outcome_is, changed_has, combined_has, LifeIf, life_if, beside_if, relay_if}
+use Rattle.sf_mean.proofs.TypedLives.{first_is, second_is, with_inputs_has, with_first_has, after_has, fed_has, first_input_has, outcome_is, changed_has, combined_has, newest_is, answered_has, LifeIf, life_if, beside_if, relay_if}
 
 -- expressions and functions have values of their types, or faults
 abbrev pub EvalsTyped : Type 0
@@ -148,6 +148,7 @@ argument_has K E (reference (call g vs)) T = closure_takes K E T
 argument_has K E (joined j f g) T = closure_takes K E T
 argument_has K E (sided d t) T = closure_takes K E T
 argument_has K E (headed h i t) T = closure_takes K E T
+argument_has K E (transformed f t) T = closure_takes K E T
 argument_has K E (switching w t p u) T = closure_takes K E T
 argument_has K E (keeping w t q k p u) T = closure_takes K E T
 argument_has K E (staged x f g) T = closure_takes K E T
@@ -339,6 +340,11 @@ module _ (n : Network) (eval_is : EvalsTyped) (apply_is : AppliesTyped) where
     form_has {fs = fs} {a = a} (of_replaced {v = v} A) q K E (replaced_takes I T) l =
         let i : HasKind v a = made_has (eval_is _ _ _ _ I (environment_scope n.functions fs K.functions E)) q in
         gives_has A (closure_takes K E T) (with_first_has i l)
+    form_has {fs = fs} (of_followed {o = o} A B) q K E (followed_takes I T) (more_steps i l) =
+        answered_has o (newest_is (eval_is _ _ _ _ I (environment_scope n.functions fs K.functions E)) (outputs_have A (closure_takes K E T) l))
+    form_has {fs = fs} {a = a} (of_transformed {v = v} A) q K E (transformed_takes F T) (more_steps {s = s} i l) =
+        let h : HasKind v a = made_has (apply_is _ _ _ _ _ _ F (first_input_has s i l) (environment_scope n.functions fs K.functions E)) q in
+        gives_has A (closure_takes K E T) (with_first_has h (more_steps {s = s} i l))
     form_has (of_switch S T) q K E (switch_takes A B U) (more_steps {s = s} i l) =
         let body : TakeoverHas n _ _ _ _ = λ s M v m h. closure_takes K (bind_has B.adds h E) U in
         turn_has T (itself_takes (closure_takes K E A)) body (more_steps {s = s} i l) (since_has S (itself_takes (closure_takes K E A)) body l)

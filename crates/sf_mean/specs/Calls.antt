@@ -1,13 +1,13 @@
 -- Which templates a term calls, and which templates reach which.
 use Rattle.std.specs.Prelude.{◌≡◌, Some}
 use Rattle.sf_value.specs.Values.{Name}
-use Rattle.sf_expr.specs.Expressions.{Pattern, Expression}
+use Rattle.sf_expr.specs.Expressions.{Pattern, Expression, Function}
 use Rattle.sf_term.specs.declared.form.Join.{Join}
 use Rattle.sf_term.specs.declared.form.Side.{Side}
 use Rattle.sf_term.specs.declared.form.Heading.{Heading}
 use Rattle.sf_term.specs.declared.form.Observation.{Observation}
 use Rattle.sf_term.specs.declared.form.Switching.{Switching}
-use Rattle.sf_term.specs.Trees.{Extent, Term, reference, call, Arguments, value_argument, process_argument, closed_argument, joined, sided, headed, switching, keeping, staged, Template, Templates, template_named}
+use Rattle.sf_term.specs.Trees.{Extent, Term, reference, call, Arguments, value_argument, process_argument, closed_argument, joined, sided, headed, transformed, switching, keeping, staged, Template, Templates, template_named}
 
 mutual
   -- A term calls the template of a name, outside the bodies of switches; the terms of arguments count.
@@ -18,6 +18,7 @@ mutual
     right_calls : {j : Join} {f g : Term} {h : Name} → Calls g h → Calls (joined j f g) h
     side_calls : {d : Side} {t : Term} {h : Name} → Calls t h → Calls (sided d t) h
     headed_calls : {w : Heading} {i : Expression} {t : Term} {h : Name} → Calls t h → Calls (headed w i t) h
+    transformed_calls : {f : Function} {t : Term} {h : Name} → Calls t h → Calls (transformed f t) h
     switch_calls : {w : Switching} {t u : Term} {p : Pattern} {h : Name} → Calls t h → Calls (switching w t p u) h
     source_calls : {w : Observation} {t q u : Term} {k : Name} {p : Pattern} {h : Name} → Calls t h → Calls (keeping w t q k p u) h
     observer_calls : {w : Observation} {t q u : Term} {k : Name} {p : Pattern} {h : Name} → Calls q h → Calls (keeping w t q k p u) h

@@ -9,8 +9,8 @@ use Rattle.sf_term.specs.declared.form.Join.TheVariants.{InSequence, InParallel,
 use Rattle.sf_term.specs.declared.form.Side.{Side}
 use Rattle.sf_term.specs.declared.form.Side.TheVariants.{First, Second}
 use Rattle.sf_term.specs.declared.form.Heading.{Heading}
-use Rattle.sf_term.specs.declared.form.Heading.TheVariants.{LoopPre, Initialized, Replaced}
-use Rattle.sf_term.specs.Trees.{Chain, lone, chained, on_side, on_both, fanned, Primitive, bare, probe, never, with_value, timed, selected, arrow, accumulated, fused, Term, primitive, Reference, reference, started, call, Arguments, no_arguments, value_argument, process_argument, closed_argument, joined, sided, headed, switching, keeping, staged}
+use Rattle.sf_term.specs.declared.form.Heading.TheVariants.{LoopPre, Initialized, Replaced, Followed}
+use Rattle.sf_term.specs.Trees.{Chain, lone, chained, on_side, on_both, fanned, Primitive, bare, probe, never, with_value, timed, selected, arrow, accumulated, fused, Term, primitive, Reference, reference, started, call, Arguments, no_arguments, value_argument, process_argument, closed_argument, joined, sided, headed, transformed, switching, keeping, staged}
 use Rattle.sf_term.specs.declared.form.Switching.{Switching}
 use Rattle.sf_term.specs.declared.form.Switching.TheVariants.{Basic, Recurring}
 use Rattle.sf_term.specs.Parameters.{NameKind, value, process, Bindings}
@@ -43,7 +43,7 @@ abbrev pub first_beside : Kind → Finds
 first_beside c a = found_then (parts_of a) (λ p. cond (same_kind c p.1) (Some p.0) None)
 
 -- the output of a part with a value of the type that was found: of one whose second output is fed back, of one whose first
--- value this one replaces, or of one whose first input it replaces
+-- value this one replaces, of one whose first input it replaces, or of one whose values it stands before
 abbrev pub heading_output : Heading → Option Kind → Finds → Finds
 heading_output LoopPre None f a = None
 heading_output LoopPre (Some c) f a = found_then (f (pair_kind a c)) (first_beside c)
@@ -51,6 +51,13 @@ heading_output Initialized None f a = None
 heading_output Initialized (Some c) f a = found_then (f a) (λ b. only b c (Some b))
 heading_output Replaced None f a = None
 heading_output Replaced (Some c) f a = only c a (f a)
+heading_output Followed None f a = None
+heading_output Followed (Some c) f a = found_then (f a) (λ b. only b c (Some b))
+
+-- the output of a part whose first input is made by a function with an output of the type that was found
+abbrev pub transformed_output : Option Kind → Finds → Finds
+transformed_output None f a = None
+transformed_output (Some c) f a = only c a (f a)
 
 -- the output of a switch's body, which is found under what its pattern binds for a payload, and has to be this one
 abbrev pub body_output : Context → Pattern → (Context → Finds) → (payload input output : Kind) → Option Kind
@@ -123,6 +130,7 @@ abbrev mutual
   form_output Γ (joined j f g) a = join_output j (with_fitting (form_output Γ f)) (with_fitting (form_output Γ g)) a
   form_output Γ (sided d t) a = side_output d (with_fitting (form_output Γ t)) a
   form_output Γ (headed h e t) a = heading_output h (expression_type (names_of_values Γ) e) (with_fitting (form_output Γ t)) a
+  form_output Γ (transformed f t) a = transformed_output (function_output (names_of_values Γ) f a) (with_fitting (form_output Γ t)) a
   form_output Γ (switching w t p u) a = switch_output Γ w p (with_fitting (form_output Γ t)) (λ Δ. with_fitting (form_output Δ u)) a
   form_output Γ (keeping w t q k p u) a = keeping_output Γ k p (with_fitting (form_output Γ t)) (with_fitting (form_output Γ q)) (λ Δ. with_fitting (form_output Δ u)) a
   form_output Γ (staged x f g) a = join_output InSequence (with_fitting (form_output Γ f)) (with_fitting (form_output Γ g)) a

@@ -3,16 +3,17 @@ use Rattle.std.specs.Prelude.{◌≡◌, ℕ, suc, ◌+◌, max, List, [], ◌�
 use Rattle.sf_value.specs.Values.{Name, Data, number, pair, first_of, second_of}
 use Rattle.sf_value.specs.declared.fault.ValueFault.{ValueFault}
 use Rattle.sf_func.specs.Registries.{AnswersByName}
-use Rattle.sf_expr.specs.Expressions.{Pattern, Expression}
-use Rattle.sf_expr.specs.Evaluation.{Evaluated, answer, failed, ◌>>=◌, eval}
+use Rattle.sf_expr.specs.Expressions.{Pattern, Expression, Function}
+use Rattle.sf_expr.specs.Evaluation.{Evaluated, answer, failed, ◌>>=◌, eval, apply}
 use Rattle.sf_term.specs.declared.form.Join.{Join}
 use Rattle.sf_term.specs.declared.form.Join.TheVariants.{InSequence, InParallel, FannedOut}
 use Rattle.sf_term.specs.declared.form.Side.{Side}
-use Rattle.sf_term.specs.declared.form.Heading.TheVariants.{LoopPre, Initialized, Replaced}
+use Rattle.sf_term.specs.declared.form.Heading.{Heading}
+use Rattle.sf_term.specs.declared.form.Heading.TheVariants.{LoopPre, Initialized, Replaced, Followed}
 use Rattle.sf_term.specs.declared.form.Observation.{Observation}
 use Rattle.sf_term.specs.declared.form.Observation.TheVariants.{Immediate, Delayed}
 use Rattle.sf_term.specs.declared.form.Switching.TheVariants.{Basic, Recurring}
-use Rattle.sf_term.specs.Trees.{Primitive, bare, probe, never, with_value, timed, selected, arrow, accumulated, fused, Extent, whole, rest, Term, primitive, Reference, reference, started, call, Arguments, no_arguments, value_argument, process_argument, closed_argument, joined, sided, headed, switching, keeping, staged, Template, Templates, template_named}
+use Rattle.sf_term.specs.Trees.{Primitive, bare, probe, never, with_value, timed, selected, arrow, accumulated, fused, Extent, whole, rest, Term, primitive, Reference, reference, started, call, Arguments, no_arguments, value_argument, process_argument, closed_argument, joined, sided, headed, transformed, switching, keeping, staged, Template, Templates, template_named}
 use Rattle.sf_term.specs.Parameters.{Bindings}
 use Rattle.sf_mean.specs.Lives.{Step, step, wait_of, input_of, Life, Process, closure, resumed, passing, Environment, empty, known, running, process_started, scope_around, bind, after, frozen, with_inputs, relay, observed_life, fed, first_input as input_at_first}
 use Rattle.sf_mean.specs.Formulas.{at_first, with_first, occurring, side_of, with_side, formula}
@@ -53,6 +54,16 @@ value_in (faulted x) = number (pos 0)
 abbrev pub as_outcome : Evaluated Data → Readings → Outcome
 as_outcome (answer v) r = gave v r
 as_outcome (failed x) r = faulted x
+
+-- an outcome with what was answered in the place of its value: after a fault that fault, else one that was answered
+abbrev pub answered_by : Evaluated Data → Outcome → Outcome
+answered_by a (gave y r) = as_outcome a r
+answered_by a (faulted x) = faulted x
+
+-- the newest of the values before, or at the first step what was answered
+abbrev pub newest_or : Evaluated Data → List Data → Evaluated Data
+newest_or a [] = a
+newest_or a (y ∷ ys) = answer y
 
 -- what a primitive records at a step: a probe the input, under its name
 abbrev pub recorded : Primitive → Step → Readings
@@ -110,6 +121,7 @@ abbrev mutual
   text_cost (joined j f g) = over (both_costs (text_cost f) (text_cost g))
   text_cost (sided d t) = over (text_cost t)
   text_cost (headed h e t) = over (text_cost t)
+  text_cost (transformed f t) = over (text_cost t)
   text_cost (switching w t p u) = over (text_cost t)
   text_cost (keeping w t q k p u) = over (both_costs (text_cost t) (text_cost q))
   text_cost (staged x f g) = over_stages x (both_costs (text_cost f) (text_cost g))
@@ -133,6 +145,7 @@ entered_cost (reference r) = one_term
 entered_cost (joined j f g) = text_cost (joined j f g)
 entered_cost (sided d t) = text_cost (sided d t)
 entered_cost (headed h i t) = text_cost (headed h i t)
+entered_cost (transformed f t) = text_cost (transformed f t)
 entered_cost (switching w t p u) = text_cost (switching w t p u)
 entered_cost (keeping w t q k p u) = text_cost (keeping w t q k p u)
 entered_cost (staged x f g) = text_cost (staged x f g)
@@ -155,6 +168,7 @@ argument_process (reference r) e = process_referred r e
 argument_process (joined j f g) e = closure (joined j f g) e
 argument_process (sided d t) e = closure (sided d t) e
 argument_process (headed h i t) e = closure (headed h i t) e
+argument_process (transformed f t) e = closure (transformed f t) e
 argument_process (switching w t p u) e = closure (switching w t p u) e
 argument_process (keeping w t q k p u) e = closure (keeping w t q k p u) e
 argument_process (staged x f g) e = closure (staged x f g) e
@@ -179,13 +193,22 @@ abbrev pub referred : Network → Reference → Environment → Evaluated Proces
 referred n (started w k) e = answer (process_started w k e)
 referred n (call g vs) e = process_called n.functions (template_named g n.templates) vs e
 
+-- what a form with a value at its head is made with, where that is its worth: `fby` with nothing, since its constant comes
+-- after its part
+abbrev pub head_made : Heading → Evaluated Data → Evaluated Made
+head_made LoopPre a = a >>= λ v. answer (value_made v)
+head_made Initialized a = a >>= λ v. answer (value_made v)
+head_made Replaced a = a >>= λ v. answer (value_made v)
+head_made Followed a = answer nothing_made
+
 -- What stands before a form's parts, evaluated at its first step. A primitive's constants are in its formula.
 abbrev pub make : Network → Term → Environment → Data → Evaluated Made
 make n (primitive p) e x = answer nothing_made
 make n (reference r) e x = referred n r e >>= λ P. answer (process_made P)
 make n (joined j f g) e x = answer nothing_made
 make n (sided d t) e x = answer nothing_made
-make n (headed h i t) e x = eval i (scope_around n.functions e) >>= λ v. answer (value_made v)
+make n (headed h i t) e x = head_made h (eval i (scope_around n.functions e))
+make n (transformed f t) e x = apply f x (scope_around n.functions e) >>= λ v. answer (value_made v)
 make n (switching w t p u) e x = answer nothing_made
 make n (keeping w t q k p u) e x = answer nothing_made
 make n (staged x f g) e y = answer nothing_made
@@ -345,6 +368,15 @@ mutual
     of_replaced : {i : Expression} {t : Term} {e : Environment} {v : Data} {s : Step} {L : Life} {o : Outcome} {c : Cost}
         → Gives n (closure t e) (with_first v (s ∷ L)) o c
         → Form n (headed Replaced i t) e (value_made v) s L o (over c)
+    -- `fby`: the part's value of the step before; at the first step the constant, which comes after the part
+    of_followed : {i : Expression} {t : Term} {e : Environment} {m : Made} {s : Step} {L : Life} {ys : List Data} {o : Outcome} {c : Cost}
+        → Outputs n (closure t e) L ys
+        → Gives n (closure t e) (s ∷ L) o c
+        → Form n (headed Followed i t) e m s L (answered_by (newest_or (eval i (scope_around n.functions e)) ys) o) (over c)
+    -- `>=-`: the part's values, where what the function made of its first input stands in the place of that input
+    of_transformed : {f : Function} {t : Term} {e : Environment} {v : Data} {s : Step} {L : Life} {o : Outcome} {c : Cost}
+        → Gives n (closure t e) (with_first v (s ∷ L)) o c
+        → Form n (transformed f t) e (value_made v) s L o (over c)
     -- a switch gives what its standing says
     of_switch : {w : Observation} {t u : Term} {p : Pattern} {e : Environment} {m : Made} {s : Step} {L : Life} {st : Standing} {o : Outcome} {c : Cost}
         → Since n (itself (closure t e)) (whenever (body_of p u e)) L st

@@ -2,7 +2,7 @@
 use Rattle.std.specs.Prelude.{◌≡◌, ℕ, List, [], ◌∷◌, ⊤, Bool, true, false, ◌&&◌, IsTrue, Some, slice_get}
 use Rattle.sf_value.specs.Values.{Name, Kind, Data, HasKind}
 use Rattle.sf_func.specs.Registries.{TypesByName, KeepTheirTypes}
-use Rattle.sf_term.specs.Trees.{Term, primitive, reference, started, call, joined, sided, headed, switching, keeping, staged, Template}
+use Rattle.sf_term.specs.Trees.{Term, primitive, reference, started, call, joined, sided, headed, transformed, switching, keeping, staged, Template}
 use Rattle.sf_mean.specs.Lives.{Step, input_of, Life, Environment, empty, known, running, Process, closure, resumed}
 use Rattle.sf_mean.specs.Meaning.{Network, Outcome, gave, faulted, Outputs}
 use Rattle.sf_mean.specs.Contexts.{value, process, Bindings, context_with}
@@ -57,6 +57,7 @@ is_without_calls (reference (call g vs)) = false
 is_without_calls (joined j f g) = is_without_calls f && is_without_calls g
 is_without_calls (sided d t) = is_without_calls t
 is_without_calls (headed h i t) = is_without_calls t
+is_without_calls (transformed f t) = is_without_calls t
 is_without_calls (switching w t p u) = is_without_calls t && is_without_calls u
 is_without_calls (keeping w t q k p u) = is_without_calls t && (is_without_calls q && is_without_calls u)
 is_without_calls (staged x f g) = is_without_calls f && is_without_calls g

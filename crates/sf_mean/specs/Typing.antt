@@ -16,8 +16,8 @@ use Rattle.sf_term.specs.declared.form.Accumulation.{Accumulation}
 use Rattle.sf_term.specs.declared.form.Accumulation.TheVariants.{EdgeBy, AccumBy, AccumHoldBy, Scan}
 use Rattle.sf_term.specs.declared.form.Join.TheVariants.{InSequence, InParallel, FannedOut}
 use Rattle.sf_term.specs.declared.form.Side.TheVariants.{First, Second}
-use Rattle.sf_term.specs.declared.form.Heading.TheVariants.{LoopPre, Initialized, Replaced}
-use Rattle.sf_term.specs.Trees.{Chain, lone, chained, on_side, on_both, fanned, Primitive, bare, probe, never, with_value, timed, selected, arrow, accumulated, fused, Extent, Term, primitive, reference, started, call, Arguments, no_arguments, value_argument, process_argument, closed_argument, joined, sided, headed, switching, keeping, staged, Template, Templates}
+use Rattle.sf_term.specs.declared.form.Heading.TheVariants.{LoopPre, Initialized, Replaced, Followed}
+use Rattle.sf_term.specs.Trees.{Chain, lone, chained, on_side, on_both, fanned, Primitive, bare, probe, never, with_value, timed, selected, arrow, accumulated, fused, Extent, Term, primitive, reference, started, call, Arguments, no_arguments, value_argument, process_argument, closed_argument, joined, sided, headed, transformed, switching, keeping, staged, Template, Templates}
 use Rattle.sf_term.specs.Parameters.{NameKind, value, process, Bindings}
 use Rattle.sf_term.specs.declared.form.Observation.{Observation}
 use Rattle.sf_term.specs.declared.form.Start.{Start}
@@ -131,6 +131,8 @@ mutual
     loop_takes : {Γ : Context} {e : Expression} {t : Term} {a b c : Kind} → HasType (names_of_values Γ) e c → Takes Γ t (pair_kind a c) (pair_kind b c) → FormTakes Γ (headed LoopPre e t) a b
     initialized_takes : {Γ : Context} {e : Expression} {t : Term} {a b : Kind} → HasType (names_of_values Γ) e b → Takes Γ t a b → FormTakes Γ (headed Initialized e t) a b
     replaced_takes : {Γ : Context} {e : Expression} {t : Term} {a b : Kind} → HasType (names_of_values Γ) e a → Takes Γ t a b → FormTakes Γ (headed Replaced e t) a b
+    followed_takes : {Γ : Context} {e : Expression} {t : Term} {a b : Kind} → HasType (names_of_values Γ) e b → Takes Γ t a b → FormTakes Γ (headed Followed e t) a b
+    transformed_takes : {Γ : Context} {f : Function} {t : Term} {a b : Kind} → FunctionTakes (names_of_values Γ) f a a → Takes Γ t a b → FormTakes Γ (transformed f t) a b
     switch_takes : {Γ : Context} {w : Observation} {t u : Term} {p : Pattern} {a b c : Kind}
         → Takes Γ t a (pair_kind b (event_kind c)) → Binds p c (names_of_values Γ) (names_of_values (inside_pattern p c Γ)) → Takes (inside_pattern p c Γ) u a b → FormTakes Γ (switching (Basic w) t p u) a b
     recurring_takes : {Γ : Context} {w : Observation} {t u : Term} {p : Pattern} {a b c : Kind}

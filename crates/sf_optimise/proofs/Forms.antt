@@ -9,7 +9,7 @@ use Rattle.sf_expr.specs.declared.exprs.Exprs.{Exprs}
 use Rattle.sf_expr.specs.Arena.{function_at}
 use Rattle.sf_term.specs.declared.form.Join.{Join}
 use Rattle.sf_term.specs.declared.form.Side.{Side}
-use Rattle.sf_term.specs.Trees.{Extent, whole, rest, bare, arrow, Term, primitive, reference, joined, sided, headed, switching, keeping, staged}
+use Rattle.sf_term.specs.Trees.{Extent, whole, rest, bare, arrow, Term, primitive, reference, joined, sided, headed, transformed, switching, keeping, staged}
 use Rattle.sf_term.specs.declared.form.Bare.{Bare}
 use Rattle.sf_term.specs.declared.form.Bare.TheVariants.{Identity, LocalTime, Integral, Edge, NotYet, Once, Count, Pre}
 use Rattle.sf_law.specs.declared.node.PlanId.{PlanId}
@@ -21,7 +21,7 @@ use Rattle.sf_law.specs.declared.node.PlanChain.{PlanChain}
 use Rattle.sf_law.specs.declared.node.PlanChain.TheVariants as chains
 use Rattle.sf_law.specs.declared.plan.Plan.{Plan}
 use Rattle.sf_law.specs.Entries.{stages, pipeline, chain_over, primitive_over, IsCodedPrimitive, IsCodedChain}
-use Rattle.sf_law.specs.Arena.{plan_tree, plan_expressions, trees_at, BuildsPlan, builds_primitive, builds_started, builds_probe, builds_call, builds_joined, builds_sided, builds_headed, builds_switching, builds_keeping, builds_pipeline}
+use Rattle.sf_law.specs.Arena.{plan_tree, plan_expressions, trees_at, BuildsPlan, builds_primitive, builds_started, builds_probe, builds_call, builds_joined, builds_sided, builds_headed, builds_transformed, builds_switching, builds_keeping, builds_pipeline}
 use Rattle.sf_law.proofs.Kept.{builds}
 use Rattle.sf_rewrite.specs.Laws.{Laws, arr, unchanged, arr_as_chain}
 use Rattle.sf_rewrite.specs.Normal.{is_arr, is_stage, may_meet, IsPlan, plan_join, plan_pipeline, IsRest, last_stage, more_stages as more_rest}
@@ -106,6 +106,7 @@ is_rest (reference r) = false
 is_rest (joined j f g) = false
 is_rest (sided d t) = false
 is_rest (headed h i t) = false
+is_rest (transformed f t) = false
 is_rest (switching w t p u) = false
 is_rest (keeping w t q k p u) = false
 is_rest (staged x f g) = is_rest_extent x
@@ -118,6 +119,7 @@ never_rest (builds_call c k) = refl
 never_rest builds_joined = refl
 never_rest builds_sided = refl
 never_rest (builds_headed k) = refl
+never_rest (builds_transformed k) = refl
 never_rest builds_switching = refl
 never_rest builds_keeping = refl
 never_rest (builds_pipeline {v = v} h) = ap is_rest (pipeline_built (builds_pipeline {v = v} h)).term
@@ -191,6 +193,7 @@ single_stage (builds_call c k) other h P = refl
 single_stage {p = p} builds_joined other h P = joined_stage {p = p} builds_joined P
 single_stage builds_sided other h P = refl
 single_stage (builds_headed k) other h P = refl
+single_stage (builds_transformed k) other h P = refl
 single_stage builds_switching other h P = refl
 single_stage builds_keeping other h P = refl
 single_stage (builds_pipeline {v = v} h) other g P = absurd (other v refl)

@@ -1,7 +1,7 @@
 -- A term behind another.
 use Rattle.std.proofs.Common.{◌≡◌, ◌<◌, ◌≤◌, List, [], ◌∷◌, ◌++◌, length, slice_index_or, drop, true, true≢false, IsTrue, refl, sym, ◌∙◌, ap, subst, append_assoc, arith}
 use Rattle.sf_term.specs.declared.form.Bare.TheVariants.{Identity, LocalTime, Integral, Edge, NotYet, Once, Count, Pre}
-use Rattle.sf_term.specs.Trees.{whole, bare, probe, never, with_value, timed, selected, arrow, accumulated, fused, Term, primitive, reference, joined, sided, headed, switching, keeping, staged}
+use Rattle.sf_term.specs.Trees.{whole, bare, probe, never, with_value, timed, selected, arrow, accumulated, fused, Term, primitive, reference, joined, sided, headed, transformed, switching, keeping, staged}
 use Rattle.sf_law.specs.declared.node.PlanId.{PlanId}
 use Rattle.sf_law.specs.declared.plan.Plan.{Plan}
 use Rattle.sf_law.specs.Entries.{pipeline, ids_end}
@@ -37,6 +37,7 @@ identity_is (reference r) h = absurd (true≢false (sym h))
 identity_is (joined j f g) h = absurd (true≢false (sym h))
 identity_is (sided d t) h = absurd (true≢false (sym h))
 identity_is (headed k i t) h = absurd (true≢false (sym h))
+identity_is (transformed f t) h = absurd (true≢false (sym h))
 identity_is (switching w t p u) h = absurd (true≢false (sym h))
 identity_is (keeping w t q k p u) h = absurd (true≢false (sym h))
 identity_is (staged x f g) h = absurd (true≢false (sym h))

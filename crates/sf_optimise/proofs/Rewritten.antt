@@ -5,10 +5,11 @@ use Rattle.std.specs.List.{AllZip}
 use Rattle.std.specs.declared.alloc.Global.{Global}
 use Rattle.std.proofs.lemmas.List.Elements.{All-head, All-tail}
 use Rattle.sf_expr.specs.declared.exprs.ExprId.{ExprId}
+use Rattle.sf_expr.specs.declared.exprs.FunctionId.{FunctionId}
 use Rattle.sf_expr.specs.declared.exprs.NameId.{NameId}
 use Rattle.sf_expr.specs.declared.exprs.PatternId.{PatternId}
 use Rattle.sf_expr.specs.Patterns.{pattern_of}
-use Rattle.sf_expr.specs.Arena.{name_at, placed_at, Keeps}
+use Rattle.sf_expr.specs.Arena.{function_at, name_at, placed_at, Keeps}
 use Rattle.sf_term.specs.declared.form.Heading.{Heading}
 use Rattle.sf_term.specs.declared.form.Join.{Join}
 use Rattle.sf_term.specs.declared.form.Join.TheVariants.{InSequence}
@@ -25,8 +26,8 @@ use Rattle.sf_term.specs.declared.node.Node.TheVariants as ast
 use Rattle.sf_term.specs.declared.node.Primitive.{Primitive}
 use Rattle.sf_term.specs.declared.node.Primitive.TheVariants as ast_primitives
 use Rattle.sf_term.specs.declared.program.Program.{Program}
-use Rattle.sf_term.specs.Trees.{whole, Term, primitive, reference, started, call, named_term, Arguments, value_argument, process_argument, joined, sided, headed, switching, keeping, staged}
-use Rattle.sf_term.specs.Arena.{tree, term_number, term_of, expressions_of, arguments_of, arguments_under, term_node_at, ArgumentBelow, HoldsArgument, HoldsTermParts, TermPartsBelow, expression_under, HoldsExpression, HoldsPatternIn}
+use Rattle.sf_term.specs.Trees.{whole, Term, primitive, reference, started, call, named_term, Arguments, value_argument, process_argument, joined, sided, headed, transformed, switching, keeping, staged}
+use Rattle.sf_term.specs.Arena.{tree, term_number, term_of, expressions_of, arguments_of, arguments_under, term_node_at, ArgumentBelow, HoldsArgument, HoldsTermParts, TermPartsBelow, expression_under, HoldsExpression, function_in, ProgramHoldsFunction, HoldsPatternIn}
 use Rattle.sf_term.proofs.Kept.{node_builds}
 use Rattle.sf_law.specs.declared.node.PlanId.{PlanId}
 use Rattle.sf_law.specs.declared.node.TemplateId.{TemplateId}
@@ -39,11 +40,11 @@ use Rattle.sf_law.specs.declared.plan.Plan.{Plan}
 use Rattle.sf_law.specs.Entries.{primitive_over, closed_before, arguments_end}
 use Rattle.sf_law.specs.Arena.{node_count, plan_tree, plan_expressions, plan_expression_at, plan_arguments, BuildsPlan, builds_primitive, builds_call, builds_switching, builds_keeping, AddsNode}
 use Rattle.sf_law.specs.Copies.{named_process, CopiesPrimitive, CopiesNode}
-use Rattle.sf_law.proofs.Copied.{value_same, pattern_same, same_primitive, same_term, named_tree}
+use Rattle.sf_law.proofs.Copied.{value_same, function_same, pattern_same, same_primitive, same_term, named_tree}
 use Rattle.sf_rewrite.specs.Laws.{Laws, unchanged, in_turn, as_pipeline}
-use Rattle.sf_rewrite.specs.Plans.{is_started, Plans, plans, of_primitive, of_started, of_call, PlansArguments, of_no_arguments, of_value_argument, of_named_argument, of_closed_argument, of_term_argument, of_join, of_side, of_heading, of_switch, of_keeping}
-use Rattle.sf_rewrite.specs.Normal.{IsPlan, plan_primitive, plan_started, plan_call, plan_switch, plan_keeping, ArePlans, plan_no_arguments, plan_value_argument, plan_closed_argument, plan_term_argument}
-use Rattle.sf_optimise.specs.Making.{GrowsPlan, IsNormal, MakesPlan}
+use Rattle.sf_rewrite.specs.Plans.{is_started, Plans, plans, of_primitive, of_started, of_call, PlansArguments, of_no_arguments, of_value_argument, of_named_argument, of_closed_argument, of_term_argument, of_join, of_side, of_heading, of_transformed, of_switch, of_keeping}
+use Rattle.sf_rewrite.specs.Normal.{IsPlan, plan_primitive, plan_started, plan_call, plan_transformed, plan_switch, plan_keeping, ArePlans, plan_no_arguments, plan_value_argument, plan_closed_argument, plan_term_argument}
+use Rattle.sf_optimise.specs.Making.{GrowsPlan, HoldsTree, IsNormal, MakesPlan}
 use Rattle.std.proofs.lemmas.Bool.{cases_lt}
 use Rattle.sf_arena.specs.Items.{Added}
 use Rattle.sf_arena.proofs.Grown.{added_counted, added_item, item_kept}
@@ -71,6 +72,16 @@ heading_rewritten p q r e {t} {h} {a} {b} kept held P M = record {
   normal = M.normal;
   plan = plans (of_heading P.plan) (subst (λ i. Laws (headed h i (plan_tree q a)) (plan_tree r b)) (value_same p q kept e held) M.law);
 }
+
+pub transforming_rewritten : (p : Program) (q r : Plan) (f : FunctionId) {t : Term} {a b : PlanId} → Keeps (expressions_of p) (plan_expressions q) → ProgramHoldsFunction p f → HoldsPlan t q a
+    → HoldsTree (transformed (function_at (plan_expressions q) f) (plan_tree q a)) r b → HoldsPlan (transformed (function_in p f) t) r b
+transforming_rewritten p q r f {t} {a} {b} kept held P H =
+    let is : plan_tree r b ≡ transformed (function_in p f) (plan_tree q a) = H.is ∙ ap (λ g. transformed g (plan_tree q a)) (function_same p q kept f held) in
+    record {
+      held = H.held;
+      normal = subst IsPlan (sym is) (plan_transformed P.normal);
+      plan = subst (Plans (transformed (function_in p f) t)) (sym is) (plans (of_transformed P.plan) unchanged);
+    }
 
 -- ## Nodes that are added as they are
 
@@ -122,6 +133,7 @@ closed_plans (reference (call g us)) h P N A B = (of_term_argument h refl P A, p
 closed_plans (joined j f g) h P N A B = (of_term_argument h refl P A, plan_term_argument N B)
 closed_plans (sided d t) h P N A B = (of_term_argument h refl P A, plan_term_argument N B)
 closed_plans (headed k i t) h P N A B = (of_term_argument h refl P A, plan_term_argument N B)
+closed_plans (transformed f t) h P N A B = (of_term_argument h refl P A, plan_term_argument N B)
 closed_plans (switching w t p u) h P N A B = (of_term_argument h refl P A, plan_term_argument N B)
 closed_plans (keeping w t q k p u) h P N A B = (of_term_argument h refl P A, plan_term_argument N B)
 closed_plans (staged x f g) h P N A B = (of_term_argument h refl P A, plan_term_argument N B)
@@ -141,6 +153,7 @@ not_started p (ast.Call j a) h = refl
 not_started p (ast.Joined j a b) h = refl
 not_started p (ast.Sided d a) h = refl
 not_started p (ast.Headed g e a) h = refl
+not_started p (ast.Transformed f a) h = refl
 not_started p (ast.Switching w a q b) h = refl
 not_started p (ast.Keeping w a o j s q b) h = refl
 

@@ -13,7 +13,7 @@ ghost use Rattle.sf_law.specs.Entries.{IsCodedArgument};
 ghost use Rattle.sf_optimise.specs.Making.{GrowsPlan, IsNormal, MakesPlan};
 ghost use Rattle.sf_optimise.specs.Optimised.{plan_of as id_of, HoldsPlan, HoldsPlans, RewritesArgument, IsOptimisedPlan};
 
-use crate::making::{fanned_out, headed, in_parallel, on_a_side};
+use crate::making::{fanned_out, headed, in_parallel, on_a_side, transformed};
 use crate::sequence::{in_loop, in_sequence};
 use sf_check::Checked;
 use sf_code::expression_code;
@@ -106,6 +106,9 @@ fn rewritten(
         Node::Headed(heading, value, part) => {
             with_head(alloc, plan, heading, value, plan_of(plans, part))
         }
+        Node::Transformed(function, part) => {
+            transformed(alloc, plan, function, plan_of(plans, part))
+        }
         Node::Switching(form, source, pattern, body) => {
             let source = plan_of(plans, source);
             let body = plan_of(plans, body);
@@ -162,7 +165,9 @@ fn with_head(
 {
     match heading {
         Heading::LoopPre => in_loop(alloc, plan, value, part),
-        Heading::Initialized | Heading::Replaced => headed(alloc, plan, heading, value, part),
+        Heading::Initialized | Heading::Replaced | Heading::Followed => {
+            headed(alloc, plan, heading, value, part)
+        }
     }
 }
 

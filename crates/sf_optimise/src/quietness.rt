@@ -14,7 +14,7 @@ use sf_operator::{Merge, Operator, Unary};
 use sf_term::{Bare, Naming, Node, Primitive, Program, TermId};
 
 /// Whether a term of a network is quiet. It takes no memory, and goes no deeper than the term.
-#[tactic(auto, using(sf_term::proofs::Kept::expression_in))]
+#[tactic(auto, using(sf_term::proofs::Kept::expression_in, sf_term::proofs::Kept::function_at_in))]
 pub fn quiet(program: &Program, id: TermId) -> bool
     ensures { result ≡ quiet_term (tree program.now id) }
 {
@@ -24,6 +24,9 @@ pub fn quiet(program: &Program, id: TermId) -> bool
         Node::Sided(_, part) => quiet(program, part),
         Node::Headed(_, value, part) => {
             is_quiet_expression(program.expressions(), value) && quiet(program, part)
+        }
+        Node::Transformed(function, part) => {
+            is_quiet_function(program.expressions(), function) && quiet(program, part)
         }
         Node::Named(Naming::Probe, _, _) | Node::Named(Naming::Process(_), _, _) => false,
         Node::Call(_, _) | Node::Switching(_, _, _, _) => false,
@@ -61,6 +64,9 @@ pub(crate) fn is_quiet(plan: &Plan, id: PlanId) -> bool
         PlanNode::Sided(_, part) => is_quiet(plan, *part),
         PlanNode::Headed(_, value, _, part) => {
             is_quiet_expression(plan.expressions(), *value) && is_quiet(plan, *part)
+        }
+        PlanNode::Transformed(function, _, part) => {
+            is_quiet_function(plan.expressions(), *function) && is_quiet(plan, *part)
         }
         PlanNode::Pipeline(stages) => are_quiet(plan, stages),
         PlanNode::Started(_, _) | PlanNode::Probe(_) | PlanNode::Call(_, _, _) => false,

@@ -11,6 +11,7 @@ use Rattle.sf_operator.specs.declared.fault.EvalFault.{EvalFault}
 use Rattle.sf_operator.specs.declared.fault.EvalFault.TheVariants.{Value as EValue, Memory as EMemory}
 use Rattle.sf_operator.specs.Answers.{Evaluates}
 use Rattle.sf_expr.specs.declared.exprs.ExprId.{ExprId}
+use Rattle.sf_expr.specs.declared.exprs.Exprs.{Exprs}
 use Rattle.sf_expr.specs.declared.exprs.NameId.{NameId}
 use Rattle.sf_expr.specs.Evaluation.{Evaluated, Scope, answer, failed, ◌>>=◌, eval}
 use Rattle.sf_expr.specs.Arena.{expression, name_at}
@@ -27,6 +28,7 @@ use Rattle.sf_law.specs.declared.node.PlanArgument.TheVariants.{Value, Started, 
 use Rattle.sf_law.specs.declared.plan.Plan.{Plan}
 use Rattle.sf_law.specs.Headers.{ParameterHeader, PlanHeader}
 use Rattle.sf_law.specs.Places.{names_of_parameters}
+use Rattle.sf_law.specs.Asking.{argument_asked, arguments_asked}
 use Rattle.sf_law.specs.Arena.{plan_tree, plan_expressions, plan_binding, plan_template, plan_arguments}
 use Rattle.sf_law.proofs.Called.{argued_closed}
 use Rattle.sf_state.specs.declared.state.State.{State}
@@ -57,9 +59,16 @@ made_failure stands w (Ok a) f h m = absurd h
 made_failure stands w (Err e) f h m = subst (λ (e : Fault). Makes stands w (Err e)) (sym h) m
 
 -- what holds of two holds of each
-pub both_true : (a b : Bool) → IsTrue (a && b) → IsTrue a × IsTrue b
+both_true : (a b : Bool) → IsTrue (a && b) → IsTrue a × IsTrue b
 both_true true b h = (refl, h)
 both_true false b h = absurd cc
+
+-- what arguments ask for, the first asks for, and those behind it
+pub first_asked : (x : Exprs) (asks : Name → Bool) (q : ParameterHeader) (qs ps : List ParameterHeader) (v : PlanArgument) (vs us : List PlanArgument) → ps ≡ q ∷ qs → us ≡ v ∷ vs
+    → IsTrue (arguments_asked x asks ps us) → IsTrue (argument_asked x asks (name_at x q.name) v) × IsTrue (arguments_asked x asks qs vs)
+first_asked x asks q qs ps v vs us parameters arguments h =
+    let both = subst (λ us. IsTrue (arguments_asked x asks (q ∷ qs) us)) arguments (subst (λ ps. IsTrue (arguments_asked x asks ps us)) parameters h) in
+    both_true (argument_asked x asks (name_at x q.name) v) (arguments_asked x asks qs vs) both
 
 module _ (φ : AnswersByName) (p : Plan) where
   -- ## One argument
@@ -96,10 +105,10 @@ module _ (φ : AnswersByName) (p : Plan) where
         makes_fault (ap (λ s. eval (expression (plan_expressions p) i) s >>= λ v. answer (known name v d)) (sym (scope_is φ p names e N)) ∙ ap (λ o. o >>= λ v. answer (known name v d)) h)
     value_fails i c EMemory h e d N = makes_nothing
 
-    pub started_given : (w : Start) (k : NameId) (h : Handed) → ((e : Environment) → IsNames φ p names e → IsHanded φ p h (process_started w (name_at (plan_expressions p) k) e)) → GivesOne φ p q (Started w k) names (Ok (GProcess h))
+    pub started_given : (w : Start) (k : NameId) (h : Handed) → ((e : Environment) → IsNames φ p names e → IsHanded φ p name h (process_started w (name_at (plan_expressions p) k) e)) → GivesOne φ p q (Started w k) names (Ok (GProcess h))
     started_given w k h f e d N = let g = f e N in makes refl (process_is_given g.0 g.1 nothing_given)
 
-    pub closed_given : (a : PlanId) (h : Handed) → ((e : Environment) → IsNames φ p names e → IsHanded φ p h (closure (plan_tree p a) e)) → GivesOne φ p q (Closed a) names (Ok (GProcess h))
+    pub closed_given : (a : PlanId) (h : Handed) → ((e : Environment) → IsNames φ p names e → IsHanded φ p name h (closure (plan_tree p a) e)) → GivesOne φ p q (Closed a) names (Ok (GProcess h))
     closed_given a h f e d N = let g = f e N in makes (argued_closed φ (plan_binding p q) [] (plan_tree p a) no_arguments e d) (process_is_given g.0 g.1 nothing_given)
 
   -- a parameter that stands for what is given, inside other names
@@ -107,7 +116,7 @@ module _ (φ : AnswersByName) (p : Plan) where
     pub value_inside : (v : Data) → ((d : Environment) → IsNames φ p bound d → IsNames φ p inner (known x v d)) → (d e : Environment) → IsNames φ p bound d → AreGiven φ p (x ∷ []) (GValue v ∷ []) d e → IsNames φ p inner e
     value_inside v f d e M (value_is_given nothing_given) = f d M
 
-    pub process_inside : (h : Handed) → ((d : Environment) (P : Process) → IsNames φ p bound d → IsHanded φ p h P → IsNames φ p inner (running x P d)) → (d e : Environment) → IsNames φ p bound d → AreGiven φ p (x ∷ []) (GProcess h ∷ []) d e → IsNames φ p inner e
+    pub process_inside : (h : Handed) → ((d : Environment) (P : Process) → IsNames φ p bound d → IsHanded φ p x h P → IsNames φ p inner (running x P d)) → (d e : Environment) → IsNames φ p bound d → AreGiven φ p (x ∷ []) (GProcess h ∷ []) d e → IsNames φ p inner e
     process_inside h f d e M (process_is_given {P = P} A B nothing_given) = f d P M (A, B)
 
   -- what is given stands before what is given after it

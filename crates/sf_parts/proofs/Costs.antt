@@ -8,9 +8,9 @@ use Rattle.sf_value.specs.declared.fault.Fault.TheVariants.{Memory}
 use Rattle.sf_probe.specs.Readings.{readings_of}
 use Rattle.sf_func.specs.Registries.{AnswersByName}
 use Rattle.sf_term.specs.declared.form.Observation.{Observation}
-use Rattle.sf_term.specs.Trees.{Extent, whole, rest, Term, primitive, reference, joined, sided, headed, switching, keeping, staged}
-use Rattle.sf_mean.specs.Lives.{Step, Life, Process, closure, Environment}
-use Rattle.sf_mean.specs.Meaning.{Network, Readings, Outcome, Cost, count, height, no_cost, both_costs, over, over_first, over_stages, text_cost, entered_cost, Made, Gives, gives, Sample, of_constants, of_form, of_resumed, Form, of_primitive, of_join, of_side, of_loop, of_initialized, of_replaced, of_reference, of_switch, of_keeping, of_recurring, of_stages, Watched, Takeover, Standing, SwitchTurn, while_waiting, as_body}
+use Rattle.sf_term.specs.Trees.{Extent, whole, rest, Term, primitive, reference, joined, sided, headed, transformed, switching, keeping, staged}
+use Rattle.sf_mean.specs.Lives.{Step, step, Life, Process, closure, Environment}
+use Rattle.sf_mean.specs.Meaning.{Network, Readings, Outcome, Cost, count, height, no_cost, both_costs, over, over_first, over_stages, text_cost, entered_cost, Made, Gives, gives, Sample, of_constants, of_form, of_resumed, Form, of_primitive, of_join, of_side, of_loop, of_initialized, of_replaced, of_followed, of_transformed, of_reference, of_switch, of_keeping, of_recurring, of_stages, Watched, Takeover, Standing, SwitchTurn, while_waiting, as_body}
 use Rattle.sf_law.specs.declared.plan.Plan.{Plan}
 use Rattle.sf_law.specs.Arena.{network_of_plan}
 use Rattle.sf_state.specs.declared.state.State.{State}
@@ -53,6 +53,7 @@ module _ (n : Network) where
   text_counts (joined j f g) = (omega arith, omega arith)
   text_counts (sided d t) = (omega arith, omega arith)
   text_counts (headed h i t) = (omega arith, omega arith)
+  text_counts (transformed f t) = (omega arith, omega arith)
   text_counts (switching w t q u) = (omega arith, omega arith)
   text_counts (keeping w t r k q u) = (omega arith, omega arith)
   text_counts (staged x f g) = stages_count x (text_cost f) (text_cost g) (text_counts f)
@@ -63,6 +64,7 @@ module _ (n : Network) where
   entered_counts (joined j f g) = text_counts (joined j f g)
   entered_counts (sided d t) = text_counts (sided d t)
   entered_counts (headed h i t) = text_counts (headed h i t)
+  entered_counts (transformed f t) = text_counts (transformed f t)
   entered_counts (switching w t q u) = text_counts (switching w t q u)
   entered_counts (keeping w t r k q u) = text_counts (keeping w t r k q u)
   entered_counts (staged x f g) = text_counts (staged x f g)
@@ -76,6 +78,8 @@ module _ (n : Network) where
     form_counts (of_loop O G) = (omega arith, omega arith)
     form_counts (of_initialized G) = (omega arith, omega arith)
     form_counts (of_replaced G) = (omega arith, omega arith)
+    form_counts (of_followed O G) = (omega arith, omega arith)
+    form_counts (of_transformed G) = (omega arith, omega arith)
     form_counts (of_switch S T) = turn_counts T
     form_counts (of_keeping S T) = turn_counts T
     form_counts (of_recurring G F) = (omega arith, omega arith)
@@ -112,10 +116,10 @@ module _ (φ : AnswersByName) (p : Plan) where
   -- ## Parts that do not begin
 
   module _ {m n n' : Meter} {depth inside : ℕ} (t : Ticks m n depth inside) (en : entered_of n' ≡ entered_of n) (hn : height_of n' ≡ height_of n) where
-    open_stops : {u : Term} {e : Environment} {f : Fault} (s : Step) → Opens φ p u e (Err f) → StopsFor (Gives net (closure u e) (s ∷ [])) f m n' depth
-    open_stops s (opens_with_fault h) = faults (h s) ((ticked_within t en hn).most _ _ (h s))
-    open_stops s opens_without_memory = memory (ticked_within t en hn)
+    open_stops : {u : Term} {e : Environment} {x : Data} {f : Fault} (d : ℕ) → Opens φ p u e x (Err f) → StopsFor (Gives net (closure u e) (step d x ∷ [])) f m n' depth
+    open_stops d (opens_with_fault h) = faults (h d) ((ticked_within t en hn).most _ _ (h d))
+    open_stops d opens_without_memory = memory (ticked_within t en hn)
 
     -- what has not begun has no value, for the same fault
-    pub begin_stops : {u : Term} {e : Environment} {a : State} {f : Fault} (s : Step) → BeginsAs φ p u e a (Err f) → StopsFor (Gives net (closure u e) (s ∷ [])) f m n' depth
-    begin_stops s (begins_not O) = open_stops s O
+    pub begin_stops : {u : Term} {e : Environment} {x : Data} {a : State} {f : Fault} (d : ℕ) → BeginsAs φ p u e x a (Err f) → StopsFor (Gives net (closure u e) (step d x ∷ [])) f m n' depth
+    begin_stops d (begins_not O) = open_stops d O

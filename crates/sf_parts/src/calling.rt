@@ -1,11 +1,10 @@
 //! What stands in the place of a reference: the process of a name, or a template under the arguments of a call.
-ghost use Rattle.std.specs.Prelude.{◌≡◌, [], ◌∷◌, map, length, Some, All, IsTrue, IfOk};
-ghost use Rattle.std.specs.List.{list_all};
+ghost use Rattle.std.specs.Prelude.{◌≡◌, false, [], ◌∷◌, map, length, Some, All, IsTrue, IfOk};
 ghost use Rattle.sf_func.specs.Registries.{AnswersByName};
 ghost use Rattle.sf_expr.specs.Arena.{name_at};
-ghost use Rattle.sf_law.specs.Arena.{plan_tree, plan_expressions, plan_anew, plan_binding, plan_template, plan_arguments, header_at};
-ghost use Rattle.sf_law.specs.Headers.{ParameterHeader};
-ghost use Rattle.sf_law.specs.Entries.{BindsName, BindsNames, IsCodedArgument, start_within, argument_within};
+ghost use Rattle.sf_law.specs.Arena.{plan_tree, plan_expressions, plan_asks, plan_binding, plan_template, plan_arguments, header_at};
+ghost use Rattle.sf_law.specs.Entries.{BindsName, BindsNames, IsCodedArgument};
+ghost use Rattle.sf_law.specs.Asking.{start_asked, argument_asked, arguments_asked};
 ghost use Rattle.sf_mean.specs.Lives.{Environment, Process as ProcessOf, closure, empty, base, process_of, process_started};
 ghost use Rattle.sf_mean.specs.Meaning.{argued, process_called};
 ghost use Rattle.sf_state.specs.Standing.{IsNames, AreGiven, IsHanded, IsProcess, Stands};
@@ -31,12 +30,12 @@ pub(crate) fn started(
     start: Start,
     name: NameId,
 ) -> Result<State, AllocError>
-    requires { IsTrue (start_within (plan_anew plan.now) start) }
+    requires { IsTrue (start_asked false (plan_asks plan.now (name_at (plan_expressions plan.now) name)) start) }
     ensures { IfOk result (λ process. (φ : AnswersByName) (e : Environment) → IsNames φ plan.now names.now e →
         Stands φ plan.now process (process_started start (name_at (plan_expressions plan.now) name) e) []) }
 {
     match start {
-        Start::Fresh => Ok(State::Unborn(began(plan, names, name)?)),
+        Start::Fresh => Ok(State::Unborn(began(plan, names, name, name)?)),
         Start::Run => {
             match names.running(plan, plan.expressions().name_of(name)) {
                 Some(handed) => handed.process.share(alloc),
@@ -46,14 +45,15 @@ pub(crate) fn started(
     }
 }
 
-// What the process of a name began as, shared, where a process may begin anew; what passes its inputs on where the name stands
-// for none.
-fn began(plan: &Plan, names: &Env, name: NameId) -> Result<Process, AllocError>
-    ensures { IfOk result (λ process. (φ : AnswersByName) (e : Environment) → IsNames φ plan.now names.now e → IsTrue (plan_anew plan.now) →
-        IsProcess φ plan.now process (base (process_of (name_at (plan_expressions plan.now) name) e))) }
+// What the process of a name began as, shared, where the plan asks for it under that name and under another; what passes its
+// inputs on where the name stands for none.
+fn began(plan: &Plan, names: &Env, name: NameId, under: NameId) -> Result<Process, AllocError>
+    ensures { let x = plan_expressions plan.now in
+        IfOk result (λ process. (φ : AnswersByName) (e : Environment) → IsNames φ plan.now names.now e → IsTrue (plan_asks plan.now (name_at x under)) → IsTrue (plan_asks plan.now (name_at x name)) →
+        IsProcess φ plan.now process (base (process_of (name_at x name) e))) }
 {
     match names.running(plan, plan.expressions().name_of(name)) {
-        Some(handed) => kept(plan, &handed.base),
+        Some(handed) => kept(plan, under, &handed.base),
         None => Ok(Process {
             term: plan.passing(),
             names: Env::Empty,
@@ -61,11 +61,11 @@ fn began(plan: &Plan, names: &Env, name: NameId) -> Result<Process, AllocError>
     }
 }
 
-// The same process, shared, where a process may begin anew; else anything.
-fn kept(plan: &Plan, process: &Process) -> Result<Process, AllocError>
-    ensures { IfOk result (λ same. (φ : AnswersByName) (P : ProcessOf) → IsTrue (plan_anew plan.now) → IsProcess φ plan.now process.now P → IsProcess φ plan.now same P) }
+// The same process, shared, where the plan asks what a process of this name began as; else anything.
+fn kept(plan: &Plan, name: NameId, process: &Process) -> Result<Process, AllocError>
+    ensures { IfOk result (λ same. (φ : AnswersByName) (P : ProcessOf) → IsTrue (plan_asks plan.now (name_at (plan_expressions plan.now) name)) → IsProcess φ plan.now process.now P → IsProcess φ plan.now same P) }
 {
-    if plan.begins_anew() {
+    if plan.asks(name) {
         process.share()
     } else {
         Ok(Process {
@@ -86,7 +86,7 @@ pub(crate) fn called<R: Holds>(
     names: &Env,
 ) -> Result<State, Fault>
     requires coded { All (IsCodedArgument (plan_expressions (plan_in context.now))) arguments.now }
-    requires within { IsTrue (list_all (argument_within (plan_anew (plan_in context.now))) arguments.now) }
+    requires asked { IsTrue (arguments_asked (plan_expressions (plan_in context.now)) (plan_asks (plan_in context.now)) (header_at (plan_in context.now) id).parameters arguments.now) }
     ensures { (e : Environment) → IsNames (R.answers context.now.functions.now) (plan_in context.now) names.now e →
         Makes (λ a P. Stands (R.answers context.now.functions.now) (plan_in context.now) a P [])
         (process_called (R.answers context.now.functions.now) (Some (plan_template (plan_in context.now) (header_at (plan_in context.now) id))) (plan_arguments (plan_in context.now) arguments.now) e) result }
@@ -114,7 +114,7 @@ fn bound_names<R: Holds>(
     requires same { template.now ≡ header_at (plan_in context.now) id }
     requires bound { BindsNames (plan_expressions (plan_in context.now)) template.now }
     requires coded { All (IsCodedArgument (plan_expressions (plan_in context.now))) arguments.now }
-    requires within { IsTrue (list_all (argument_within (plan_anew (plan_in context.now))) arguments.now) }
+    requires asked { IsTrue (arguments_asked (plan_expressions (plan_in context.now)) (plan_asks (plan_in context.now)) template.now.parameters arguments.now) }
     ensures { (e : Environment) → IsNames (R.answers context.now.functions.now) (plan_in context.now) names.now e →
         Makes (IsNames (R.answers context.now.functions.now) (plan_in context.now))
         (argued (R.answers context.now.functions.now) (map (plan_binding (plan_in context.now)) template.now.parameters) (plan_arguments (plan_in context.now) arguments.now) e empty) result }
@@ -136,14 +136,14 @@ fn one_inside_another<R: Holds>(
 ) -> Result<Env, Fault>
     requires bound { All (BindsName (plan_expressions (plan_in context.now))) parameters.now }
     requires coded { All (IsCodedArgument (plan_expressions (plan_in context.now))) arguments.now }
-    requires within { IsTrue (list_all (argument_within (plan_anew (plan_in context.now))) arguments.now) }
+    requires asked { IsTrue (arguments_asked (plan_expressions (plan_in context.now)) (plan_asks (plan_in context.now)) parameters.now arguments.now) }
     ensures { (e : Environment) → IsNames (R.answers context.now.functions.now) (plan_in context.now) names.now e →
         Makes (IsNames (R.answers context.now.functions.now) (plan_in context.now))
         (argued (R.answers context.now.functions.now) (map (plan_binding (plan_in context.now)) parameters.now) (plan_arguments (plan_in context.now) arguments.now) e empty) result }
 {
     let mut bound = Env::Empty;
     for (parameter, argument) in parameters.iter().zip(arguments) {
-        let given = given_by(context, argument, names)?;
+        let given = given_by(context, parameter, argument, names)?;
         bound = bind(context, parameter, given, &bound)?;
     }
     Ok(bound)
@@ -160,14 +160,14 @@ fn side_by_side<R: Holds>(
     requires same { parameters.now ≡ (header_at (plan_in context.now) id).parameters }
     requires long { length arguments.now ≡ length parameters.now }
     requires coded { All (IsCodedArgument (plan_expressions (plan_in context.now))) arguments.now }
-    requires within { IsTrue (list_all (argument_within (plan_anew (plan_in context.now))) arguments.now) }
+    requires asked { IsTrue (arguments_asked (plan_expressions (plan_in context.now)) (plan_asks (plan_in context.now)) parameters.now arguments.now) }
     ensures { (e : Environment) → IsNames (R.answers context.now.functions.now) (plan_in context.now) names.now e →
         Makes (IsNames (R.answers context.now.functions.now) (plan_in context.now))
         (argued (R.answers context.now.functions.now) (map (plan_binding (plan_in context.now)) parameters.now) (plan_arguments (plan_in context.now) arguments.now) e empty) result }
 {
     let mut given = Vec::with_capacity(context.alloc, arguments.len())?;
-    for (_, argument) in parameters.iter().zip(arguments) {
-        given.push(given_by(context, argument, names)?)?;
+    for (parameter, argument) in parameters.iter().zip(arguments) {
+        given.push(given_by(context, parameter, argument, names)?)?;
     }
     Ok(Env::of_call(context.alloc, id, given)?)
 }
@@ -196,12 +196,13 @@ fn bind<R: Holds>(
 // What an argument gives to a parameter, with the names around the call.
 fn given_by<R: Holds>(
     context: &SampleContext<R>,
+    parameter: &PlanParameter,
     argument: &PlanArgument,
     names: &Env,
 ) -> Result<Given, Fault>
     requires coded { IsCodedArgument (plan_expressions (plan_in context.now)) argument.now }
-    requires within { IsTrue (argument_within (plan_anew (plan_in context.now)) argument.now) }
-    ensures { (q : ParameterHeader) → GivesOne (R.answers context.now.functions.now) (plan_in context.now) q argument.now names.now result }
+    requires asked { let x = plan_expressions (plan_in context.now) in IsTrue (argument_asked x (plan_asks (plan_in context.now)) (name_at x parameter.now.name) argument.now) }
+    ensures { GivesOne (R.answers context.now.functions.now) (plan_in context.now) parameter.now argument.now names.now result }
 {
     match argument {
         PlanArgument::Value(_, code) => match constant_in(context, code, names) {
@@ -209,38 +210,48 @@ fn given_by<R: Holds>(
             Err(fault) => Err(fault_of(fault)),
         },
         PlanArgument::Started(start, name) => {
-            let handed = handed_on(context, *start, *name, names)?;
+            let handed = handed_on(context, parameter, *start, *name, names)?;
             Ok(Given::Process(handed))
         }
         PlanArgument::Closed(term) => {
-            let handed = closed(context.alloc, context.plan, *term, names)?;
+            let handed = closed(context.alloc, context.plan, parameter, *term, names)?;
             Ok(Given::Process(handed))
         }
     }
 }
 
-// The process of a name, beside what it began as.
+// The process of a name for a parameter, beside what it began as.
 fn handed_on<R: Holds>(
     context: &SampleContext<R>,
+    parameter: &PlanParameter,
     start: Start,
     name: NameId,
     names: &Env,
 ) -> Result<Handed, AllocError>
-    requires { IsTrue (start_within (plan_anew (plan_in context.now)) start) }
+    requires { let p = plan_in context.now in
+        IsTrue (start_asked (plan_asks p (name_at (plan_expressions p) parameter.now.name)) (plan_asks p (name_at (plan_expressions p) name)) start) }
     ensures { IfOk result (λ handed. (φ : AnswersByName) (e : Environment) → IsNames φ (plan_in context.now) names.now e →
-        IsHanded φ (plan_in context.now) handed (process_started start (name_at (plan_expressions (plan_in context.now)) name) e)) }
+        IsHanded φ (plan_in context.now) (name_at (plan_expressions (plan_in context.now)) parameter.now.name) handed (process_started start (name_at (plan_expressions (plan_in context.now)) name) e)) }
 {
-    let base = began(context.plan, names, name)?;
+    let under = parameter.name();
+    let base = began(context.plan, names, name, under)?;
     let process = started(context.alloc, context.plan, names, start, name)?;
     Ok(Handed { process, base })
 }
 
-// The process of a term in the names around it that it mentions, which began as itself.
-fn closed(alloc: Global, plan: &Plan, term: PlanId, names: &Env) -> Result<Handed, AllocError>
-    ensures { IfOk result (λ handed. (φ : AnswersByName) (e : Environment) → IsNames φ plan.now names.now e → IsHanded φ plan.now handed (closure (plan_tree plan.now term) e)) }
+// The process of a term for a parameter, in the names around it that it mentions, which began as itself.
+fn closed(
+    alloc: Global,
+    plan: &Plan,
+    parameter: &PlanParameter,
+    term: PlanId,
+    names: &Env,
+) -> Result<Handed, AllocError>
+    ensures { IfOk result (λ handed. (φ : AnswersByName) (e : Environment) → IsNames φ plan.now names.now e → IsHanded φ plan.now (name_at (plan_expressions plan.now) parameter.now.name) handed (closure (plan_tree plan.now term) e)) }
 {
     let process = Process::within(alloc, plan, term, names)?;
-    let base = kept(plan, &process)?;
+    let under = parameter.name();
+    let base = kept(plan, under, &process)?;
     let process = State::Unborn(process);
     Ok(Handed { process, base })
 }

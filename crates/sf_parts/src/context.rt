@@ -1,15 +1,15 @@
 //! What the parts of a sample share.
 ghost use Rattle.std.specs.Prelude.{◌≡◌};
-ghost use Rattle.sf_expr.specs.Expressions.{Expression};
-ghost use Rattle.sf_expr.specs.Evaluation.{eval};
+ghost use Rattle.sf_expr.specs.Expressions.{Expression, Function};
+ghost use Rattle.sf_expr.specs.Evaluation.{eval, apply as applied};
 ghost use Rattle.sf_code.specs.Names.{scope_with};
-ghost use Rattle.sf_code.specs.Worth.{IsCodeOf};
+ghost use Rattle.sf_code.specs.Worth.{IsCodeOf, IsCodeOfFunction};
 ghost use Rattle.sf_operator.specs.Answers.{Evaluates};
 ghost use Rattle.sf_state.specs.Names.{values_around};
 ghost use Rattle.sf_parts.specs.Answering.{fault_from};
 ghost use Rattle.sf_parts.specs.Contexts.{plan_in};
 
-use sf_code::{OpenCode, evaluate_among};
+use sf_code::{OpenCode, apply, evaluate_among};
 use sf_func::Holds;
 use sf_law::Plan;
 use sf_operator::EvalFault;
@@ -42,6 +42,21 @@ pub(crate) fn constant_in<R: Holds>(
     let plan = context.plan;
     let around = NamesIn { plan, names };
     evaluate_among(context.alloc, code, &around, context.functions)
+}
+
+/// What a function makes of a value with these names around it, or the first fault of its operations.
+pub(crate) fn made_in<R: Holds>(
+    context: &SampleContext<R>,
+    code: &OpenCode,
+    value: &Value,
+    names: &Env,
+) -> Result<Value, EvalFault>
+    ensures { (f : Function) → IsCodeOfFunction f code.now →
+        Evaluates result (applied f value.now (scope_with (values_around (plan_in context.now) names.now) (R.answers context.now.functions.now))) }
+{
+    let plan = context.plan;
+    let around = code.frame(context.alloc, &NamesIn { plan, names })?;
+    apply(context.alloc, &code.code, &around, value, context.functions)
 }
 
 /// The fault of an expression, as that of the sample.

@@ -13,5 +13,5 @@ pub use leaves::{step_prim, step_probe};
 pub use meter::{Meter, Stop};
 pub use opening::{Begun, begin};
 pub use routing::{
-    beside, copies, hold_back, payload_of, put_first, show, take_over, value_and_payload,
+    beside, copies, hold_back, payload_of, put_first, put_last, show, take_over, value_and_payload,
 };

@@ -1,28 +1,28 @@
 //! How a part begins: what its term is before its first sample.
-ghost use Rattle.std.specs.Prelude.{◌≡◌, [], All, IfOk, Ok, IsTrue, Vec as VecOf};
-ghost use Rattle.std.specs.List.{list_all};
+ghost use Rattle.std.specs.Prelude.{◌≡◌, [], ◌∷◌, false, All, IfOk, IfSome, Ok, IsTrue, Vec as VecOf};
 ghost use Rattle.sf_value.specs.Values.{Data};
 ghost use Rattle.sf_func.specs.Registries.{AnswersByName};
 ghost use Rattle.sf_expr.specs.declared.exprs.ExprId.{ExprId};
+ghost use Rattle.sf_expr.specs.declared.exprs.FunctionId.{FunctionId};
 ghost use Rattle.sf_expr.specs.declared.exprs.NameId.{NameId as NameIdOf};
-ghost use Rattle.sf_expr.specs.Arena.{placed_at, name_at};
-ghost use Rattle.sf_expr.specs.Evaluation.{answer};
+ghost use Rattle.sf_expr.specs.Arena.{placed_at, name_at, function_at};
 ghost use Rattle.sf_expr.specs.Patterns.{pattern_of};
-ghost use Rattle.sf_term.specs.Trees.{Term, joined as joined_term, headed as headed_term, switching as switching_term, keeping as keeping_term};
-ghost use Rattle.sf_law.specs.Arena.{plan_tree, plan_anew, plan_expressions, plan_expression_at, network_of_plan, BuildsPlan};
-ghost use Rattle.sf_law.specs.Entries.{IsCodedExpression, IsCodedArgument, start_within, argument_within};
+ghost use Rattle.sf_term.specs.Trees.{Term, headed as headed_term, transformed as transformed_term, switching as switching_term, keeping as keeping_term};
+ghost use Rattle.sf_law.specs.Arena.{plan_tree, plan_asks, plan_expressions, plan_expression_at, header_at, network_of_plan, BuildsPlan};
+ghost use Rattle.sf_code.specs.Worth.{IsCodeOfFunction};
+ghost use Rattle.sf_law.specs.Entries.{IsCodedExpression, IsCodedArgument};
+ghost use Rattle.sf_law.specs.Asking.{start_asked, arguments_asked};
 ghost use Rattle.sf_law.specs.declared.node.PlanId.{PlanId as PlanIdOf};
 ghost use Rattle.sf_law.specs.declared.node.PlanArgument.{PlanArgument as PlanArgumentOf};
 ghost use Rattle.sf_law.specs.declared.node.PlanNode.TheVariants as NodeOf;
 ghost use Rattle.sf_law.specs.declared.plan.Plan.{Plan as PlanOf};
 ghost use Rattle.sf_mean.specs.Lives.{Environment};
-ghost use Rattle.sf_mean.specs.Meaning.{Made, make};
-ghost use Rattle.sf_state.specs.Standing.{IsNames, Wraps};
-ghost use Rattle.sf_parts.specs.Beginning.{Opens, BeginsAs, AllBegin, is_awake};
+ghost use Rattle.sf_state.specs.Standing.{AreJoined, IsNames};
+ghost use Rattle.sf_parts.specs.Beginning.{Opens, WrapsAtFirst, BeginsAs, AllBegin, is_awake};
 ghost use Rattle.sf_parts.specs.Contexts.{plan_in};
 
 use crate::calling::{called, started};
-use crate::context::{SampleContext, constant_in, fault_of};
+use crate::context::{SampleContext, constant_in, fault_of, made_in};
 use crate::routing::{on_side, with_head};
 use sf_code::OpenCode;
 use sf_expr::{NameId, PatternId};
@@ -31,7 +31,7 @@ use sf_law::{Plan, PlanArgument, PlanId, PlanNode, PlanPrimitive, TemplateId};
 use sf_prim::PrimState;
 use sf_state::{Env, Keeping, Live, NamesIn, Process, State, Switch, Wrap};
 use sf_term::{Heading, Join, Observation, Start, Switching};
-use sf_value::Fault;
+use sf_value::{Fault, Value};
 use std::alloc::{AllocError, Global};
 use std::rc::Rc;
 
@@ -44,8 +44,8 @@ pub enum Begun {
     Referred,
 }
 
-/// Puts a term before its first sample, with the names around it, in place of a state, and says what it has become. The error
-/// is the first fault of its constants, or want of memory.
+/// Puts a term before its first sample, on this input, with the names around it, in place of a state, and says what it has
+/// become. The error is the first fault of its constants, or want of memory.
 #[cold]
 #[inline(never)]
 pub fn begin<R: Holds>(
@@ -53,12 +53,13 @@ pub fn begin<R: Holds>(
     state: &mut State,
     term: PlanId,
     names: Env,
+    input: &Value,
 ) -> Result<Begun, Fault>
     ensures begins { (e : Environment) → IsNames (R.answers context.now.functions.now) (plan_in context.now) names e →
-        BeginsAs (R.answers context.now.functions.now) (plan_in context.now) (plan_tree (plan_in context.now) term) e state.new result }
+        BeginsAs (R.answers context.now.functions.now) (plan_in context.now) (plan_tree (plan_in context.now) term) e input.now state.new result }
     ensures awake { IfOk result (λ b. b ≡ Begun.Itself → IsTrue (is_awake state.new)) }
 {
-    match open(context, term, &names) {
+    match open(context, term, &names, input) {
         Ok(opened) => {
             let (next, begun) = prepared(opened, names);
             *state = next;
@@ -70,8 +71,8 @@ pub fn begin<R: Holds>(
 
 // A part that is opened, as a state that is prepared for its first sample, with the names around it.
 fn prepared(opened: Opened, names: Env) -> (State, Begun)
-    ensures begins { (φ : AnswersByName) (p : PlanOf) (u : Term) → ((e : Environment) → IsNames φ p names e → Opens φ p u e (Ok opened)) →
-        (e : Environment) → IsNames φ p names e → BeginsAs φ p u e result.0 (Ok result.1) }
+    ensures begins { (φ : AnswersByName) (p : PlanOf) (u : Term) (x : Data) → ((e : Environment) → IsNames φ p names e → Opens φ p u e x (Ok opened)) →
+        (e : Environment) → IsNames φ p names e → BeginsAs φ p u e x result.0 (Ok result.1) }
     ensures awake { result.1 ≡ Begun.Itself → IsTrue (is_awake result.0) }
 {
     match opened {
@@ -98,11 +99,16 @@ pub(crate) enum Opened {
     Running(State),
 }
 
-// A term before its first sample, with the names around it. Each group of forms opens in a function of its own, which makes
-// room for its own values alone.
-fn open<R: Holds>(context: &SampleContext<R>, term: PlanId, names: &Env) -> Result<Opened, Fault>
+// A term before its first sample, on this input, with the names around it. Each group of forms opens in a function of its own,
+// which makes room for its own values alone.
+fn open<R: Holds>(
+    context: &SampleContext<R>,
+    term: PlanId,
+    names: &Env,
+    input: &Value,
+) -> Result<Opened, Fault>
     ensures { (e : Environment) → IsNames (R.answers context.now.functions.now) (plan_in context.now) names.now e →
-        Opens (R.answers context.now.functions.now) (plan_in context.now) (plan_tree (plan_in context.now) term) e result }
+        Opens (R.answers context.now.functions.now) (plan_in context.now) (plan_tree (plan_in context.now) term) e input.now result }
 {
     match context.plan.node(term) {
         PlanNode::Primitive(primitive) => open_primitive(context, primitive, names),
@@ -113,6 +119,7 @@ fn open<R: Holds>(context: &SampleContext<R>, term: PlanId, names: &Env) -> Resu
         PlanNode::Headed(heading, _, code, part) => {
             headed(context, *heading, code, *part, names)
         }
+        PlanNode::Transformed(_, code, part) => transformed(context, code, *part, names, input),
         PlanNode::Switching(form, first, pattern, body) => {
             switching(context.alloc, *form, *first, *pattern, *body, names)
         }
@@ -141,8 +148,8 @@ fn open_primitive<R: Holds>(
     primitive: &PlanPrimitive,
     names: &Env,
 ) -> Result<Opened, Fault>
-    ensures { (t : Term) → BuildsPlan (plan_in context.now) (NodeOf.Primitive primitive.now) t → (e : Environment) →
-        IsNames (R.answers context.now.functions.now) (plan_in context.now) names.now e → Opens (R.answers context.now.functions.now) (plan_in context.now) t e result }
+    ensures { (t : Term) → BuildsPlan (plan_in context.now) (NodeOf.Primitive primitive.now) t → (x : Data) (e : Environment) →
+        IsNames (R.answers context.now.functions.now) (plan_in context.now) names.now e → Opens (R.answers context.now.functions.now) (plan_in context.now) t e x result }
 {
     let plan = context.plan;
     let around = NamesIn { plan, names };
@@ -155,7 +162,7 @@ fn open_primitive<R: Holds>(
 // A probe, which is the same before its first sample.
 #[inline(never)]
 fn probe(alloc: Global, name: &Rc<String>) -> Result<Opened, Fault>
-    ensures { (φ : AnswersByName) (p : PlanOf) (t : Term) → BuildsPlan p (NodeOf.Probe name.now) t → (e : Environment) → Opens φ p t e result }
+    ensures { (φ : AnswersByName) (p : PlanOf) (t : Term) → BuildsPlan p (NodeOf.Probe name.now) t → (x : Data) (e : Environment) → Opens φ p t e x result }
 {
     let same = name.clone()?;
     let node = Rc::new(alloc, Live::Probe(same))?;
@@ -170,9 +177,9 @@ fn referred<R: Holds>(
     name: NameId,
     names: &Env,
 ) -> Result<Opened, Fault>
-    requires { IsTrue (start_within (plan_anew (plan_in context.now)) start) }
-    ensures { (t : Term) → BuildsPlan (plan_in context.now) (NodeOf.Started start name) t → (e : Environment) →
-        IsNames (R.answers context.now.functions.now) (plan_in context.now) names.now e → Opens (R.answers context.now.functions.now) (plan_in context.now) t e result }
+    requires { IsTrue (start_asked false (plan_asks (plan_in context.now) (name_at (plan_expressions (plan_in context.now)) name)) start) }
+    ensures { (t : Term) → BuildsPlan (plan_in context.now) (NodeOf.Started start name) t → (x : Data) (e : Environment) →
+        IsNames (R.answers context.now.functions.now) (plan_in context.now) names.now e → Opens (R.answers context.now.functions.now) (plan_in context.now) t e x result }
 {
     let process = started(context.alloc, context.plan, names, start, name)?;
     Ok(Opened::Running(process))
@@ -187,22 +194,35 @@ fn call<R: Holds>(
     names: &Env,
 ) -> Result<Opened, Fault>
     requires coded { All (IsCodedArgument (plan_expressions (plan_in context.now))) arguments.now }
-    requires within { IsTrue (list_all (argument_within (plan_anew (plan_in context.now))) arguments.now) }
-    ensures { (k : NameIdOf) (v : VecOf PlanArgumentOf Global) (t : Term) → v.items ≡ arguments.now → BuildsPlan (plan_in context.now) (NodeOf.Call k template v) t → (e : Environment) →
-        IsNames (R.answers context.now.functions.now) (plan_in context.now) names.now e → Opens (R.answers context.now.functions.now) (plan_in context.now) t e result }
+    requires asked { IsTrue (arguments_asked (plan_expressions (plan_in context.now)) (plan_asks (plan_in context.now)) (header_at (plan_in context.now) template).parameters arguments.now) }
+    ensures { (k : NameIdOf) (v : VecOf PlanArgumentOf Global) (t : Term) → v.items ≡ arguments.now → BuildsPlan (plan_in context.now) (NodeOf.Call k template v) t → (x : Data) (e : Environment) →
+        IsNames (R.answers context.now.functions.now) (plan_in context.now) names.now e → Opens (R.answers context.now.functions.now) (plan_in context.now) t e x result }
 {
     let body = called(context, template, arguments, names)?;
     Ok(Opened::Running(body))
 }
 
-// Stages before their first sample, with the names around them.
+// Stages before their first sample, with the names around them: two are joined, in one node.
 #[inline(never)]
 fn pipeline(alloc: Global, stages: &[PlanId], names: &Env) -> Result<Opened, Fault>
-    ensures { (φ : AnswersByName) (p : PlanOf) (v : VecOf PlanIdOf Global) (t : Term) → v.items ≡ stages.now → BuildsPlan p (NodeOf.Pipeline v) t → (e : Environment) → IsNames φ p names.now e → Opens φ p t e result }
+    ensures { (φ : AnswersByName) (p : PlanOf) (v : VecOf PlanIdOf Global) (t : Term) → v.items ≡ stages.now → BuildsPlan p (NodeOf.Pipeline v) t → (x : Data) (e : Environment) → IsNames φ p names.now e → Opens φ p t e x result }
 {
+    if let Some((first, second)) = two_of(stages) {
+        return joined(alloc, Join::InSequence, first, second, names);
+    }
     let begun = begin_all(alloc, stages, names)?;
     let node = Rc::new(alloc, Live::Pipeline(begun))?;
     Ok(Opened::Live(node))
+}
+
+// The stages, where they are two.
+fn two_of(stages: &[PlanId]) -> Option<(PlanId, PlanId)>
+    ensures { IfSome result (λ s. stages.now ≡ s.0 ∷ s.1 ∷ []) }
+{
+    match stages {
+        [first, second] => Some((*first, *second)),
+        _ => None,
+    }
 }
 
 // Two parts joined, before their first sample, with the names around them.
@@ -214,8 +234,8 @@ fn joined(
     right: PlanId,
     names: &Env,
 ) -> Result<Opened, Fault>
-    ensures { (φ : AnswersByName) (p : PlanOf) (e : Environment) → IsNames φ p names.now e →
-        Opens φ p (joined_term join (plan_tree p left) (plan_tree p right)) e result }
+    ensures { (φ : AnswersByName) (p : PlanOf) (t : Term) → AreJoined join (plan_tree p left) (plan_tree p right) t → (x : Data) (e : Environment) →
+        IsNames φ p names.now e → Opens φ p t e x result }
 {
     let one = names.share()?;
     let two = names.share()?;
@@ -231,7 +251,7 @@ fn joined(
     Ok(Opened::Live(node))
 }
 
-// A part with a value at its head, before its first sample, with the names around it.
+// A part with an expression at its head, before its first sample, with the names around it.
 #[inline(never)]
 fn headed<R: Holds>(
     context: &SampleContext<R>,
@@ -240,15 +260,32 @@ fn headed<R: Holds>(
     part: PlanId,
     names: &Env,
 ) -> Result<Opened, Fault>
-    ensures { let p = plan_in context.now in (value : ExprId) (e : Environment) → IsCodedExpression (plan_expressions p) value code.now →
+    ensures { let p = plan_in context.now in (head : ExprId) (x : Data) (e : Environment) → IsCodedExpression (plan_expressions p) head code.now →
         IsNames (R.answers context.now.functions.now) p names.now e →
-        Opens (R.answers context.now.functions.now) p (headed_term heading (plan_expression_at p value) (plan_tree p part)) e result }
+        Opens (R.answers context.now.functions.now) p (headed_term heading (plan_expression_at p head) (plan_tree p part)) e x result }
 {
-    match constant_in(context, code, names) {
-        Ok(head) => {
-            let wrap = with_head(heading, head);
-            wrapped(context.alloc, wrap, part, names)
-        }
+    let worth = constant_in(context, code, names);
+    match with_head(heading, worth) {
+        Ok(wrap) => wrapped(context.alloc, wrap, part, names),
+        Err(fault) => Err(fault),
+    }
+}
+
+// A part whose first input is what a function makes of this one, before its first sample, with the names around it.
+#[inline(never)]
+fn transformed<R: Holds>(
+    context: &SampleContext<R>,
+    code: &OpenCode,
+    part: PlanId,
+    names: &Env,
+    input: &Value,
+) -> Result<Opened, Fault>
+    ensures { let p = plan_in context.now in (function : FunctionId) (e : Environment) → IsCodeOfFunction (function_at (plan_expressions p) function) code.now →
+        IsNames (R.answers context.now.functions.now) p names.now e →
+        Opens (R.answers context.now.functions.now) p (transformed_term (function_at (plan_expressions p) function) (plan_tree p part)) e input.now result }
+{
+    match made_in(context, code, input, names) {
+        Ok(first) => wrapped(context.alloc, Wrap::Replaced(Some(first)), part, names),
         Err(fault) => Err(fault_of(fault)),
     }
 }
@@ -263,8 +300,8 @@ fn switching(
     body: PlanId,
     names: &Env,
 ) -> Result<Opened, Fault>
-    ensures { (φ : AnswersByName) (p : PlanOf) (e : Environment) → IsNames φ p names.now e →
-        Opens φ p (switching_term form (plan_tree p first) (pattern_of (placed_at (plan_expressions p) pattern)) (plan_tree p body)) e result }
+    ensures { (φ : AnswersByName) (p : PlanOf) (x : Data) (e : Environment) → IsNames φ p names.now e →
+        Opens φ p (switching_term form (plan_tree p first) (pattern_of (placed_at (plan_expressions p) pattern)) (plan_tree p body)) e x result }
 {
     let shared = names.share()?;
     let switch = Switch {
@@ -293,9 +330,9 @@ fn keeping(
     body: PlanId,
     names: &Env,
 ) -> Result<Opened, Fault>
-    ensures { let p = plan.now in (φ : AnswersByName) (e : Environment) → IsNames φ p names.now e →
+    ensures { let p = plan.now in (φ : AnswersByName) (x : Data) (e : Environment) → IsNames φ p names.now e →
         Opens φ p (keeping_term shown (plan_tree p source) (plan_tree p observer) (name_at (plan_expressions p) name) (pattern_of (placed_at (plan_expressions p) pattern)) (plan_tree p body))
-        e result }
+        e x result }
 {
     let running = Process::within(alloc, plan, source, names)?;
     let around = names.share()?;
@@ -334,9 +371,8 @@ fn begin_all(alloc: Global, stages: &[PlanId], names: &Env) -> Result<Vec<State>
 // A form with one part, before its first sample.
 #[inline(never)]
 fn wrapped(alloc: Global, wrap: Wrap, part: PlanId, names: &Env) -> Result<Opened, Fault>
-    ensures { (φ : AnswersByName) (p : PlanOf) (t : Term) (e : Environment) (m : Made) → IsNames φ p names.now e →
-        ((x : Data) → make (network_of_plan φ p) t e x ≡ answer m) → Wraps (network_of_plan φ p) wrap t e m [] (plan_tree p part) [] →
-        Opens φ p t e result }
+    ensures { (φ : AnswersByName) (p : PlanOf) (t : Term) (x : Data) (e : Environment) → IsNames φ p names.now e →
+        WrapsAtFirst (network_of_plan φ p) t e x (plan_tree p part) (Ok wrap) → Opens φ p t e x result }
 {
     let inner = names.share()?;
     let part = State::Unborn(Process {

@@ -1,19 +1,24 @@
 //! What values are taken apart into, what forms with one part keep at first, and what switches put in place.
-ghost use Rattle.std.specs.Prelude.{◌≡◌, [], IfOk, OnOk, None, unwrap_or};
+ghost use Rattle.std.specs.Prelude.{◌≡◌, [], IfOk, IfErr, OnOk, Ok, Err, None, unwrap_or};
 ghost use Rattle.std.specs.Option.{option_map};
-ghost use Rattle.sf_value.specs.Values.{pair, first_of, second_of};
+ghost use Rattle.sf_value.specs.Values.{Data, pair, first_of, second_of};
 ghost use Rattle.sf_func.specs.Registries.{AnswersByName};
 ghost use Rattle.sf_expr.specs.Expressions.{Expression};
+ghost use Rattle.sf_expr.specs.Evaluation.{answer, eval};
+ghost use Rattle.sf_operator.specs.Answers.{Evaluates};
 ghost use Rattle.sf_term.specs.Trees.{Term, sided, headed};
 ghost use Rattle.sf_law.specs.declared.plan.Plan.{Plan as PlanOf};
-ghost use Rattle.sf_mean.specs.Lives.{Life, Process as ProcessOf, Environment};
+ghost use Rattle.sf_mean.specs.Lives.{Life, Process as ProcessOf, Environment, scope_around};
 ghost use Rattle.sf_mean.specs.Formulas.{occurring};
-ghost use Rattle.sf_mean.specs.Meaning.{Network, Made, value_made, switched_value};
+ghost use Rattle.sf_mean.specs.Meaning.{Network, Made, switched_value};
 ghost use Rattle.sf_state.specs.Standing.{Stands, Wraps};
+ghost use Rattle.sf_parts.specs.Beginning.{WrapsAtFirst};
 
+use crate::context::fault_of;
+use sf_operator::EvalFault;
 use sf_state::{Feedback, State, Wrap};
 use sf_term::{Heading, Observation, Side};
-use sf_value::{Form, Value};
+use sf_value::{Fault, Form, Value, ValueFault};
 use std::alloc::{AllocError, Global};
 use std::mem;
 use std::rc::Rc;
@@ -62,6 +67,22 @@ pub fn put_first(first: &mut Option<Value>, value: &mut Value)
     }
 }
 
+/// Puts what a part gave at the step before, or at first the constant at its head, in the place of the part's value, which is
+/// kept for the next step. The error is the fault of the constant.
+pub fn put_last(last: &mut Result<Value, ValueFault>, value: &mut Value) -> Result<(), ValueFault>
+    ensures value { OnOk result (last.old ≡ Ok value.new) }
+    ensures last { OnOk result (last.new ≡ Ok value.old) }
+    ensures fault { IfErr result (λ fault. last.old ≡ Err fault) }
+{
+    match last {
+        Ok(kept) => {
+            mem::swap(kept, value);
+            Ok(())
+        }
+        Err(fault) => Err(*fault),
+    }
+}
+
 /// A part on one side of a pair, before its first step.
 pub(crate) fn on_side(side: Side) -> Wrap
     ensures { (n : Network) (t : Term) (e : Environment) (m : Made) → Wraps n result (sided side t) e m [] t [] }
@@ -72,15 +93,41 @@ pub(crate) fn on_side(side: Side) -> Wrap
     }
 }
 
-/// A part with a value at its head, before its first step.
-pub(crate) fn with_head(heading: Heading, value: Value) -> Wrap
-    ensures { (n : Network) (i : Expression) (t : Term) (e : Environment) →
-        Wraps n result (headed heading i t) e (value_made value) [] t [] }
+/// A part with an expression at its head, before its first step, by what that is worth.
+pub(crate) fn with_head(heading: Heading, worth: Result<Value, EvalFault>) -> Result<Wrap, Fault>
+    ensures { (n : Network) (i : Expression) (t : Term) (e : Environment) (x : Data) → Evaluates worth (eval i (scope_around n.functions e)) →
+        WrapsAtFirst n (headed heading i t) e x t result }
+{
+    match worth {
+        Ok(value) => Ok(with_value(heading, value)),
+        Err(fault) => with_fault(heading, fault),
+    }
+}
+
+// The same by the expression's value.
+fn with_value(heading: Heading, value: Value) -> Wrap
+    ensures { (n : Network) (i : Expression) (t : Term) (e : Environment) (x : Data) → eval i (scope_around n.functions e) ≡ answer value →
+        WrapsAtFirst n (headed heading i t) e x t (Ok result) }
 {
     match heading {
         Heading::LoopPre => Wrap::Loop(Feedback::new(value)),
         Heading::Initialized => Wrap::Initialized(Some(value)),
         Heading::Replaced => Wrap::Replaced(Some(value)),
+        Heading::Followed => Wrap::Followed(Ok(value)),
+    }
+}
+
+// The same by its fault: `fby` keeps it until its part was stepped.
+fn with_fault(heading: Heading, fault: EvalFault) -> Result<Wrap, Fault>
+    ensures { (n : Network) (i : Expression) (t : Term) (e : Environment) (x : Data) → Evaluates (Err fault) (eval i (scope_around n.functions e)) →
+        WrapsAtFirst n (headed heading i t) e x t result }
+{
+    match heading {
+        Heading::LoopPre | Heading::Initialized | Heading::Replaced => Err(fault_of(fault)),
+        Heading::Followed => match fault {
+            EvalFault::Value(own) => Ok(Wrap::Followed(Err(own))),
+            EvalFault::Memory => Err(Fault::Memory),
+        },
     }
 }
 

@@ -5,7 +5,7 @@ use Rattle.std.proofs.lemmas.List.Elements.{All-nil, All-cons, All-head, All-tai
 use Rattle.sf_value.specs.Values.{Name, int_keys, text_keys, Kind, unit_kind, bool_kind, int_kind, text_kind, pair_kind, event_kind, table_kind}
 use Rattle.sf_expr.specs.Expressions.{Literal, unit_literal, truth_literal, int_literal, text_literal, none_literal, Expression, variable, literal, paired, applied, operation, conditional, mapped, folded, called, Function, function}
 use Rattle.sf_term.specs.Parameters.{NameKind, value as value_kind, process as process_kind}
-use Rattle.sf_term.specs.Trees.{Primitive, bare, probe, never, with_value, timed, selected, arrow, accumulated, fused, Term, primitive, reference, joined, sided, headed, switching, keeping, staged, Reference, started, call, Arguments, no_arguments, value_argument, process_argument, closed_argument, Template, Templates}
+use Rattle.sf_term.specs.Trees.{Primitive, bare, probe, never, with_value, timed, selected, arrow, accumulated, fused, Term, primitive, reference, joined, sided, headed, transformed, switching, keeping, staged, Reference, started, call, Arguments, no_arguments, value_argument, process_argument, closed_argument, Template, Templates}
 use Rattle.sf_lex.specs.declared.word.Keyword.{Keyword}
 use Rattle.sf_lex.specs.declared.word.Keyword.TheVariants as words
 use Rattle.sf_lex.specs.declared.symbol.Symbol.TheVariants as symbols
@@ -119,6 +119,7 @@ mutual
   term_shorter (joined j f g) = brackets _ _ _ _ _ (term_shorter f) (term_shorter g)
   term_shorter (sided s f) = keeps (term_shorter f)
   term_shorter (headed h e f) = keeps (brackets _ _ _ _ _ (expression_shorter e) (term_shorter f))
+  term_shorter (transformed h f) = keeps (brackets _ _ _ _ _ (function_shorter h) (term_shorter f))
   term_shorter (switching w f p g) = keeps (brackets _ _ _ _ _ (term_shorter f) (mapping (spell_pattern p) _ _ (term_shorter g)))
   term_shorter (keeping w f g k p u) = keeps (brackets _ _ _ _ _ (term_shorter f) (then _ _ _ _ (term_shorter g) (keeps (keeps (keeps (mapping (spell_pattern p) _ _ (term_shorter u)))))))
   term_shorter (staged x f g) = none

@@ -7,7 +7,7 @@ use Rattle.sf_expr.specs.Expressions.{Literal, unit_literal, truth_literal, int_
 use Rattle.sf_term.specs.declared.form.Start.{Start}
 use Rattle.sf_term.specs.declared.form.Start.TheVariants as starts
 use Rattle.sf_term.specs.Parameters.{NameKind, value as value_kind, process as process_kind}
-use Rattle.sf_term.specs.Trees.{Primitive, bare, probe, never, with_value, timed, selected, arrow, accumulated, fused, Term, primitive, reference, joined, sided, headed, switching, keeping, staged, Reference, started, call, Arguments, no_arguments, value_argument, process_argument, closed_argument, Template, Templates}
+use Rattle.sf_term.specs.Trees.{Primitive, bare, probe, never, with_value, timed, selected, arrow, accumulated, fused, Term, primitive, reference, joined, sided, headed, transformed, switching, keeping, staged, Reference, started, call, Arguments, no_arguments, value_argument, process_argument, closed_argument, Template, Templates}
 use Rattle.sf_grammar.specs.declared.ty.Version.{Version}
 use Rattle.sf_grammar.specs.declared.ty.Version.TheVariants as versions
 use Rattle.sf_grammar.specs.Spelling.{WritesKeys, WritesType, IsWrittenType, WritesExpression, WritesFunction, WritesStart, WritesTerm, WritesReference, WritesArguments, WritesNameKind, HasWrittenTypes, IsWithinLimits}
@@ -102,6 +102,8 @@ mutual
   term_moves v w (suc d) (sided k f) h s = term_moves v w d f h s
   term_moves v w (suc d) (headed k e f) h s =
       let both = parts w (expression_needs_two e) (term_needs_two f) s in (h.0, expression_moves v w d e h.1 both.0, term_moves v w d f h.2 both.1)
+  term_moves v w (suc d) (transformed k f) h s =
+      let both = parts w (function_needs_two k) (term_needs_two f) s in (function_moves v w d k h.0 both.0, term_moves v w d f h.1 both.1)
   term_moves v w (suc d) (switching k f p g) h s =
       let both = parts w (term_needs_two f) (term_needs_two g) s in (term_moves v w d f h.0 both.0, term_moves v w d g h.1 both.1)
   term_moves v w (suc d) (keeping k f g x p u) h s =

@@ -27,6 +27,7 @@ token_bytes (symbol s) = symbol_bytes s
 abbrev pub has_brackets : Option Head → Bool
 has_brackets (Some (heads.Accumulated k)) = true
 has_brackets (Some (heads.Headed h)) = true
+has_brackets (Some heads.Transformed) = true
 has_brackets (Some (heads.Switching w)) = true
 has_brackets (Some (heads.Keeping w)) = true
 has_brackets (Some heads.Call) = true

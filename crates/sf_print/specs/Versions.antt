@@ -6,7 +6,7 @@ use Rattle.sf_expr.specs.Expressions.{Literal, unit_literal, truth_literal, int_
 use Rattle.sf_term.specs.declared.form.Start.{Start}
 use Rattle.sf_term.specs.declared.form.Start.TheVariants as starts
 use Rattle.sf_term.specs.Parameters.{PlacedParameter, NameKind, value as value_kind, process as process_kind}
-use Rattle.sf_term.specs.Trees.{Primitive, bare, probe, never, with_value, timed, selected, arrow, accumulated, fused, Term, primitive, reference, joined, sided, headed, switching, keeping, staged, Reference, started, call, Arguments, no_arguments, value_argument, process_argument, closed_argument, Template, Templates}
+use Rattle.sf_term.specs.Trees.{Primitive, bare, probe, never, with_value, timed, selected, arrow, accumulated, fused, Term, primitive, reference, joined, sided, headed, transformed, switching, keeping, staged, Reference, started, call, Arguments, no_arguments, value_argument, process_argument, closed_argument, Template, Templates}
 use Rattle.sf_grammar.specs.declared.ty.Version.{Version}
 use Rattle.sf_grammar.specs.declared.ty.Version.TheVariants as versions
 
@@ -69,6 +69,7 @@ abbrev mutual
   term_needs_two (joined j f g) = term_needs_two f || term_needs_two g
   term_needs_two (sided s f) = term_needs_two f
   term_needs_two (headed h e f) = expression_needs_two e || term_needs_two f
+  term_needs_two (transformed h f) = function_needs_two h || term_needs_two f
   term_needs_two (switching w f p g) = term_needs_two f || term_needs_two g
   term_needs_two (keeping w f g k p u) = term_needs_two f || (term_needs_two g || term_needs_two u)
   term_needs_two (staged x f g) = false

@@ -210,6 +210,7 @@ fn has_brackets(head: Option<Head>) -> bool
         Some(
             Head::Accumulated(_)
             | Head::Headed(_)
+            | Head::Transformed
             | Head::Switching(_)
             | Head::Keeping(_)
             | Head::Call,
@@ -253,7 +254,7 @@ fn last_of_symbol(symbol: Symbol) -> Last
 {
     match symbol {
         Symbol::Semicolon | Symbol::Open | Symbol::OpenBracket => Last::Opening,
-        Symbol::Initially | Symbol::OnFirstInput => Last::Head,
+        Symbol::Initially | Symbol::OnFirstInput | Symbol::MapsFirstInput => Last::Head,
         _ => Last::Other,
     }
 }

@@ -4,7 +4,7 @@ ghost use Rattle.sf_expr.specs.Arena.{name_at, literal_at};
 ghost use Rattle.sf_expr.specs.Patterns.{pattern_of};
 ghost use Rattle.sf_term.specs.declared.node.Node.TheVariants as nodes;
 ghost use Rattle.sf_term.specs.Entries.{absent_payload};
-ghost use Rattle.sf_term.specs.Trees.{primitive as primitive_of, never as never_of, named_term, joined as joined_of, sided as sided_of, headed as headed_of, switching as switching_of, keeping as keeping_of, reference as reference_of, call as call_of};
+ghost use Rattle.sf_term.specs.Trees.{primitive as primitive_of, never as never_of, named_term, joined as joined_of, sided as sided_of, headed as headed_of, transformed as transformed_of, switching as switching_of, keeping as keeping_of, reference as reference_of, call as call_of};
 ghost use Rattle.sf_term.specs.Arena.{tree, term_of, term_number, expressions_of, expression_under, function_in, pattern_under, arguments_of, ArgumentBelow};
 ghost use Rattle.sf_grammar.specs.Spelling.{spell_term, spell_mapping, spell_pattern, spell_value, spell_expression, spell_function, spell_listed, spell_further, spell_arguments, stands_initially, value_word, naming_token};
 ghost use Rattle.sf_print.specs.Drafts.{append_token, append_tokens};
@@ -184,6 +184,9 @@ pub(crate) fn write_term(
         Node::Headed(heading, value, part) => {
             write_headed(program, version, heading, value, part, draft)
         }
+        Node::Transformed(function, part) => {
+            write_transformed(program, version, function, part, draft)
+        }
         Node::Switching(switching, source, pattern, body) => {
             write_switching(program, version, switching, source, pattern, body, draft)
         }
@@ -237,6 +240,26 @@ fn write_headed(
     draft.sign(heading_sign(heading))?;
     draft.symbol(Symbol::Open)?;
     write_value(program, version, value, draft)?;
+    draft.symbol(Symbol::Comma)?;
+    write_term(program, version, part, draft)?;
+    draft.symbol(Symbol::Close)
+}
+
+/// Appends a term with a function at its head.
+#[cycle(term)]
+#[tactic(auto, using(crate::proofs::Putting::tokens_apart))]
+fn write_transformed(
+    program: &Program,
+    version: Version,
+    function: FunctionId,
+    part: TermId,
+    draft: &mut Draft,
+) -> Result<(), AllocError>
+    ensures { OnOk result (draft.new ≡ append_tokens draft.old (spell_term version (transformed_of (function_in program.now function) (tree program.now part)))) }
+{
+    draft.symbol(Symbol::MapsFirstInput)?;
+    draft.symbol(Symbol::Open)?;
+    write_mapped(program, version, function, draft)?;
     draft.symbol(Symbol::Comma)?;
     write_term(program, version, part, draft)?;
     draft.symbol(Symbol::Close)

@@ -122,6 +122,9 @@ fn term_needs_two(program: &Program, id: TermId) -> bool
         Node::Headed(_, value, part) => {
             value_needs_two(program, value) || term_needs_two(program, part)
         }
+        Node::Transformed(function, part) => {
+            function_needs_two(program, function) || term_needs_two(program, part)
+        }
         Node::Switching(_, source, _, body) => {
             term_needs_two(program, source) || term_needs_two(program, body)
         }

@@ -130,6 +130,7 @@ pub(crate) fn heading_sign(heading: Heading) -> Sign
         Heading::LoopPre => Sign::Word(Keyword::LoopPre),
         Heading::Initialized => Sign::Symbol(Symbol::Initially),
         Heading::Replaced => Sign::Symbol(Symbol::OnFirstInput),
+        Heading::Followed => Sign::Word(Keyword::Fby),
     }
 }
 

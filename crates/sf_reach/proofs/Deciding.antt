@@ -8,8 +8,8 @@ use Rattle.sf_value.specs.Values.{Name}
 use Rattle.sf_expr.specs.Expressions.{Pattern}
 use Rattle.sf_term.specs.declared.form.Join.{Join}
 use Rattle.sf_term.specs.declared.form.Observation.{Observation}
-use Rattle.sf_term.specs.Trees.{Extent, Term, primitive, reference, started, call, Reference, Arguments, no_arguments, value_argument, process_argument, closed_argument, joined, sided, headed, switching, keeping, staged, Template, Templates, template_named}
-use Rattle.sf_mean.specs.Calls.{Calls, calls_it, calls_within, left_calls, right_calls, side_calls, headed_calls, switch_calls, source_calls, observer_calls, stage_calls, stages_call, ArgumentsCall, process_calls, closed_calls, past_value_calls, past_process_calls, past_closed_calls, ReachesTemplate, reaches, reaches_on}
+use Rattle.sf_term.specs.Trees.{Extent, Term, primitive, reference, started, call, Reference, Arguments, no_arguments, value_argument, process_argument, closed_argument, joined, sided, headed, transformed, switching, keeping, staged, Template, Templates, template_named}
+use Rattle.sf_mean.specs.Calls.{Calls, calls_it, calls_within, left_calls, right_calls, side_calls, headed_calls, transformed_calls, switch_calls, source_calls, observer_calls, stage_calls, stages_call, ArgumentsCall, process_calls, closed_calls, past_value_calls, past_process_calls, past_closed_calls, ReachesTemplate, reaches, reaches_on}
 use Rattle.sf_reach.specs.Names.{names}
 use Rattle.sf_reach.specs.Order.{PlacedCall}
 use Rattle.sf_reach.specs.Endless.{IsEndless}
@@ -73,6 +73,7 @@ mutual
   calls_or_not (joined j f g) h = one_of (λ c. left_calls c) (λ c. right_calls c) (λ c. joined_call c) (calls_or_not f h) (calls_or_not g h)
   calls_or_not (sided d t) h = same (λ c. side_calls c) (λ c. elim c [ side_calls k ↦ k ]) (calls_or_not t h)
   calls_or_not (headed w i t) h = same (λ c. headed_calls c) (λ c. elim c [ headed_calls k ↦ k ]) (calls_or_not t h)
+  calls_or_not (transformed f t) h = same (λ c. transformed_calls c) (λ c. elim c [ transformed_calls k ↦ k ]) (calls_or_not t h)
   calls_or_not (switching w t p u) h = same (λ c. switch_calls c) (λ c. elim c [ switch_calls k ↦ k ]) (calls_or_not t h)
   calls_or_not (keeping w t q k p u) h = one_of (λ c. source_calls c) (λ c. observer_calls c) (λ c. kept_call c) (calls_or_not t h) (calls_or_not q h)
   calls_or_not (staged x f g) h = one_of (λ c. stage_calls c) (λ c. stages_call c) (λ c. staged_call c) (calls_or_not f h) (calls_or_not g h)

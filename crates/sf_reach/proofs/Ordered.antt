@@ -19,8 +19,8 @@ use Rattle.sf_term.specs.declared.node.Node.TheVariants as nodes
 use Rattle.sf_term.specs.declared.program.Program.{Program}
 use Rattle.sf_term.specs.Arena.{term_number, tree, term_node_at, term_spot_at, term_entry_of, term_of, arguments_of, arguments_under, expressions_of, TermPartsBelow, ArgumentBelow}
 use Rattle.sf_term.proofs.Kept.{node_builds, parts_below}
-use Rattle.sf_mean.specs.Calls.{Calls, calls_it, calls_within, left_calls, right_calls, side_calls, headed_calls, switch_calls, source_calls, observer_calls, ArgumentsCall, process_calls, past_value_calls, past_process_calls}
-use Rattle.sf_reach.specs.Order.{PlacedCall, CallsInOrder, calls_there, FormCalls, in_primitive, in_named, in_call, in_joined, in_sided, in_headed, in_switching, in_keeping, ArgumentCalls, in_none, past_value, in_process}
+use Rattle.sf_mean.specs.Calls.{Calls, calls_it, calls_within, left_calls, right_calls, side_calls, headed_calls, transformed_calls, switch_calls, source_calls, observer_calls, ArgumentsCall, process_calls, past_value_calls, past_process_calls}
+use Rattle.sf_reach.specs.Order.{PlacedCall, CallsInOrder, calls_there, FormCalls, in_primitive, in_named, in_call, in_joined, in_sided, in_headed, in_transformed, in_switching, in_keeping, ArgumentCalls, in_none, past_value, in_process}
 use Rattle.sf_reach.proofs.Lists.{In, first, later, in_left, in_right}
 
 -- ## They are the same however they are found
@@ -36,6 +36,7 @@ mutual
   form_once (in_joined h k) (in_joined i j) = ap₂ (λ cs ds. cs ++ ds) (calls_once h i) (calls_once k j)
   form_once (in_sided h) (in_sided k) = calls_once h k
   form_once (in_headed h) (in_headed k) = calls_once h k
+  form_once (in_transformed h) (in_transformed k) = calls_once h k
   form_once (in_switching h) (in_switching k) = calls_once h k
   form_once (in_keeping h k) (in_keeping i j) = ap₂ (λ cs ds. cs ++ ds) (calls_once h i) (calls_once k j)
 
@@ -81,6 +82,7 @@ mutual
       both T cs ds (each_into (Calls (tree p f)) T (λ x c. left_calls c) cs (calls_sound h)) (each_into (Calls (tree p g)) T (λ x c. right_calls c) ds (calls_sound k))
   form_sound {p} (in_sided {d = d} {f = f} {cs = cs} h) = each_into (Calls (tree p f)) (Calls (term_of p (nodes.Sided d f))) (λ x c. side_calls c) cs (calls_sound h)
   form_sound {p} (in_headed {w = w} {e = e} {f = f} {cs = cs} h) = each_into (Calls (tree p f)) (Calls (term_of p (nodes.Headed w e f))) (λ x c. headed_calls c) cs (calls_sound h)
+  form_sound {p} (in_transformed {g = g} {f = f} {cs = cs} h) = each_into (Calls (tree p f)) (Calls (term_of p (nodes.Transformed g f))) (λ x c. transformed_calls c) cs (calls_sound h)
   form_sound {p} (in_switching {w = w} {f = f} {u = u} {q = q} {cs = cs} h) = each_into (Calls (tree p f)) (Calls (term_of p (nodes.Switching w f q u))) (λ x c. switch_calls c) cs (calls_sound h)
   form_sound {p} (in_keeping {n = n} {w = w} {f = f} {o = o} {u = u} {k = k} {q = q} {cs = cs} {ds = ds} h i) =
       let T : Name → Type 0 = Calls (term_of p (nodes.Keeping w f o k n q u)) in
@@ -131,6 +133,7 @@ mutual
   form_complete (in_joined {cs = cs} h k) (right_calls c) = has_right cs (calls_complete k c)
   form_complete (in_sided h) (side_calls c) = calls_complete h c
   form_complete (in_headed h) (headed_calls c) = calls_complete h c
+  form_complete (in_transformed h) (transformed_calls c) = calls_complete h c
   form_complete (in_switching h) (switch_calls c) = calls_complete h c
   form_complete (in_keeping {ds = ds} h k) (source_calls c) = has_left ds (calls_complete h c)
   form_complete (in_keeping {cs = cs} h k) (observer_calls c) = has_right cs (calls_complete k c)
@@ -173,6 +176,7 @@ listed_within p (suc fuel) t h =
     by (nodes.Joined j f g) b part = let l = part f b.0 in let r = part g b.1 in (l.0 ++ r.0, in_joined l.1 r.1)
     by (nodes.Sided d f) b part = let l = part f b in (l.0, in_sided l.1)
     by (nodes.Headed w e f) b part = let l = part f b in (l.0, in_headed l.1)
+    by (nodes.Transformed g f) b part = let l = part f b in (l.0, in_transformed l.1)
     by (nodes.Switching w f q u) b part = let l = part f b.0 in (l.0, in_switching l.1)
     by (nodes.Keeping w f o k n q u) b part = let l = part f b.0 in let r = part o b.1 in (l.0 ++ r.0, in_keeping l.1 r.1)
 

@@ -3,6 +3,7 @@ use Rattle.std.specs.Prelude.{List, [], ◌∷◌, ◌++◌}
 use Rattle.sf_value.specs.Values.{Name}
 use Rattle.sf_refusal.specs.declared.spot.Spot.{Spot}
 use Rattle.sf_expr.specs.declared.exprs.ExprId.{ExprId}
+use Rattle.sf_expr.specs.declared.exprs.FunctionId.{FunctionId}
 use Rattle.sf_expr.specs.declared.exprs.NameId.{NameId}
 use Rattle.sf_expr.specs.declared.exprs.PatternId.{PatternId}
 use Rattle.sf_expr.specs.Arena.{name_at}
@@ -42,6 +43,7 @@ mutual
     in_joined : {s : Spot} {j : Join} {f g : TermId} {cs ds : List PlacedCall} → CallsInOrder p f cs → CallsInOrder p g ds → FormCalls p s (nodes.Joined j f g) (cs ++ ds)
     in_sided : {s : Spot} {d : Side} {f : TermId} {cs : List PlacedCall} → CallsInOrder p f cs → FormCalls p s (nodes.Sided d f) cs
     in_headed : {s : Spot} {w : Heading} {e : ExprId} {f : TermId} {cs : List PlacedCall} → CallsInOrder p f cs → FormCalls p s (nodes.Headed w e f) cs
+    in_transformed : {s : Spot} {g : FunctionId} {f : TermId} {cs : List PlacedCall} → CallsInOrder p f cs → FormCalls p s (nodes.Transformed g f) cs
     in_switching : {s : Spot} {w : Switching} {f u : TermId} {q : PatternId} {cs : List PlacedCall} → CallsInOrder p f cs → FormCalls p s (nodes.Switching w f q u) cs
     in_keeping : {s n : Spot} {w : Observation} {f o u : TermId} {k : NameId} {q : PatternId} {cs ds : List PlacedCall}
         → CallsInOrder p f cs → CallsInOrder p o ds → FormCalls p s (nodes.Keeping w f o k n q u) (cs ++ ds)

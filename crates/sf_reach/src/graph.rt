@@ -62,9 +62,10 @@ fn gather(
             }
             gather_arguments(program, names, term, program.arguments(arguments), calls)
         }
-        Node::Sided(_, part) | Node::Headed(_, _, part) | Node::Switching(_, part, _, _) => {
-            gather(program, names, part, calls)
-        }
+        Node::Sided(_, part)
+        | Node::Headed(_, _, part)
+        | Node::Transformed(_, part)
+        | Node::Switching(_, part, _, _) => gather(program, names, part, calls),
         Node::Joined(_, first, second) | Node::Keeping(_, first, second, _, _, _, _) => {
             gather(program, names, first, calls)?;
             gather(program, names, second, calls)

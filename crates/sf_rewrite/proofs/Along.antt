@@ -1,19 +1,19 @@
 -- A step of one term made into a step of another: over whole lives, in parts, and one after another.
 use Rattle.std.proofs.Common.{Bool, List, [], refl, Option}
 use Rattle.sf_value.specs.Values.{Data}
-use Rattle.sf_expr.specs.Expressions.{Pattern, Expression}
+use Rattle.sf_expr.specs.Expressions.{Pattern, Expression, Function}
 use Rattle.sf_term.specs.declared.form.Join.{Join}
 use Rattle.sf_term.specs.declared.form.Join.TheVariants.{InParallel, FannedOut}
 use Rattle.sf_term.specs.declared.form.Side.{Side}
 use Rattle.sf_term.specs.declared.form.Heading.{Heading}
 use Rattle.sf_term.specs.declared.form.Observation.{Observation}
 use Rattle.sf_term.specs.declared.form.Switching.{Switching}
-use Rattle.sf_term.specs.Trees.{Extent, Term, joined, sided, headed, switching, staged}
+use Rattle.sf_term.specs.Trees.{Extent, Term, joined, sided, headed, transformed, switching, staged}
 use Rattle.sf_mean.specs.Lives.{Step, Life, Environment, with_inputs, relay}
 use Rattle.sf_mean.specs.Formulas.{side_of}
 use Rattle.sf_mean.specs.Meaning.{Outcome, Cost, text_cost}
 use Rattle.sf_value.specs.Values.{first_of, second_of}
-use Rattle.sf_rewrite.proofs.Parts.{Leaves, Stand, Part, part, Parts, begins, then_gave, At, at_leaf, at_join, at_stages, at_side, at_loop, at_initialized, at_replaced, at_constant, at_switch, at_recurring, Then, then_part, then_stops, Rounds, no_round, one_round, Watches, watch_begins, then_watched, fired_before, Turns, turn_waits, turn_body, Switches, switch_stops, switch_goes, Runs, runs_first, runs_body, Bodies, no_body, body_begins, no_truth, OneLeaf}
+use Rattle.sf_rewrite.proofs.Parts.{Leaves, Stand, Part, part, Parts, begins, then_gave, At, at_leaf, at_join, at_stages, at_side, at_loop, at_initialized, at_replaced, at_followed, at_constant, at_transformed, at_function, at_switch, at_recurring, Then, then_part, then_stops, Rounds, no_round, one_round, Watches, watch_begins, then_watched, fired_before, Turns, turn_waits, turn_body, Switches, switch_stops, switch_goes, Runs, runs_first, runs_body, Bodies, no_body, body_begins, no_truth, OneLeaf}
 use Rattle.sf_rewrite.proofs.Views.{Chained, Paired, Fanned, Sided, SplitStages, SplitFan, SplitSide, pairs, last_stages, make_stages, last_parallel, make_parallel, last_fan, make_fan, last_side, make_side}
 use Rattle.sf_rewrite.proofs.Lowered.{Below, Lowered, lowered, below_same, below_trans, below_over, below_both, below_stages}
 
@@ -89,7 +89,13 @@ module _ (Q : Leaves) (one : OneLeaf Q) where
   sound_heading S b e s L ys o c P (at_loop h A B) = elim (part_along S B) [ lowered B' k ↦ lowered (at_loop h (rounds_along S A) B') (below_over _ _ k) ]
   sound_heading S b e s L ys o c P (at_initialized h A) = elim (part_along S A) [ lowered A' k ↦ lowered (at_initialized h A') (below_over _ _ k) ]
   sound_heading S b e s L ys o c P (at_replaced h A) = elim (part_along S A) [ lowered A' k ↦ lowered (at_replaced h A') (below_over _ _ k) ]
-  sound_heading S b e s L ys o c P (at_constant h) = lowered (at_constant h) (below_over _ _ b)
+  sound_heading S b e s L ys o c P (at_followed A B) = elim (part_along S B) [ lowered B' k ↦ lowered (at_followed (parts_along S A) B') (below_over _ _ k) ]
+  sound_heading S b e s L ys o c P (at_constant z h) = lowered (at_constant z h) (below_over _ _ b)
+
+  pub sound_transformed : {d : Bool} {f : Function} {t t' : Term} → Sound d t t' → Below d (text_cost t) (text_cost t') → Sound d (transformed f t) (transformed f t')
+  sound_transformed S b e s L ys o c P (at_leaf h B) = absurd (no_truth h)
+  sound_transformed S b e s L ys o c P (at_transformed h A) = elim (part_along S A) [ lowered A' k ↦ lowered (at_transformed h A') (below_over _ _ k) ]
+  sound_transformed S b e s L ys o c P (at_function h) = lowered (at_function h) (below_over _ _ b)
 
   pub sound_switch : {d : Bool} {w : Switching} {t t' u u' : Term} {p : Pattern} → Sound d t t' → Sound d u u' → Sound d (switching w t p u) (switching w t' p u')
   sound_switch S T e s L ys o c P (at_leaf h B) = absurd (no_truth h)

@@ -132,11 +132,11 @@ module _ (Q : Leaves) (one : OneLeaf Q) where
   sound_left_tightened q e s L ys o c P (at_leaf h B) = absurd (no_truth h)
   sound_left_tightened {f = f} {g = g} q e s L ys o c P (at_loop {v = v} k A (part B C)) =
       elim (rounds_split f g e v A) [ split F R ↦ made_before k F R (step_before f g e v F R (view_stages Q one (rounds_parts Q one A) C)) ]
-  sound_left_tightened {i} {f} {g} q e s L ys o c P (at_constant k) = elim q [
+  sound_left_tightened {i} {f} {g} q e s L ys o c P (at_constant z k) = elim q [
     | inl h ↦ absurd (no_fault (sym (quiet_eval i h (scope_around Q.functions e)).1 ∙ k))
     | inr h ↦
         let r = quiet_steps Q one f h e s [] [] begins in
-        lowered (make_stages Q one (chained begins begins r.1 (goes (at_constant k)))) (below (omega arith) (omega arith))
+        lowered (make_stages Q one (chained begins begins r.1 (goes (at_constant refl k)))) (below (omega arith) (omega arith))
   ]
 
   last_loop : {i : Expression} {g : Term} {e : Environment} {v : Data} {s : Step} {M : Life} {o : Outcome} {c : Cost} → eval i (scope_around Q.functions e) ≡ answer v → At Q (loop_pre i g) e s M o c → (y : Data) (r : Readings) → o ≡ gave y r → (zs : List Data) × Rounds Q v g e (s ∷ M) zs
@@ -147,7 +147,7 @@ module _ (Q : Leaves) (one : OneLeaf Q) where
       let O : Data → Type 0 = λ v. Part Q g e (fed v (s ∷ M) zs) (gave z q) c in
       (z ∷ zs, one_round (subst N identity R) (subst O identity G))
   last_loop k (at_loop {o = faulted x} k' R G) y r h = absurd cc
-  last_loop k (at_constant k') y r h = absurd (no_fault (sym k ∙ k'))
+  last_loop k (at_constant z k') y r h = absurd (no_fault (sym k ∙ k'))
 
   loop_rounds : {i : Expression} {g : Term} {e : Environment} {v : Data} {M : Life} {ys : List Data} → eval i (scope_around Q.functions e) ≡ answer v → Parts Q (loop_pre i g) e M ys → (zs : List Data) × Rounds Q v g e M zs
   loop_rounds k begins = ([], no_round)
@@ -169,9 +169,9 @@ module _ (Q : Leaves) (one : OneLeaf Q) where
                 let M : Outcome → Type 0 = λ o. At Q (loop_pre i (staged whole (sided First f) g)) e s L o (over b) in
                 lowered (subst M (first_later u u r q) (at_loop k S B)) (below_any _ _)
           ]
-      value {r = r} b h A C (at_constant {x = x} k) =
+      value {r = r} b h A C (at_constant {x = x} z k) =
           let N : Life → Type 0 = λ L. At Q (loop_pre i (staged whole (sided First f) g)) e s L (faulted x) (over (text_cost (staged whole (sided First f) g))) in
-          lowered (subst N (sym (relay_none A (sym h))) (at_constant k)) (below_any _ _)
+          lowered (subst N (sym (relay_none A (sym h))) (at_constant refl k)) (below_any _ _)
 
       outer : {o : Outcome} {c : Cost} → Chained Q whole f (loop_pre i g) e s L zs o c → Lowered false (At Q (loop_pre i (staged whole (sided First f) g)) e s L o) c
       outer (chained {p = gave u r} A B C (goes D)) = value _ refl A C D

@@ -5,23 +5,24 @@ use mathlib.Core.Path.{subst₂}
 use Rattle.sf_value.specs.Values.{Name, Data, first_of, second_of}
 use Rattle.sf_value.specs.declared.fault.ValueFault.{ValueFault}
 use Rattle.sf_func.specs.Registries.{AnswersByName}
-use Rattle.sf_expr.specs.Expressions.{Pattern, unnamed, named, both, Expression}
-use Rattle.sf_expr.specs.Evaluation.{Evaluated, answer, failed, ◌>>=◌, Scope, no_names, value_name, other_name, eval}
+use Rattle.sf_expr.specs.Expressions.{Pattern, unnamed, named, both, Expression, Function}
+use Rattle.sf_expr.specs.Evaluation.{Evaluated, answer, failed, ◌>>=◌, Scope, no_names, value_name, other_name, eval, apply}
 use Rattle.sf_term.specs.declared.form.Join.{Join}
 use Rattle.sf_term.specs.declared.form.Side.{Side}
 use Rattle.sf_term.specs.declared.form.Heading.{Heading}
+use Rattle.sf_term.specs.declared.form.Heading.TheVariants.{LoopPre, Initialized, Replaced, Followed}
 use Rattle.sf_term.specs.declared.form.Observation.{Observation}
 use Rattle.sf_term.specs.declared.form.Start.{Start}
 use Rattle.sf_term.specs.declared.form.Start.TheVariants.{Run, Fresh}
 use Rattle.sf_term.specs.declared.form.Switching.{Switching}
-use Rattle.sf_term.specs.Trees.{Primitive, Term, primitive, Reference, reference, started, call, Arguments, no_arguments, value_argument, process_argument, closed_argument, template_named, joined, sided, headed, switching, keeping, staged, Template, Templates}
+use Rattle.sf_term.specs.Trees.{Primitive, Term, primitive, Reference, reference, started, call, Arguments, no_arguments, value_argument, process_argument, closed_argument, template_named, joined, sided, headed, transformed, switching, keeping, staged, Template, Templates}
 use Rattle.sf_mean.specs.Lives.{Step, wait_of, input_of, Life, Process, closure, resumed, Environment, empty, known, running, passing, process_of, base, process_started, scope_around, bind, after, frozen, first_input}
 use Rattle.sf_mean.specs.Formulas.{occurring, formula}
-use Rattle.sf_mean.specs.Meaning.{Network, Readings, Outcome, gave, faulted, as_outcome, recorded, Cost, no_cost, over_first, one_term, text_cost, last_event, Made, process_made, argument_process, argued, process_called, referred, make, entered_cost, arguments_cost, Watched, itself, observed, Takeover, Standing, waits, fired, stands_after, whenever, body_of, body_with, Gives, gives, Outputs, not_begun, and_gave, Sample, of_constants, of_form, of_resumed, Form, of_primitive, of_reference, of_join, of_side, of_loop, of_initialized, of_replaced, of_switch, of_keeping, of_recurring, of_stages, what_runs, Next, goes_on, stops, Loops, no_loop, and_looped, Sees, beside_values, by_observer, Since, at_start, watched, had_fired, SwitchTurn, while_waiting, as_body, Switched, after_fault, after_value, Fires, no_event_yet, event_now}
+use Rattle.sf_mean.specs.Meaning.{Network, Readings, Outcome, gave, faulted, as_outcome, answered_by, newest_or, recorded, Cost, no_cost, over, over_first, one_term, text_cost, last_event, Made, process_made, argument_process, argued, process_called, referred, make, entered_cost, arguments_cost, Watched, itself, observed, Takeover, Standing, waits, fired, stands_after, whenever, body_of, body_with, Gives, gives, Outputs, not_begun, and_gave, Sample, of_constants, of_form, of_resumed, Form, of_primitive, of_reference, of_join, of_side, of_loop, of_initialized, of_replaced, of_followed, of_transformed, of_switch, of_keeping, of_recurring, of_stages, what_runs, Next, goes_on, stops, Loops, no_loop, and_looped, Sees, beside_values, by_observer, Since, at_start, watched, had_fired, SwitchTurn, while_waiting, as_body, Switched, after_fault, after_value, Fires, no_event_yet, event_now}
 use Rattle.sf_term.specs.Parameters.{Bindings}
 use Rattle.sf_rewrite.specs.Laws.{Laws, unchanged}
 use Rattle.sf_rewrite.specs.Plans.{is_started}
-use Rattle.sf_rewrite.proofs.Parts.{Leaves, Stand, waiting, began, later_stand, stand_after, Part, part, Parts, begins, then_gave, At, at_leaf, at_primitive, at_join, at_stages, at_side, at_loop, at_initialized, at_replaced, at_constant, at_switch, at_recurring, Then, then_part, then_stops, Rounds, no_round, one_round, Watches, watch_begins, then_watched, fired_before, Turns, turn_waits, turn_body, Switches, switch_stops, switch_goes, Runs, runs_first, runs_body, Bodies, no_body, body_begins, is_leaf, no_truth, OneLeaf}
+use Rattle.sf_rewrite.proofs.Parts.{Leaves, Stand, waiting, began, later_stand, stand_after, Part, part, Parts, begins, then_gave, At, at_leaf, at_primitive, at_join, at_stages, at_side, at_loop, at_initialized, at_replaced, at_followed, at_constant, at_transformed, at_function, at_switch, at_recurring, Then, then_part, then_stops, Rounds, no_round, one_round, Watches, watch_begins, then_watched, fired_before, Turns, turn_waits, turn_body, Switches, switch_stops, switch_goes, Runs, runs_first, runs_body, Bodies, no_body, body_begins, is_leaf, no_truth, OneLeaf}
 use Rattle.sf_rewrite.proofs.Lowered.{Below, Lowered, lowered, below_same, below_any, below_trans, below_over, below_both, below_first}
 use Rattle.sf_rewrite.proofs.Along.{Sound, parts_along}
 use Rattle.sf_rewrite.proofs.Sound.{texts, onward, back}
@@ -44,6 +45,7 @@ mutual
     same_join : {j : Join} {f f' g g' : Term} → Alike d f f' → Alike d g g' → Formed d (joined j f g) (joined j f' g')
     same_side : {a : Side} {t t' : Term} → Alike d t t' → Formed d (sided a t) (sided a t')
     same_heading : {h : Heading} {i : Expression} {t t' : Term} → Alike d t t' → Formed d (headed h i t) (headed h i t')
+    same_transformed : {f : Function} {t t' : Term} → Alike d t t' → Formed d (transformed f t) (transformed f t')
     same_switch : {w : Switching} {t t' u u' : Term} {p : Pattern} → Alike d t t' → Alike d u u' → Formed d (switching w t p u) (switching w t' p u')
     same_keeping : {w : Observation} {t t' q q' u u' : Term} {k : Name} {p : Pattern} → Alike d t t' → Alike d q q' → Alike d u u' → Formed d (keeping w t q k p u) (keeping w t' q' k p u')
 
@@ -137,6 +139,7 @@ closed_by (reference (call g vs)) e h = refl
 closed_by (joined j f g) e h = refl
 closed_by (sided a t) e h = refl
 closed_by (headed k i t) e h = refl
+closed_by (transformed f t) e h = refl
 closed_by (switching w t p u) e h = refl
 closed_by (keeping w t q k p u) e h = refl
 closed_by (staged x f g) e h = refl
@@ -262,6 +265,7 @@ mutual
   formed_texts (same_join A B) = below_over _ _ (below_both _ _ _ _ (alike_texts A) (alike_texts B))
   formed_texts (same_side A) = below_over _ _ (alike_texts A)
   formed_texts (same_heading A) = below_over _ _ (alike_texts A)
+  formed_texts (same_transformed A) = below_over _ _ (alike_texts A)
   formed_texts (same_switch A B) = below_over _ _ (alike_texts A)
   formed_texts (same_keeping A C B) = below_over _ _ (below_both _ _ _ _ (alike_texts A) (alike_texts C))
 
@@ -358,7 +362,19 @@ module _ (d : Bool) (n n' : Network) (all : AlikeAll d n.templates n'.templates)
   go_heading {i = i} S b e e' E s L ys o c P (at_loop h A B) = elim (goes_part S e e' E B) [ lowered B' k ↦ lowered (at_loop (ap (eval i) (sym (scopes same E)) ∙ h) (goes_rounds S e e' E A) B') (below_over _ _ k) ]
   go_heading {i = i} S b e e' E s L ys o c P (at_initialized h A) = elim (goes_part S e e' E A) [ lowered A' k ↦ lowered (at_initialized (ap (eval i) (sym (scopes same E)) ∙ h) A') (below_over _ _ k) ]
   go_heading {i = i} S b e e' E s L ys o c P (at_replaced h A) = elim (goes_part S e e' E A) [ lowered A' k ↦ lowered (at_replaced (ap (eval i) (sym (scopes same E)) ∙ h) A') (below_over _ _ k) ]
-  go_heading {i = i} S b e e' E s L ys o c P (at_constant h) = lowered (at_constant (ap (eval i) (sym (scopes same E)) ∙ h)) (below_over _ _ b)
+  go_heading {i = i} {t' = t'} S b e e' E s L ys o c P (at_followed {ys = zs} {o = p} A B) =
+      elim (goes_part S e e' E B) [
+        | lowered {b = a} B' k ↦
+            let N : Scope → Type 0 = λ sc. At (Leaf n') (headed Followed i t') e' s L (answered_by (newest_or (eval i sc) zs) p) (over a) in
+            lowered (subst N (sym (scopes same E)) (at_followed (goes_all S e e' E A) B')) (below_over _ _ k)
+      ]
+  go_heading {i = i} S b e e' E s L ys o c P (at_constant z h) = lowered (at_constant z (ap (eval i) (sym (scopes same E)) ∙ h)) (below_over _ _ b)
+
+  go_transformed : {f : Function} {t t' : Term} → Goes t t' → Below d (text_cost t) (text_cost t') → Goes (transformed f t) (transformed f t')
+  go_transformed S b e e' E s L ys o c P (at_leaf h B) = absurd (no_truth h)
+  go_transformed {f = f} S b e e' E s L ys o c P (at_transformed h A) =
+      elim (goes_part S e e' E A) [ lowered A' k ↦ lowered (at_transformed (ap (apply f (first_input s L)) (sym (scopes same E)) ∙ h) A') (below_over _ _ k) ]
+  go_transformed {f = f} S b e e' E s L ys o c P (at_function h) = lowered (at_function (ap (apply f (input_of s)) (sym (scopes same E)) ∙ h)) (below_over _ _ b)
 
   go_switch : {w : Switching} {t t' u u' : Term} {p : Pattern} → Goes t t' → Goes u u' → Goes (switching w t p u) (switching w t' p u')
   go_switch S T e e' E s L ys o c P (at_leaf h B) = absurd (no_truth h)
@@ -394,6 +410,7 @@ module _ (d : Bool) (n n' : Network) (all : AlikeAll d n.templates n'.templates)
     go_form (same_join A B) = go_join (go A) (go B) (alike_texts B)
     go_form (same_side A) = go_side (go A)
     go_form (same_heading A) = go_heading (go A) (alike_texts A)
+    go_form (same_transformed A) = go_transformed (go A) (alike_texts A)
     go_form (same_switch A B) = go_switch (go A) (go B)
     go_form (same_keeping A C B) = go_keeping A C B
 
@@ -466,7 +483,11 @@ module _ (d : Bool) (n n' : Network) (all : AlikeAll d n.templates n'.templates)
   failing (reference r) h = reference_fails h
   failing (joined j f g) h = absurd cc
   failing (sided a t) h = absurd cc
-  failing (headed k i t) {e} h = at_constant (made_fault (eval i (scope_around n.functions e)) h)
+  failing (headed LoopPre i t) {e} h = at_constant refl (made_fault (eval i (scope_around n.functions e)) h)
+  failing (headed Initialized i t) {e} h = at_constant refl (made_fault (eval i (scope_around n.functions e)) h)
+  failing (headed Replaced i t) {e} h = at_constant refl (made_fault (eval i (scope_around n.functions e)) h)
+  failing (headed Followed i t) h = absurd cc
+  failing (transformed f t) {e} {s} h = at_function (made_fault (apply f (input_of s) (scope_around n.functions e)) h)
   failing (switching w t p u) h = absurd cc
   failing (keeping w t q k p u) h = absurd cc
   failing (staged x f g) h = absurd cc
@@ -523,6 +544,8 @@ module _ (d : Bool) (n n' : Network) (all : AlikeAll d n.templates n'.templates)
     ready_form (of_loop {i = i} {e = e} A B) k = at_loop (made_answer (eval i (scope_around n.functions e)) k) (ready_loops A) (opened_part (ready_gives B))
     ready_form (of_initialized {i = i} {e = e} A) k = at_initialized (made_answer (eval i (scope_around n.functions e)) k) (opened_part (ready_gives A))
     ready_form (of_replaced {i = i} {e = e} A) k = at_replaced (made_answer (eval i (scope_around n.functions e)) k) (opened_part (ready_gives A))
+    ready_form (of_followed A B) k = at_followed (opened_all (ready_all A)) (opened_part (ready_gives B))
+    ready_form (of_transformed {f = f} {e = e} {s = s} {L = L} A) k = at_transformed (made_answer (apply f (first_input s L) (scope_around n.functions e)) k) (opened_part (ready_gives A))
     ready_form (of_switch {u = u} {p = p} {e = e} A B) k =
         let st = ready_watches (body_of p u e) A refl in
         at_switch st.1 (ready_turns st.0 B refl st.2)

@@ -1,19 +1,21 @@
 -- Networks opened down to the forms that no law looks into, and closed again.
-use Rattle.std.proofs.Common.{◌≡◌, List, refl, ap, ◌∙◌, Option, Some, None}
+use Rattle.std.proofs.Common.{◌≡◌, IsTrue, List, refl, ap, ◌∙◌, Option, Some, None}
 use Rattle.sf_value.specs.Values.{Data, second_of}
 use Rattle.sf_value.specs.declared.fault.ValueFault.{ValueFault}
 use Rattle.sf_expr.specs.Evaluation.{Evaluated, answer, failed, ◌>>=◌}
 use Rattle.sf_expr.specs.Expressions.{Pattern}
+use Rattle.sf_term.specs.declared.form.Heading.{Heading}
+use Rattle.sf_term.specs.declared.form.Heading.TheVariants.{LoopPre, Initialized, Replaced, Followed}
 use Rattle.sf_term.specs.declared.form.Observation.{Observation}
 use Rattle.sf_term.specs.Trees.{Term}
 use Rattle.sf_mean.specs.Formulas.{occurring}
 use Rattle.sf_mean.specs.Lives.{Step, Life, Process, closure, Environment}
-use Rattle.sf_mean.specs.Meaning.{Network, Outcome, Cost, Made, value_made, itself, Standing, waits, fired, stands_after, whenever, body_of, Gives, gives, Outputs, not_begun, and_gave, Sample, of_constants, of_form, of_primitive, of_join, of_side, of_loop, of_initialized, of_replaced, of_switch, of_recurring, of_stages, what_runs, Next, goes_on, stops, Loops, no_loop, and_looped, beside_values, Since, at_start, watched, had_fired, SwitchTurn, while_waiting, as_body, Switched, after_fault, after_value, Fires, no_event_yet, event_now}
+use Rattle.sf_mean.specs.Meaning.{Network, Outcome, Cost, Made, value_made, head_made, itself, Standing, waits, fired, stands_after, whenever, body_of, Gives, gives, Outputs, not_begun, and_gave, Sample, of_constants, of_form, of_primitive, of_join, of_side, of_loop, of_initialized, of_replaced, of_followed, of_transformed, of_switch, of_recurring, of_stages, what_runs, Next, goes_on, stops, Loops, no_loop, and_looped, beside_values, Since, at_start, watched, had_fired, SwitchTurn, while_waiting, as_body, Switched, after_fault, after_value, Fires, no_event_yet, event_now}
 use Rattle.sf_mean.proofs.Once.{fault_of}
 use Rattle.sf_mean.proofs.TypedProcesses.{made_in}
-use Rattle.sf_rewrite.proofs.Parts.{Leaves, Stand, waiting, began, stand_after, Part, part, Parts, begins, then_gave, At, at_leaf, at_primitive, at_join, at_stages, at_side, at_loop, at_initialized, at_replaced, at_constant, at_switch, at_recurring, Then, then_part, then_stops, Rounds, no_round, one_round, Watches, watch_begins, then_watched, fired_before, Turns, turn_waits, turn_body, Switches, switch_stops, switch_goes, Runs, runs_first, runs_body, Bodies, no_body, body_begins}
+use Rattle.sf_rewrite.proofs.Parts.{Leaves, Stand, waiting, began, stand_after, Part, part, Parts, begins, then_gave, At, at_leaf, at_primitive, at_join, at_stages, at_side, at_loop, at_initialized, at_replaced, at_followed, at_constant, at_transformed, at_function, at_switch, at_recurring, Then, then_part, then_stops, Rounds, no_round, one_round, Watches, watch_begins, then_watched, fired_before, Turns, turn_waits, turn_body, Switches, switch_stops, switch_goes, Runs, runs_first, runs_body, Bodies, no_body, body_begins, stands_first, no_truth}
 
--- a head's value, from what a form is made with
+-- what a form is made with, from the value at its head
 abbrev made : Evaluated Data → Evaluated Made
 made v = v >>= λ v. answer (value_made v)
 
@@ -24,6 +26,13 @@ made_answer (failed x) h = absurd cc
 pub made_fault : (q : Evaluated Data) {x : ValueFault} → made q ≡ failed x → q ≡ failed x
 made_fault (answer w) h = absurd cc
 made_fault (failed y) h = ap (λ m. failed (fault_of m)) h
+
+-- the fault of a constant that comes before its part
+fails_first : (h : Heading) {q : Evaluated Data} {x : ValueFault} → IsTrue (stands_first h) → q ≡ failed x → head_made h q ≡ failed x
+fails_first LoopPre z h = ap made h
+fails_first Initialized z h = ap made h
+fails_first Replaced z h = ap made h
+fails_first Followed z h = absurd (no_truth z)
 
 -- where a switch stands whose body is the same at each event
 abbrev pub standing_of : (Data → Process) → Stand → Standing
@@ -49,7 +58,10 @@ module _ (n : Network) where
     closed (at_loop h A B) = of_form (ap made h) (of_loop (closed_rounds A) (closed_part B))
     closed (at_initialized h A) = of_form (ap made h) (of_initialized (closed_part A))
     closed (at_replaced h A) = of_form (ap made h) (of_replaced (closed_part A))
-    closed (at_constant h) = of_constants (ap made h)
+    closed (at_followed A B) = of_form refl (of_followed (closed_all A) (closed_part B))
+    closed (at_constant {h = k} z h) = of_constants (fails_first k z h)
+    closed (at_transformed h A) = of_form (ap made h) (of_transformed (closed_part A))
+    closed (at_function h) = of_constants (ap made h)
     closed (at_switch {u = u} {p = p} {e = e} A B) = of_form refl (of_switch (closed_watches (body_of p u e) A) (closed_turns B))
     closed (at_recurring A B) = of_form refl (of_recurring (closed_runs A) (closed_bodies B))
 

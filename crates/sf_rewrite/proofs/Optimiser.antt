@@ -8,15 +8,15 @@ use Rattle.sf_term.specs.declared.form.WithValue.TheVariants.{Constant, Initiall
 use Rattle.sf_term.specs.declared.form.Join.TheVariants.{InSequence, InParallel, FannedOut}
 use Rattle.sf_term.specs.declared.form.Side.{Side}
 use Rattle.sf_term.specs.declared.form.Side.TheVariants.{First, Second}
-use Rattle.sf_term.specs.declared.form.Heading.TheVariants.{LoopPre, Initialized, Replaced}
+use Rattle.sf_term.specs.declared.form.Heading.TheVariants.{LoopPre, Initialized, Replaced, Followed}
 use Rattle.sf_term.specs.declared.form.Switching.TheVariants.{Basic, Recurring}
-use Rattle.sf_term.specs.Trees.{Chain, lone, chained, on_side, on_both, fanned, bare, probe, never, with_value, timed, selected, arrow, accumulated, fused, Extent, whole, rest, Term, primitive, reference, started, call, Arguments, no_arguments, value_argument, process_argument, closed_argument, joined, sided, headed, switching, keeping, staged}
+use Rattle.sf_term.specs.Trees.{Chain, lone, chained, on_side, on_both, fanned, bare, probe, never, with_value, timed, selected, arrow, accumulated, fused, Extent, whole, rest, Term, primitive, reference, started, call, Arguments, no_arguments, value_argument, process_argument, closed_argument, joined, sided, headed, transformed, switching, keeping, staged}
 use Rattle.sf_term.specs.declared.form.Observation.TheVariants.{Immediate, Delayed}
 use Rattle.sf_term.specs.declared.form.Start.TheVariants.{Run, Fresh}
 use Rattle.sf_rewrite.specs.Quiet.{is_quiet_expression, is_quiet}
 use Rattle.sf_rewrite.specs.Laws.{identity, constant, arr, loop_pre, Laws, unchanged, in_turn, in_join, in_stages, in_side, as_pipeline, within_pipeline, associate_right, associate_left, identity_before, identity_after, arr_as_chain, arr_composed, arr_on_side, arr_in_parallel, arr_fanned_out, sides_composed, exchanged, constant_after, left_tightened, right_tightened}
-use Rattle.sf_rewrite.specs.Plans.{Plans, plans, of_primitive, of_started, of_call, PlansArguments, of_no_arguments, of_value_argument, of_named_argument, of_closed_argument, is_started, of_join, of_side, of_heading, of_switch, of_keeping}
-use Rattle.sf_rewrite.specs.Normal.{is_arr, is_stage, may_meet, are_written, IsPlan, plan_primitive, plan_started, plan_call, ArePlans, plan_no_arguments, plan_value_argument, plan_term_argument, plan_closed_argument, plan_join, plan_side, plan_heading, plan_switch, plan_keeping, plan_pipeline, IsRest, last_stage, more_stages, is_written}
+use Rattle.sf_rewrite.specs.Plans.{Plans, plans, of_primitive, of_started, of_call, PlansArguments, of_no_arguments, of_value_argument, of_named_argument, of_closed_argument, is_started, of_join, of_side, of_heading, of_transformed, of_switch, of_keeping}
+use Rattle.sf_rewrite.specs.Normal.{is_arr, is_stage, may_meet, are_written, IsPlan, plan_primitive, plan_started, plan_call, ArePlans, plan_no_arguments, plan_value_argument, plan_term_argument, plan_closed_argument, plan_join, plan_side, plan_heading, plan_transformed, plan_switch, plan_keeping, plan_pipeline, IsRest, last_stage, more_stages, is_written}
 use Rattle.sf_rewrite.proofs.Parts.{no_truth}
 use Rattle.sf_rewrite.proofs.Quiet.{both_true}
 
@@ -50,6 +50,7 @@ arr_view (reference r) = no_arr refl
 arr_view (joined j f g) = no_arr refl
 arr_view (sided d t) = no_arr refl
 arr_view (headed h i t) = no_arr refl
+arr_view (transformed f t) = no_arr refl
 arr_view (switching w t p u) = no_arr refl
 arr_view (keeping w t q k p u) = no_arr refl
 arr_view (staged x f g) = no_arr refl
@@ -80,6 +81,7 @@ constant_view (reference r) = no_constant
 constant_view (joined j f g) = no_constant
 constant_view (sided d t) = no_constant
 constant_view (headed h i t) = no_constant
+constant_view (transformed f t) = no_constant
 constant_view (switching w t p u) = no_constant
 constant_view (keeping w t q k p u) = no_constant
 constant_view (staged x f g) = no_constant
@@ -194,6 +196,7 @@ stages (plan_call A) = one_stage refl
 stages (plan_join h P Q) = one_stage h
 stages (plan_side P) = one_stage refl
 stages (plan_heading P) = one_stage refl
+stages (plan_transformed P) = one_stage refl
 stages (plan_switch P Q) = one_stage refl
 stages (plan_keeping P Q R) = one_stage refl
 stages (plan_pipeline P S R) = some_stages _ _ refl P S R
@@ -315,6 +318,7 @@ with_argument (reference (call g us)) o a = closing refl o a
 with_argument (joined j f g) o a = closing refl o a
 with_argument (sided d t) o a = closing refl o a
 with_argument (headed k i t) o a = closing refl o a
+with_argument (transformed f t) o a = closing refl o a
 with_argument (switching w t p u) o a = closing refl o a
 with_argument (keeping w t q k p u) o a = closing refl o a
 with_argument (staged x f g) o a = closing refl o a
@@ -354,6 +358,12 @@ mutual
   optimised (headed Replaced i t) h =
       let p = optimised t h in
       record { term = headed Replaced i p.term; plans = plans (of_heading p.plans) unchanged; is = plan_heading p.is }
+  optimised (headed Followed i t) h =
+      let p = optimised t h in
+      record { term = headed Followed i p.term; plans = plans (of_heading p.plans) unchanged; is = plan_heading p.is }
+  optimised (transformed f t) h =
+      let p = optimised t h in
+      record { term = transformed f p.term; plans = plans (of_transformed p.plans) unchanged; is = plan_transformed p.is }
   optimised (switching w t p u) h =
       let k = both_true (is_written t) (is_written u) h in
       let a = optimised t k.0 in
@@ -500,6 +510,11 @@ in_switch_applied = refl
 in_recurring_applied : (optimised (switching (Recurring Delayed) (joined InSequence identity f) unnamed (joined InSequence g identity)) refl).term ≡ switching (Recurring Delayed) f unnamed g
 unfolding optimised in_sequence one_after_another before_tail tail stages headed_by pushed appended merged arrs before_constant arr_view constant_view in_parallel side_by_side fanned_out both_on on_a_side in_loop before_loop looped compose_sides exchange in_planned decided
 in_recurring_applied = refl
+
+-- in the part of a term with a function at its head
+in_transformed_applied : (optimised (transformed x (joined InSequence identity f)) refl).term ≡ transformed x f
+unfolding optimised in_sequence one_after_another before_tail tail stages headed_by pushed appended merged arrs before_constant arr_view constant_view in_parallel side_by_side fanned_out both_on on_a_side in_loop before_loop looped compose_sides exchange in_planned decided
+in_transformed_applied = refl
 
 -- and in the source and the observer of one that keeps its source
 in_keeping_applied : (optimised (keeping Immediate (joined InSequence identity f) (joined InSequence f identity) [] unnamed (joined InSequence g identity)) refl).term ≡ keeping Immediate f f [] unnamed g

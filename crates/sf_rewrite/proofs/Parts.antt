@@ -5,19 +5,19 @@ use Rattle.sf_value.specs.Values.{Data, number, first_of, second_of}
 use Rattle.std.specs.Prelude.{Option, Some, None, pos}
 use Rattle.sf_value.specs.declared.fault.ValueFault.{ValueFault}
 use Rattle.sf_func.specs.Registries.{AnswersByName}
-use Rattle.sf_expr.specs.Expressions.{Pattern, Expression}
-use Rattle.sf_expr.specs.Evaluation.{Evaluated, answer, failed, eval}
+use Rattle.sf_expr.specs.Expressions.{Pattern, Expression, Function}
+use Rattle.sf_expr.specs.Evaluation.{Evaluated, answer, failed, eval, apply}
 use Rattle.sf_term.specs.declared.form.Join.{Join}
 use Rattle.sf_term.specs.declared.form.Join.TheVariants.{InSequence}
 use Rattle.sf_term.specs.declared.form.Side.{Side}
 use Rattle.sf_term.specs.declared.form.Heading.{Heading}
-use Rattle.sf_term.specs.declared.form.Heading.TheVariants.{LoopPre, Initialized, Replaced}
+use Rattle.sf_term.specs.declared.form.Heading.TheVariants.{LoopPre, Initialized, Replaced, Followed}
 use Rattle.sf_term.specs.declared.form.Observation.{Observation}
 use Rattle.sf_term.specs.declared.form.Switching.TheVariants.{Basic, Recurring}
-use Rattle.sf_term.specs.Trees.{Primitive, Extent, Term, primitive, reference, joined, sided, headed, switching, keeping, staged}
-use Rattle.sf_mean.specs.Lives.{Step, input_of, Life, Environment, scope_around, bind, with_inputs, relay, fed}
+use Rattle.sf_term.specs.Trees.{Primitive, Extent, Term, primitive, reference, joined, sided, headed, transformed, switching, keeping, staged}
+use Rattle.sf_mean.specs.Lives.{Step, input_of, Life, Environment, scope_around, bind, with_inputs, relay, first_input, fed}
 use Rattle.sf_mean.specs.Formulas.{at_first, with_first, occurring, side_of, with_side, formula}
-use Rattle.sf_mean.specs.Meaning.{Readings, Outcome, gave, faulted, changed, combined, value_in, as_outcome, recorded, Cost, no_cost, both_costs, over, over_stages, one_term, text_cost, left_life, right_life, join_value, switched_value, event_beside, last_event, since_event, unless_faulted, without_event}
+use Rattle.sf_mean.specs.Meaning.{Readings, Outcome, gave, faulted, changed, combined, value_in, as_outcome, answered_by, newest_or, recorded, Cost, no_cost, both_costs, over, over_stages, one_term, text_cost, left_life, right_life, join_value, switched_value, event_beside, last_event, since_event, unless_faulted, without_event}
 
 -- what stored functions answer, and what a form that no law looks into gives at a step
 pub record Leaves : Type 1 where
@@ -31,9 +31,17 @@ is_leaf (reference r) = true
 is_leaf (joined j f g) = false
 is_leaf (sided d t) = false
 is_leaf (headed h i t) = false
+is_leaf (transformed f t) = false
 is_leaf (switching w t p u) = false
 is_leaf (keeping w t q k p u) = true
 is_leaf (staged x f g) = false
+
+-- whether the constant at a head comes before the part: all but that of `fby` do
+abbrev pub stands_first : Heading → Bool
+stands_first LoopPre = true
+stands_first Initialized = true
+stands_first Replaced = true
+stands_first Followed = false
 
 -- Where a switch stands after a life: it waits for an event, or it had one with this payload and its body has lived M since.
 pub data Stand : Type 0 where
@@ -85,9 +93,21 @@ mutual
         → eval i (scope_around Q.functions e) ≡ answer v
         → Part Q t e (with_first v (s ∷ L)) o c
         → At Q (headed Replaced i t) e s L o (over c)
+    at_followed : {i : Expression} {t : Term} {e : Environment} {s : Step} {L : Life} {ys : List Data} {o : Outcome} {c : Cost}
+        → Parts Q t e L ys
+        → Part Q t e (s ∷ L) o c
+        → At Q (headed Followed i t) e s L (answered_by (newest_or (eval i (scope_around Q.functions e)) ys) o) (over c)
     at_constant : {h : Heading} {i : Expression} {t : Term} {e : Environment} {x : ValueFault} {s : Step}
+        → IsTrue (stands_first h)
         → eval i (scope_around Q.functions e) ≡ failed x
         → At Q (headed h i t) e s [] (faulted x) (over (text_cost t))
+    at_transformed : {f : Function} {t : Term} {e : Environment} {v : Data} {s : Step} {L : Life} {o : Outcome} {c : Cost}
+        → apply f (first_input s L) (scope_around Q.functions e) ≡ answer v
+        → Part Q t e (with_first v (s ∷ L)) o c
+        → At Q (transformed f t) e s L o (over c)
+    at_function : {f : Function} {t : Term} {e : Environment} {x : ValueFault} {s : Step}
+        → apply f (input_of s) (scope_around Q.functions e) ≡ failed x
+        → At Q (transformed f t) e s [] (faulted x) (over (text_cost t))
     at_switch : {w : Observation} {t u : Term} {p : Pattern} {e : Environment} {s : Step} {L : Life} {st : Stand} {o : Outcome} {c : Cost}
         → Watches Q t e L st
         → Turns Q w t p u e s L st o c
@@ -197,7 +217,10 @@ module _ (Q : Leaves) (one : OneLeaf Q) where
     once_at (at_leaf h A) (at_loop B C D) = absurd (no_truth h)
     once_at (at_leaf h A) (at_initialized B C) = absurd (no_truth h)
     once_at (at_leaf h A) (at_replaced B C) = absurd (no_truth h)
-    once_at (at_leaf h A) (at_constant B) = absurd (no_truth h)
+    once_at (at_leaf h A) (at_followed B C) = absurd (no_truth h)
+    once_at (at_leaf h A) (at_constant B C) = absurd (no_truth h)
+    once_at (at_leaf h A) (at_transformed B C) = absurd (no_truth h)
+    once_at (at_leaf h A) (at_function B) = absurd (no_truth h)
     once_at (at_leaf h A) (at_switch B C) = absurd (no_truth h)
     once_at (at_leaf h A) (at_recurring B C) = absurd (no_truth h)
     once_at at_primitive (at_leaf h A) = absurd (no_truth h)
@@ -207,7 +230,10 @@ module _ (Q : Leaves) (one : OneLeaf Q) where
     once_at (at_loop B C D) (at_leaf h A) = absurd (no_truth h)
     once_at (at_initialized B C) (at_leaf h A) = absurd (no_truth h)
     once_at (at_replaced B C) (at_leaf h A) = absurd (no_truth h)
-    once_at (at_constant B) (at_leaf h A) = absurd (no_truth h)
+    once_at (at_followed B C) (at_leaf h A) = absurd (no_truth h)
+    once_at (at_constant B C) (at_leaf h A) = absurd (no_truth h)
+    once_at (at_transformed B C) (at_leaf h A) = absurd (no_truth h)
+    once_at (at_function B) (at_leaf h A) = absurd (no_truth h)
     once_at (at_switch B C) (at_leaf h A) = absurd (no_truth h)
     once_at (at_recurring B C) (at_leaf h A) = absurd (no_truth h)
     once_at at_primitive at_primitive = (refl, refl)
@@ -234,18 +260,31 @@ module _ (Q : Leaves) (one : OneLeaf Q) where
     once_at (at_initialized {L = L} h A) (at_initialized {o = b} h' B) =
         let q = once A B in
         (ap₂ (λ x o. changed (at_first L x) o) (ap the_answer (sym h ∙ h')) q.0, ap over q.1)
-    once_at (at_initialized h A) (at_constant h') = absurd (no_fault (sym h ∙ h'))
-    once_at (at_constant h) (at_initialized h' A) = absurd (no_fault (sym h' ∙ h))
+    once_at (at_initialized h A) (at_constant z h') = absurd (no_fault (sym h ∙ h'))
+    once_at (at_constant z h) (at_initialized h' A) = absurd (no_fault (sym h' ∙ h))
     once_at (at_replaced {t = t} {e = e} {v = v} {s = s} {L = L} h A) (at_replaced {v = w} {o = b} {c = d} h' B) =
         let ev : w ≡ v = ap the_answer (sym h' ∙ h) in
         let N : Data → Type 0 = λ x. Part Q t e (with_first x (s ∷ L)) b d in
         let q = once A (subst N ev B) in
         (q.0, ap over q.1)
-    once_at (at_replaced h A) (at_constant h') = absurd (no_fault (sym h ∙ h'))
-    once_at (at_constant h) (at_replaced h' A) = absurd (no_fault (sym h' ∙ h))
-    once_at (at_loop h A B) (at_constant h') = absurd (no_fault (sym h ∙ h'))
-    once_at (at_constant h) (at_loop h' A B) = absurd (no_fault (sym h' ∙ h))
-    once_at (at_constant {x = x} h) (at_constant h') = (ap (λ v. faulted (the_fault x v)) (sym h ∙ h'), refl)
+    once_at (at_replaced h A) (at_constant z h') = absurd (no_fault (sym h ∙ h'))
+    once_at (at_constant z h) (at_replaced h' A) = absurd (no_fault (sym h' ∙ h))
+    once_at (at_loop h A B) (at_constant z h') = absurd (no_fault (sym h ∙ h'))
+    once_at (at_constant z h) (at_loop h' A B) = absurd (no_fault (sym h' ∙ h))
+    once_at (at_followed {i = i} {e = e} A B) (at_followed A' B') =
+        let q = once B B' in
+        (ap₂ (λ ys o. answered_by (newest_or (eval i (scope_around Q.functions e)) ys) o) (onces A A') q.0, ap over q.1)
+    once_at (at_followed A B) (at_constant z h) = absurd (no_truth z)
+    once_at (at_constant z h) (at_followed A B) = absurd (no_truth z)
+    once_at (at_constant {x = x} z h) (at_constant z' h') = (ap (λ v. faulted (the_fault x v)) (sym h ∙ h'), refl)
+    once_at (at_transformed {t = t} {e = e} {v = v} {s = s} {L = L} h A) (at_transformed {v = w} {o = b} {c = d} h' B) =
+        let ev : w ≡ v = ap the_answer (sym h' ∙ h) in
+        let N : Data → Type 0 = λ x. Part Q t e (with_first x (s ∷ L)) b d in
+        let q = once A (subst N ev B) in
+        (q.0, ap over q.1)
+    once_at (at_transformed h A) (at_function h') = absurd (no_fault (sym h ∙ h'))
+    once_at (at_function h) (at_transformed h' A) = absurd (no_fault (sym h' ∙ h))
+    once_at (at_function {x = x} h) (at_function h') = (ap (λ v. faulted (the_fault x v)) (sym h ∙ h'), refl)
     once_at (at_switch {w = w} {t = t} {u = u} {p = p} {e = e} {s = s} {L = L} A B) (at_switch {o = b} {c = d} A' B') =
         let N : Stand → Type 0 = λ st. Turns Q w t p u e s L st b d in
         once_turns B (subst N (sym (once_watches A A')) B')

@@ -1,5 +1,5 @@
 -- Quiet terms give a value without readings at each step, and cost their text.
-use Rattle.std.proofs.Common.{◌≡◌, IsTrue, Bool, true, false, ◌&&◌, cond, List, [], ◌∷◌, Some, None, refl, ap, ◌∙◌}
+use Rattle.std.proofs.Common.{◌≡◌, IsTrue, Bool, true, false, ◌&&◌, cond, List, [], ◌∷◌, Some, None, refl, ap, ◌∙◌, subst}
 use Rattle.std.specs.Prelude.{Option}
 use mathlib.Core.Path.{subst₂}
 use Rattle.sf_value.specs.Values.{Data, pair, Rows, no_rows, row, first_of, second_of}
@@ -22,13 +22,13 @@ use Rattle.sf_term.specs.declared.form.Accumulation.{Accumulation}
 use Rattle.sf_term.specs.declared.form.Accumulation.TheVariants.{EdgeBy, AccumBy, AccumHoldBy, Scan}
 use Rattle.sf_term.specs.declared.form.Join.{Join}
 use Rattle.sf_term.specs.declared.form.Join.TheVariants.{InSequence, InParallel, FannedOut}
-use Rattle.sf_term.specs.declared.form.Heading.TheVariants.{LoopPre, Initialized, Replaced}
-use Rattle.sf_term.specs.Trees.{Chain, lone, chained as chained_functions, on_side, on_both, fanned, Primitive, bare, probe, never, with_value, timed, selected, arrow, accumulated, fused, Extent, Term, primitive, reference, joined, sided, headed, switching, keeping, staged}
-use Rattle.sf_mean.specs.Lives.{Step, step, wait_of, input_of, Life, Environment, scope_around, with_inputs, relay, fed}
+use Rattle.sf_term.specs.declared.form.Heading.TheVariants.{LoopPre, Initialized, Replaced, Followed}
+use Rattle.sf_term.specs.Trees.{Chain, lone, chained as chained_functions, on_side, on_both, fanned, Primitive, bare, probe, never, with_value, timed, selected, arrow, accumulated, fused, Extent, Term, primitive, reference, joined, sided, headed, transformed, switching, keeping, staged}
+use Rattle.sf_mean.specs.Lives.{Step, step, wait_of, input_of, Life, Environment, scope_around, first_input, with_inputs, relay, fed}
 use Rattle.sf_mean.specs.Formulas.{at_first, with_first, timed_formula, before, occurring, next_value, accumulation, event_where, accumulated_formula, side_of, with_side, apply_chain, value_formula, formula}
-use Rattle.sf_mean.specs.Meaning.{Readings, Outcome, gave, as_outcome, recorded, Cost, one_term, text_cost}
+use Rattle.sf_mean.specs.Meaning.{Readings, Outcome, gave, as_outcome, newest_or, recorded, Cost, over, one_term, text_cost}
 use Rattle.sf_rewrite.specs.Quiet.{is_quiet_unary, is_quiet_operator, is_quiet_expression, is_quiet_function, is_quiet_chain, is_quiet_primitive, is_quiet}
-use Rattle.sf_rewrite.proofs.Parts.{Leaves, Part, part, Parts, begins, then_gave, At, at_primitive, at_join, at_stages, at_side, at_loop, at_initialized, at_replaced, then_part, Rounds, no_round, one_round, no_truth, OneLeaf, once_at}
+use Rattle.sf_rewrite.proofs.Parts.{Leaves, Part, part, Parts, begins, then_gave, At, at_primitive, at_join, at_stages, at_side, at_loop, at_initialized, at_replaced, at_followed, at_transformed, then_part, Rounds, no_round, one_round, no_truth, OneLeaf, once_at}
 
 pub both_true : (a b : Bool) → a && b ≡ true → (a ≡ true) × (b ≡ true)
 both_true true b h = (refl, h)
@@ -40,6 +40,11 @@ Answers v = (y : Data) × (v ≡ answer y)
 -- an answer, and then another
 next : (v : Evaluated Data) (f : Data → Evaluated Data) → Answers v → ((y : Data) → Answers (f y)) → Answers (v >>= f)
 next v f a b = ((b a.0).0, ap (λ v. v >>= f) a.1 ∙ (b a.0).1)
+
+-- the newest value, or an answer
+newest_answers : (a : Evaluated Data) (ys : List Data) → Answers a → Answers (newest_or a ys)
+newest_answers a [] h = h
+newest_answers a (y ∷ ys) h = (y, refl)
 
 -- what is made of a part of a value
 of_known : {A : Type 0} (o : Option A) (f : A → Evaluated Data) → ((a : A) → Answers (f a)) → Answers (known o f)
@@ -283,6 +288,20 @@ module _ (Q : Leaves) (one : OneLeaf Q) where
       let r = last_step S e (step (wait_of s) (at_first L v.0 (input_of s))) (with_first v.0 L) in
       (r.0, at_replaced v.1 r.1)
 
+  steps_followed : (i : Expression) {t : Term} → IsTrue (is_quiet_expression i) → Steps t → Steps (headed Followed i t)
+  steps_followed i {t} h S e s L zs P =
+      let k = all_steps S e L in
+      let r = last_step S e s L in
+      let v = newest_answers (eval i (scope_around Q.functions e)) k.0 (quiet_eval i h (scope_around Q.functions e)) in
+      let N : Evaluated Data → Type 0 = λ a. At Q (headed Followed i t) e s L (as_outcome a []) (over (text_cost t)) in
+      (v.0, subst N v.1 (at_followed k.1 r.1))
+
+  steps_transformed : (f : Function) {t : Term} → IsTrue (is_quiet_function f) → Steps t → Steps (transformed f t)
+  steps_transformed f h S e s L ys P =
+      let v = quiet_apply f h (first_input s L) (scope_around Q.functions e) in
+      let r = last_step S e (step (wait_of s) (at_first L v.0 (input_of s))) (with_first v.0 L) in
+      (r.0, at_transformed v.1 r.1)
+
   pub quiet_steps : (t : Term) → IsTrue (is_quiet t) → Steps t
   quiet_steps (primitive p) h = λ e s L ys P.
       let r = quiet_formula p h (scope_around Q.functions e) s L in
@@ -295,6 +314,8 @@ module _ (Q : Leaves) (one : OneLeaf Q) where
   quiet_steps (headed LoopPre i t) h = let k = both_true (is_quiet_expression i) (is_quiet t) h in steps_loop i k.0 (quiet_steps t k.1)
   quiet_steps (headed Initialized i t) h = let k = both_true (is_quiet_expression i) (is_quiet t) h in steps_initialized i k.0 (quiet_steps t k.1)
   quiet_steps (headed Replaced i t) h = let k = both_true (is_quiet_expression i) (is_quiet t) h in steps_replaced i k.0 (quiet_steps t k.1)
+  quiet_steps (headed Followed i t) h = let k = both_true (is_quiet_expression i) (is_quiet t) h in steps_followed i k.0 (quiet_steps t k.1)
+  quiet_steps (transformed f t) h = let k = both_true (is_quiet_function f) (is_quiet t) h in steps_transformed f k.0 (quiet_steps t k.1)
   quiet_steps (switching w t p u) h = absurd (no_truth h)
   quiet_steps (reference r) h = absurd (no_truth h)
   quiet_steps (keeping w t q k p u) h = absurd (no_truth h)

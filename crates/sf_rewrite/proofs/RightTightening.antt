@@ -104,7 +104,7 @@ module _ (Q : Leaves) (one : OneLeaf Q) where
   sound_right_tightened e s L ys o c P (at_leaf h B) = absurd (no_truth h)
   sound_right_tightened {g = g} {h = h} e s L ys o c P (at_loop {v = v} k A (part B C)) =
       elim (lived_rounds g h e v A) [ lived R H E ↦ made_after k R H (step_after g h e v R E (view_stages Q one (rounds_parts A) C)) ]
-  sound_right_tightened e s L ys o c P (at_constant k) = lowered (make_stages Q one (chained begins begins (at_constant k) stays)) (below (omega arith) (omega arith))
+  sound_right_tightened e s L ys o c P (at_constant z k) = lowered (make_stages Q one (chained begins begins (at_constant refl k) stays)) (below (omega arith) (omega arith))
 
   module _ (g h : Term) (e : Environment) (v : Data) where
     abbrev Both : Term
@@ -184,4 +184,4 @@ module _ (Q : Leaves) (one : OneLeaf Q) where
       outer : {L : Life} {zs : List Data} {o : Outcome} {c : Cost} → Chained Q whole (loop_pre i g) h e s L zs o c → Lowered false (At Q (loop_pre i (staged whole g (sided First h))) e s L o) c
       outer (chained A B (at_leaf k C) D) = absurd (no_truth k)
       outer (chained A B (at_loop k R G) D) = moved (onces Q one A (loop_parts k R)) k R B G D
-      outer (chained A B (at_constant k) stays) = lowered (at_constant k) (below_any _ _)
+      outer (chained A B (at_constant z k) stays) = lowered (at_constant refl k) (below_any _ _)

@@ -1,10 +1,10 @@
 -- Laws keep outcomes, and cost no more.
 use Rattle.std.proofs.Common.{true, false, arith}
 use Rattle.sf_mean.specs.Meaning.{one_term, text_cost}
-use Rattle.sf_rewrite.specs.Laws.{Laws, unchanged, in_turn, in_join, in_stages, in_side, in_heading, in_switch, as_pipeline, within_pipeline, associate_right, associate_left, identity_before, identity_after, arr_as_chain, chain_as_arr, arr_composed, arr_on_side, arr_in_parallel, arr_fanned_out, sides_composed, exchanged, constant_after, left_tightened, right_tightened}
+use Rattle.sf_rewrite.specs.Laws.{Laws, unchanged, in_turn, in_join, in_stages, in_side, in_heading, in_transformed, in_switch, as_pipeline, within_pipeline, associate_right, associate_left, identity_before, identity_after, arr_as_chain, chain_as_arr, arr_composed, arr_on_side, arr_in_parallel, arr_fanned_out, sides_composed, exchanged, constant_after, left_tightened, right_tightened}
 use Rattle.sf_rewrite.proofs.Parts.{Leaves, OneLeaf}
 use Rattle.sf_rewrite.proofs.Lowered.{Below, below_same, below_any, below, below_trans, below_over, below_both, below_stages}
-use Rattle.sf_rewrite.proofs.Along.{Sound, sound_join, sound_stages, sound_side, sound_heading, sound_switch, sound_turn, sound_unchanged}
+use Rattle.sf_rewrite.proofs.Along.{Sound, sound_join, sound_stages, sound_side, sound_heading, sound_transformed, sound_switch, sound_turn, sound_unchanged}
 use Rattle.sf_rewrite.proofs.Stages.{below_second, below_first, right_below, left_below, sound_as_pipeline, back_as_pipeline, sound_within_pipeline, back_within_pipeline, sound_identity_before, back_identity_before, sound_identity_after, back_identity_after, sound_associate_right, sound_associate_left}
 use Rattle.sf_rewrite.proofs.Fuse.{sound_arr_as_chain, back_arr_as_chain, sound_arr_composed, back_arr_composed, sound_arr_on_side, back_arr_on_side, sound_arr_in_parallel, back_arr_in_parallel, sound_arr_fanned_out, back_arr_fanned_out}
 use Rattle.sf_rewrite.proofs.Sides.{sound_sides_composed, back_sides_composed}
@@ -21,6 +21,7 @@ texts (in_join A B) = below_over _ _ (below_both _ _ _ _ (texts A) (texts B))
 texts (in_stages {x = x} A B) = below_stages x _ _ (below_both _ _ _ _ (texts A) (texts B))
 texts (in_side A) = below_over _ _ (texts A)
 texts (in_heading A) = below_over _ _ (texts A)
+texts (in_transformed A) = below_over _ _ (texts A)
 texts (in_switch A B) = below_over _ _ (texts A)
 texts as_pipeline = below_same true _
 texts within_pipeline = below (omega arith) (omega arith)
@@ -49,6 +50,7 @@ module _ (Q : Leaves) (one : OneLeaf Q) where
   onward (in_stages A B) = sound_stages Q one (onward A) (onward B) (texts B)
   onward (in_side A) = sound_side Q one (onward A)
   onward (in_heading A) = sound_heading Q one (onward A) (texts A)
+  onward (in_transformed A) = sound_transformed Q one (onward A) (texts A)
   onward (in_switch A B) = sound_switch Q one (onward A) (onward B)
   onward as_pipeline = sound_as_pipeline Q one
   onward within_pipeline = sound_within_pipeline Q one
@@ -76,6 +78,7 @@ module _ (Q : Leaves) (one : OneLeaf Q) where
   back (in_stages A B) = sound_stages Q one (back A) (back B) (below_any _ _)
   back (in_side A) = sound_side Q one (back A)
   back (in_heading A) = sound_heading Q one (back A) (below_any _ _)
+  back (in_transformed A) = sound_transformed Q one (back A) (below_any _ _)
   back (in_switch A B) = sound_switch Q one (back A) (back B)
   back as_pipeline = back_as_pipeline Q one
   back within_pipeline = back_within_pipeline Q one

@@ -8,12 +8,12 @@ use Rattle.sf_mean.proofs.Once.{once_sample}
 use Rattle.sf_rewrite.specs.Quiet.{is_quiet}
 use Rattle.sf_rewrite.specs.Laws.{unchanged}
 use Rattle.sf_rewrite.specs.Plans.{Plans, plans, PlansParts, PlansProcess, of_closure, of_frozen, PlansNames, of_nothing, of_value, of_process, PlansAll, no_templates, one_more, PlansNetwork}
-use Rattle.sf_rewrite.specs.Plans.{of_primitive, of_started, of_call, PlansArguments, of_no_arguments, of_value_argument, of_named_argument, of_closed_argument, of_term_argument, of_join, of_side, of_heading, of_switch, of_keeping}
+use Rattle.sf_rewrite.specs.Plans.{of_primitive, of_started, of_call, PlansArguments, of_no_arguments, of_value_argument, of_named_argument, of_closed_argument, of_term_argument, of_join, of_side, of_heading, of_transformed, of_switch, of_keeping}
 use Rattle.sf_rewrite.proofs.Parts.{OneLeaf}
 use Rattle.sf_rewrite.proofs.Quiet.{last_step, quiet_steps}
 use Rattle.sf_rewrite.proofs.Lowered.{lowered}
 use Rattle.sf_rewrite.proofs.Opening.{Leaf, closed_part}
-use Rattle.sf_rewrite.proofs.Main.{to_plan, from_plan, Alike, alike, Formed, same_primitive, same_started, same_call, AlikeArguments, alike_none, alike_value, alike_named, alike_closed, alike_opened, alike_terms, same_join, same_side, same_heading, same_switch, same_keeping, AlikeProcess, alike_closure, alike_resumed, AlikeNames, alike_empty, alike_known, alike_running, AlikeAll, none_alike, more_alike, keeps}
+use Rattle.sf_rewrite.proofs.Main.{to_plan, from_plan, Alike, alike, Formed, same_primitive, same_started, same_call, AlikeArguments, alike_none, alike_value, alike_named, alike_closed, alike_opened, alike_terms, same_join, same_side, same_heading, same_transformed, same_switch, same_keeping, AlikeProcess, alike_closure, alike_resumed, AlikeNames, alike_empty, alike_known, alike_running, AlikeAll, none_alike, more_alike, keeps}
 
 mutual
   onto : {t u : Term} → Plans t u → Alike true t u
@@ -26,6 +26,7 @@ mutual
   onto_parts (of_join A B) = same_join (onto A) (onto B)
   onto_parts (of_side A) = same_side (onto A)
   onto_parts (of_heading A) = same_heading (onto A)
+  onto_parts (of_transformed A) = same_transformed (onto A)
   onto_parts (of_switch A B) = same_switch (onto A) (onto B)
   onto_parts (of_keeping A C B) = same_keeping (onto A) (onto C) (onto B)
 
@@ -47,6 +48,7 @@ mutual
   from_parts (of_join A B) = same_join (from A) (from B)
   from_parts (of_side A) = same_side (from A)
   from_parts (of_heading A) = same_heading (from A)
+  from_parts (of_transformed A) = same_transformed (from A)
   from_parts (of_switch A B) = same_switch (from A) (from B)
   from_parts (of_keeping A C B) = same_keeping (from A) (from C) (from B)
 

@@ -4,18 +4,18 @@ use Rattle.std.proofs.lemmas.Option.{same_Some}
 use mathlib.Core.Path.{ap₂}
 use Rattle.sf_value.specs.Values.{Name, Kind}
 use Rattle.sf_func.specs.Registries.{TypesByName}
-use Rattle.sf_expr.specs.Expressions.{Pattern, Expression}
+use Rattle.sf_expr.specs.Expressions.{Pattern, Expression, Function}
 use Rattle.sf_term.specs.declared.form.Join.{Join}
 use Rattle.sf_term.specs.declared.form.Side.{Side}
 use Rattle.sf_term.specs.declared.form.Heading.{Heading}
 use Rattle.sf_term.specs.declared.form.Observation.{Observation}
 use Rattle.sf_term.specs.declared.form.Switching.{Switching}
-use Rattle.sf_term.specs.Trees.{Chain, Extent, Term, Arguments, joined, sided, headed, switching, keeping, staged, Template, Templates}
+use Rattle.sf_term.specs.Trees.{Chain, Extent, Term, Arguments, joined, sided, headed, transformed, switching, keeping, staged, Template, Templates}
 use Rattle.sf_mean.specs.Contexts.{Context, Bindings, Signature, signature_of, context_with, inside_pattern, inside_process}
-use Rattle.sf_mean.specs.Typing.{ChainTakes, lone_takes, chained_takes, on_first_takes, on_second_takes, on_both_takes, fanned_takes, bare_takes, value_takes, arrow_takes, fused_takes, Takes, takes, primitive_takes, call_takes, ArgumentsFit, value_fits, process_fits, closed_fits, sequence_takes, parallel_takes, fan_takes, first_takes, second_takes, loop_takes, initialized_takes, replaced_takes, switch_takes, keeping_takes, recurring_takes, stages_take}
+use Rattle.sf_mean.specs.Typing.{ChainTakes, lone_takes, chained_takes, on_first_takes, on_second_takes, on_both_takes, fanned_takes, bare_takes, value_takes, arrow_takes, fused_takes, Takes, takes, primitive_takes, call_takes, ArgumentsFit, value_fits, process_fits, closed_fits, sequence_takes, parallel_takes, fan_takes, first_takes, second_takes, loop_takes, initialized_takes, replaced_takes, followed_takes, transformed_takes, switch_takes, keeping_takes, recurring_takes, stages_take}
 use Rattle.sf_mean.proofs.Inferred.{input_fits, output_fits}
-use Rattle.sf_rewrite.specs.Laws.{arr, Laws, unchanged, in_turn, in_join, in_stages, in_side, in_heading, in_switch, as_pipeline, within_pipeline, associate_right, associate_left, identity_before, identity_after, arr_as_chain, chain_as_arr, arr_composed, arr_on_side, arr_in_parallel, arr_fanned_out, sides_composed, exchanged, constant_after, left_tightened, right_tightened}
-use Rattle.sf_rewrite.specs.Plans.{Plans, plans, PlansParts, of_primitive, of_started, of_call, PlansArguments, of_no_arguments, of_value_argument, of_named_argument, of_closed_argument, of_term_argument, of_join, of_side, of_heading, of_switch, of_keeping, PlansTemplate, PlansAll, no_templates, one_more}
+use Rattle.sf_rewrite.specs.Laws.{arr, Laws, unchanged, in_turn, in_join, in_stages, in_side, in_heading, in_transformed, in_switch, as_pipeline, within_pipeline, associate_right, associate_left, identity_before, identity_after, arr_as_chain, chain_as_arr, arr_composed, arr_on_side, arr_in_parallel, arr_fanned_out, sides_composed, exchanged, constant_after, left_tightened, right_tightened}
+use Rattle.sf_rewrite.specs.Plans.{Plans, plans, PlansParts, of_primitive, of_started, of_call, PlansArguments, of_no_arguments, of_value_argument, of_named_argument, of_closed_argument, of_term_argument, of_join, of_side, of_heading, of_transformed, of_switch, of_keeping, PlansTemplate, PlansAll, no_templates, one_more}
 
 abbrev Keeps : Context → Term → Term → Type 0
 Keeps Γ t u = (a b : Kind) → Takes Γ t a b → Takes Γ u a b
@@ -37,6 +37,10 @@ module _ {Γ : Context} where
   keeps_heading F a b (takes p q (loop_takes e f)) = takes p q (loop_takes e (F _ _ f))
   keeps_heading F a b (takes p q (initialized_takes e f)) = takes p q (initialized_takes e (F _ _ f))
   keeps_heading F a b (takes p q (replaced_takes e f)) = takes p q (replaced_takes e (F _ _ f))
+  keeps_heading F a b (takes p q (followed_takes e f)) = takes p q (followed_takes e (F _ _ f))
+
+  keeps_transformed : {f : Function} {t t' : Term} → Keeps Γ t t' → Keeps Γ (transformed f t) (transformed f t')
+  keeps_transformed F a b (takes p q (transformed_takes e f)) = takes p q (transformed_takes e (F _ _ f))
 
   keeps_switch : {w : Switching} {t t' u u' : Term} {p : Pattern} → Keeps Γ t t' → ((c : Kind) → Keeps (inside_pattern p c Γ) u u') → Keeps Γ (switching w t p u) (switching w t' p u')
   keeps_switch F G a b (takes x y (switch_takes f h g)) = takes x y (switch_takes (F _ _ f) h (G _ _ _ g))
@@ -56,6 +60,7 @@ law_takes (in_join A B) a b k = keeps_join (law_takes A) (law_takes B) a b k
 law_takes (in_stages A B) a b k = keeps_stages (law_takes A) (law_takes B) a b k
 law_takes (in_side A) a b k = keeps_side (law_takes A) a b k
 law_takes (in_heading A) a b k = keeps_heading (law_takes A) a b k
+law_takes (in_transformed A) a b k = keeps_transformed (law_takes A) a b k
 law_takes (in_switch A B) a b k = keeps_switch (law_takes A) (λ c. law_takes B) a b k
 law_takes as_pipeline a b (takes p q (sequence_takes f g)) = takes p q (stages_take f g)
 law_takes within_pipeline a b (takes p q (stages_take f g)) = takes p q (stages_take f g)
@@ -89,6 +94,7 @@ mutual
   parts_take (of_join A B) a b k = keeps_join (plan_takes A) (plan_takes B) a b k
   parts_take (of_side A) a b k = keeps_side (plan_takes A) a b k
   parts_take (of_heading A) a b k = keeps_heading (plan_takes A) a b k
+  parts_take (of_transformed A) a b k = keeps_transformed (plan_takes A) a b k
   parts_take (of_switch A B) a b k = keeps_switch (plan_takes A) (λ c. plan_takes B) a b k
   parts_take (of_keeping A C B) a b k = keeps_keeping (plan_takes A) (plan_takes C) (λ a b c. plan_takes B) a b k
 

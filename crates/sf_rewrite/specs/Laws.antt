@@ -10,7 +10,7 @@ use Rattle.sf_term.specs.declared.form.Side.TheVariants.{First}
 use Rattle.sf_term.specs.declared.form.Heading.{Heading}
 use Rattle.sf_term.specs.declared.form.Heading.TheVariants.{LoopPre}
 use Rattle.sf_term.specs.declared.form.Switching.{Switching}
-use Rattle.sf_term.specs.Trees.{Chain, lone, chained, on_side, on_both, fanned, bare, with_value, arrow, fused, Extent, whole, rest, Term, primitive, joined, sided, headed, switching, staged}
+use Rattle.sf_term.specs.Trees.{Chain, lone, chained, on_side, on_both, fanned, bare, with_value, arrow, fused, Extent, whole, rest, Term, primitive, joined, sided, headed, transformed, switching, staged}
 use Rattle.sf_rewrite.specs.Quiet.{is_quiet_expression, is_quiet}
 
 -- `identity`
@@ -38,6 +38,7 @@ pub data Laws : Term → Term → Type 0 where
   in_stages : {x : Extent} {f f' g g' : Term} → Laws f f' → Laws g g' → Laws (staged x f g) (staged x f' g')
   in_side : {d : Side} {t t' : Term} → Laws t t' → Laws (sided d t) (sided d t')
   in_heading : {h : Heading} {i : Expression} {t t' : Term} → Laws t t' → Laws (headed h i t) (headed h i t')
+  in_transformed : {f : Function} {t t' : Term} → Laws t t' → Laws (transformed f t) (transformed f t')
   in_switch : {w : Switching} {t t' u u' : Term} {p : Pattern} → Laws t t' → Laws u u' → Laws (switching w t p u) (switching w t' p u')
   -- `>>>` is a pipeline of two stages; a pipeline that is a stage of another is written as the rest of one
   as_pipeline : {f g : Term} → Laws (joined InSequence f g) (staged whole f g)

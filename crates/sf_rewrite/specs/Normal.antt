@@ -1,7 +1,7 @@
 -- The form of a plan: no `>>>` is left, no stage of a pipeline is a pipeline or the identity, and no two neighbours are `arr`.
 use Rattle.std.specs.Prelude.{Bool, true, false, ◌&&◌, IsTrue}
 use Rattle.sf_value.specs.Values.{Name}
-use Rattle.sf_expr.specs.Expressions.{Pattern, Expression}
+use Rattle.sf_expr.specs.Expressions.{Pattern, Expression, Function}
 use Rattle.sf_term.specs.declared.form.Bare.TheVariants.{Identity, LocalTime, Integral, Edge, NotYet, Once, Count, Pre}
 use Rattle.sf_term.specs.declared.form.Join.{Join}
 use Rattle.sf_term.specs.declared.form.Join.TheVariants.{InSequence, InParallel, FannedOut}
@@ -10,7 +10,7 @@ use Rattle.sf_term.specs.declared.form.Heading.{Heading}
 use Rattle.sf_term.specs.declared.form.Observation.{Observation}
 use Rattle.sf_term.specs.declared.form.Start.{Start}
 use Rattle.sf_term.specs.declared.form.Switching.{Switching}
-use Rattle.sf_term.specs.Trees.{Primitive, bare, probe, never, with_value, timed, selected, arrow, accumulated, fused, whole, rest, Term, primitive, Reference, reference, started, call, Arguments, no_arguments, value_argument, process_argument, closed_argument, joined, sided, headed, switching, keeping, staged}
+use Rattle.sf_term.specs.Trees.{Primitive, bare, probe, never, with_value, timed, selected, arrow, accumulated, fused, whole, rest, Term, primitive, Reference, reference, started, call, Arguments, no_arguments, value_argument, process_argument, closed_argument, joined, sided, headed, transformed, switching, keeping, staged}
 
 -- `arr`, of one function or of functions made into one
 abbrev pub is_arr : Term → Bool
@@ -27,6 +27,7 @@ is_arr (reference r) = false
 is_arr (joined j f g) = false
 is_arr (sided d t) = false
 is_arr (headed h i t) = false
+is_arr (transformed f t) = false
 is_arr (switching w t p u) = false
 is_arr (keeping w t q k p u) = false
 is_arr (staged x f g) = false
@@ -59,6 +60,7 @@ is_stage (reference r) = true
 is_stage (joined j f g) = is_left j
 is_stage (sided d t) = true
 is_stage (headed h i t) = true
+is_stage (transformed f t) = true
 is_stage (switching w t p u) = true
 is_stage (keeping w t q k p u) = true
 is_stage (staged x f g) = false
@@ -78,6 +80,7 @@ mutual
     plan_join : {j : Join} {f g : Term} → IsTrue (is_left j) → IsPlan f → IsPlan g → IsPlan (joined j f g)
     plan_side : {d : Side} {t : Term} → IsPlan t → IsPlan (sided d t)
     plan_heading : {h : Heading} {i : Expression} {t : Term} → IsPlan t → IsPlan (headed h i t)
+    plan_transformed : {f : Function} {t : Term} → IsPlan t → IsPlan (transformed f t)
     plan_switch : {w : Switching} {t u : Term} {p : Pattern} → IsPlan t → IsPlan u → IsPlan (switching w t p u)
     plan_keeping : {w : Observation} {t q u : Term} {k : Name} {p : Pattern} → IsPlan t → IsPlan q → IsPlan u → IsPlan (keeping w t q k p u)
     plan_pipeline : {f r : Term} → IsPlan f → IsTrue (is_stage f) → IsRest f r → IsPlan (staged whole f r)
@@ -114,6 +117,7 @@ abbrev mutual
   is_written (joined j f g) = is_written f && is_written g
   is_written (sided d t) = is_written t
   is_written (headed h i t) = is_written t
+  is_written (transformed f t) = is_written t
   is_written (switching w t p u) = is_written t && is_written u
   is_written (keeping w t q k p u) = is_written t && (is_written q && is_written u)
   is_written (staged x f g) = false

@@ -1,14 +1,14 @@
 -- The plans of networks.
 use Rattle.std.specs.Prelude.{ℕ, ◌≡◌, [], ◌∷◌, Bool, true, false}
 use Rattle.sf_value.specs.Values.{Name, Data}
-use Rattle.sf_expr.specs.Expressions.{Pattern, Expression}
+use Rattle.sf_expr.specs.Expressions.{Pattern, Expression, Function}
 use Rattle.sf_term.specs.declared.form.Join.{Join}
 use Rattle.sf_term.specs.declared.form.Side.{Side}
 use Rattle.sf_term.specs.declared.form.Heading.{Heading}
 use Rattle.sf_term.specs.declared.form.Observation.{Observation}
 use Rattle.sf_term.specs.declared.form.Start.{Start}
 use Rattle.sf_term.specs.declared.form.Switching.{Switching}
-use Rattle.sf_term.specs.Trees.{Primitive, Term, primitive, reference, started, call, Arguments, no_arguments, value_argument, process_argument, closed_argument, joined, sided, headed, switching, keeping, staged, Template, Templates}
+use Rattle.sf_term.specs.Trees.{Primitive, Term, primitive, reference, started, call, Arguments, no_arguments, value_argument, process_argument, closed_argument, joined, sided, headed, transformed, switching, keeping, staged, Template, Templates}
 use Rattle.sf_mean.specs.Lives.{Life, Process, closure, resumed, Environment, empty, known, running}
 use Rattle.sf_mean.specs.Meaning.{Network}
 use Rattle.sf_rewrite.specs.Laws.{Laws}
@@ -21,6 +21,7 @@ is_started (reference (call g vs)) = false
 is_started (joined j f g) = false
 is_started (sided d t) = false
 is_started (headed h i t) = false
+is_started (transformed f t) = false
 is_started (switching w t p u) = false
 is_started (keeping w t q k p u) = false
 is_started (staged x f g) = false
@@ -37,6 +38,7 @@ mutual
     of_join : {j : Join} {f f' g g' : Term} → Plans f f' → Plans g g' → PlansParts (joined j f g) (joined j f' g')
     of_side : {d : Side} {t t' : Term} → Plans t t' → PlansParts (sided d t) (sided d t')
     of_heading : {h : Heading} {i : Expression} {t t' : Term} → Plans t t' → PlansParts (headed h i t) (headed h i t')
+    of_transformed : {f : Function} {t t' : Term} → Plans t t' → PlansParts (transformed f t) (transformed f t')
     of_switch : {w : Switching} {t t' u u' : Term} {p : Pattern} → Plans t t' → Plans u u' → PlansParts (switching w t p u) (switching w t' p u')
     of_keeping : {w : Observation} {t t' q q' u u' : Term} {k : Name} {p : Pattern} → Plans t t' → Plans q q' → Plans u u' → PlansParts (keeping w t q k p u) (keeping w t' q' k p u')
 

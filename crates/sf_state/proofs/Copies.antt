@@ -147,7 +147,7 @@ module _ (φ : AnswersByName) (p : Plan) where
       ready h O (subst (λ n. Lives φ p (LProbe r') (primitive (probe n)) e m K) name lives_probe)
 
   pub join_follows : (j : Join) (a a' b b' : State) → Follows a a' → Follows b b' → NodeFollows (LJoin j a b) (LJoin j a' b')
-  join_follows j a a' b b' f g P x L (ready h O (lives_join OL A B)) = ready h O (lives_join OL (f _ _ A) (g _ _ B))
+  join_follows j a a' b b' f g P x L (ready h O (lives_join J OL A B)) = ready h O (lives_join J OL (f _ _ A) (g _ _ B))
 
   pub wrap_follows : (w w' : Wrap) (a a' : State) → ((n : Network) (t : Term) (e : Environment) (m : Made) (L : Life) (u : Term) (K : Life) → Wraps n w t e m L u K → Wraps n w' t e m L u K)
       → Follows a a' → NodeFollows (LWrap w a) (LWrap w' a')

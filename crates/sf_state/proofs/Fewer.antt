@@ -55,7 +55,7 @@ module _ (φ : AnswersByName) (p : Plan) where
   inside_pattern b C h e (is_bound {e = around} N) = h around N
 
   -- and inside a process under its name
-  pub inside_process : {at : _} (r : Running) (C : Environment → Type 0) → ((e : Environment) (P : Process) → IsHanded φ p r.handed P → IsNames φ p r.around e → C (running (name_at (plan_expressions p) r.name) P e))
+  pub inside_process : {at : _} (r : Running) (C : Environment → Type 0) → ((e : Environment) (P : Process) → IsHanded φ p (name_at (plan_expressions p) r.name) r.handed P → IsNames φ p r.around e → C (running (name_at (plan_expressions p) r.name) P e))
       → (e : Environment) → IsNames φ p (Running' at r.name r.handed.process r.handed.base.term r.handed.base.names r.around) e → C e
   inside_process r C h e (is_running {P = P} {e = around} A B N) = h around P (A, B) N
 
@@ -66,7 +66,7 @@ module _ (φ : AnswersByName) (p : Plan) where
 
   -- a process over fewer names
   pub process_over_fewer : {at : _} {m l : Mentioned} {e : Environment} {P : Process} (r : Running) → ((x : Name) → IsTrue (is_mentioned m x) → BindsOthers (named (name_at (plan_expressions p) r.name)) x → IsTrue (is_mentioned l x))
-      → IsHanded φ p r.handed P → HasMentioned φ p l r.around e
+      → IsHanded φ p (name_at (plan_expressions p) r.name) r.handed P → HasMentioned φ p l r.around e
       → HasMentioned φ p m (Running' at r.name r.handed.process r.handed.base.term r.handed.base.names r.around) (running (name_at (plan_expressions p) r.name) P e)
   process_over_fewer {P = P} r h H (has_mentioned N A) =
       let k = name_at (plan_expressions p) r.name in
@@ -83,7 +83,7 @@ module _ (φ : AnswersByName) (p : Plan) where
 
   -- the same of a process under its name
   pub process_made : {at : _} {m l : Mentioned} {e : Environment} {P : Process} (r c : Running) → c ≡ r
-      → ((x : Name) → IsTrue (is_mentioned m x) → BindsOthers (named (name_at (plan_expressions p) r.name)) x → IsTrue (is_mentioned l x)) → IsHanded φ p r.handed P → HasMentioned φ p l r.around e
+      → ((x : Name) → IsTrue (is_mentioned m x) → BindsOthers (named (name_at (plan_expressions p) r.name)) x → IsTrue (is_mentioned l x)) → IsHanded φ p (name_at (plan_expressions p) r.name) r.handed P → HasMentioned φ p l r.around e
       → HasMentioned φ p m (Running' at c.name c.handed.process c.handed.base.term c.handed.base.names c.around) (running (name_at (plan_expressions p) r.name) P e)
   process_made {at} {m} {e = e} {P = P} r c same h H K =
       subst (λ (c : Running). HasMentioned φ p m (Running' at c.name c.handed.process c.handed.base.term c.handed.base.names c.around) (running (name_at (plan_expressions p) r.name) P e)) (sym same) (process_over_fewer r h H K)

@@ -1,7 +1,8 @@
 -- The names around a part are those of its environment.
-use Rattle.std.proofs.Common.{◌≡◌, ℕ, suc, Bool, true, false, cond, List, [], ◌∷◌, Option, Some, None, refl, ap, sym, ◌∙◌, subst}
+use Rattle.std.proofs.Common.{◌≡◌, ℕ, suc, Bool, true, false, cond, List, [], ◌∷◌, Option, Some, None, IsTrue, refl, ap, sym, ◌∙◌, subst}
 use Rattle.std.specs.Prelude.{bytes_eq}
 use Rattle.std.specs.List.{slice_get}
+use Rattle.std.proofs.lemmas.Slice.Eq.{bytes_eq-Decides}
 use Rattle.std.specs.declared.alloc.Global.{Global}
 use Rattle.std.specs.declared.rc.Rc.{Rc}
 use Rattle.sf_value.specs.declared.value.Value.{Value}
@@ -17,7 +18,7 @@ use Rattle.sf_expr.specs.Arena.{name_at, placed_at}
 use Rattle.sf_code.specs.Names.{ValuesByName, value_named, scope_with}
 use Rattle.sf_mean.specs.Lives.{Process, Environment, empty, known, running, bind, passing, process_of, scope_around}
 use Rattle.sf_law.specs.declared.plan.Plan.{Plan}
-use Rattle.sf_law.specs.Arena.{plan_expressions, header_at}
+use Rattle.sf_law.specs.Arena.{plan_expressions, plan_asks, header_at}
 use Rattle.sf_law.specs.Places.{names_of_parameters, last_parameter}
 use Rattle.sf_state.specs.declared.state.State.{State}
 use Rattle.sf_state.specs.declared.env.Env.{Env}
@@ -97,20 +98,22 @@ module _ (φ : AnswersByName) (p : Plan) where
 
   -- behind a pattern without a name stands what stands around it
   pub found_outside : {at : _} (x : Name) (i : PatternId) (v : Rc Value Global) (names : Env) (found : Option Handed) (e : Environment) → part_of i v.value x ≡ None
-      → ((e : Environment) → IsNames φ p names e → IsFound φ p found (process_of x e)) → IsNames φ p (Bound' at i v names) e → IsFound φ p found (process_of x e)
+      → ((e : Environment) → IsNames φ p names e → IsFound φ p x found (process_of x e)) → IsNames φ p (Bound' at i v names) e → IsFound φ p x found (process_of x e)
   unfolding hidden_by
   found_outside x i v names found e h outside (is_bound {e = around} N) =
-      subst (λ P. IsFound φ p found P) (sym (process_inside x (pattern_of (placed_at (plan_expressions p) i)) v.value around ∙ ap (λ o. hidden_by o (process_of x around)) h)) (outside around N)
+      subst (λ P. IsFound φ p x found P) (sym (process_inside x (pattern_of (placed_at (plan_expressions p) i)) v.value around ∙ ap (λ o. hidden_by o (process_of x around)) h)) (outside around N)
 
   -- under its name stands a process
   pub found_there : {at : _} (x : Name) (r : Running) (e : Environment) → bytes_eq x (name_at (plan_expressions p) r.name) ≡ true
-      → IsNames φ p (Running' at r.name r.handed.process r.handed.base.term r.handed.base.names r.around) e → IsFound φ p (Some r.handed) (process_of x e)
-  found_there x r e h (is_running {P = P} {e = around} A B N) = subst (λ c. IsFound φ p (Some r.handed) (cond c P (process_of x around))) (sym h) (A, B)
+      → IsNames φ p (Running' at r.name r.handed.process r.handed.base.term r.handed.base.names r.around) e → IsFound φ p x (Some r.handed) (process_of x e)
+  found_there x r e h (is_running {P = P} {e = around} A B N) =
+      let same : x ≡ name_at (plan_expressions p) r.name = (bytes_eq-Decides x (name_at (plan_expressions p) r.name)).0 h in
+      subst (λ c. IsFound φ p x (Some r.handed) (cond c P (process_of x around))) (sym h) (A, λ asked. B (subst (λ y. IsTrue (plan_asks p y)) same asked))
 
   -- behind a process of another name
   pub found_further : {at : _} (x : Name) (k : NameId) (a : State) (b : SProcess) (names : Env) (found : Option Handed) (e : Environment) → bytes_eq x (name_at (plan_expressions p) k) ≡ false
-      → ((e : Environment) → IsNames φ p names e → IsFound φ p found (process_of x e)) → IsNames φ p (Running' at k a b.term b.names names) e → IsFound φ p found (process_of x e)
-  found_further x k a b names found e h outside (is_running {P = P} {e = around} A B N) = subst (λ c. IsFound φ p found (cond c P (process_of x around))) (sym h) (outside around N)
+      → ((e : Environment) → IsNames φ p names e → IsFound φ p x found (process_of x e)) → IsNames φ p (Running' at k a b.term b.names names) e → IsFound φ p x found (process_of x e)
+  found_further x k a b names found e h outside (is_running {P = P} {e = around} A B N) = subst (λ c. IsFound φ p x found (cond c P (process_of x around))) (sym h) (outside around N)
 
   -- the same names under another pointer
   names_moved : {at at' : _} {b : Binding} {e : Environment} → IsNames φ p (Bound' at b.pattern b.value b.around) e → IsNames φ p (Bound' at' b.pattern b.value b.around) e
@@ -130,7 +133,7 @@ module _ (φ : AnswersByName) (p : Plan) where
   names_bound_inside {at} b c same e N = subst (λ (c : Binding). IsNames φ p (Bound' at c.pattern c.value c.around) (bind (pattern_of (placed_at (plan_expressions p) b.pattern)) b.value.value e)) (sym same) (is_bound N)
 
   -- the same of a process under its name
-  pub names_running_inside : {at : _} (b c : Running) → c ≡ b → (e : Environment) (P : Process) → IsNames φ p b.around e → IsHanded φ p b.handed P → IsNames φ p (Running' at c.name c.handed.process c.handed.base.term c.handed.base.names c.around) (running (name_at (plan_expressions p) b.name) P e)
+  pub names_running_inside : {at : _} (b c : Running) → c ≡ b → (e : Environment) (P : Process) → IsNames φ p b.around e → IsHanded φ p (name_at (plan_expressions p) b.name) b.handed P → IsNames φ p (Running' at c.name c.handed.process c.handed.base.term c.handed.base.names c.around) (running (name_at (plan_expressions p) b.name) P e)
   names_running_inside {at} b c same e P N H = subst (λ (c : Running). IsNames φ p (Running' at c.name c.handed.process c.handed.base.term c.handed.base.names c.around) (running (name_at (plan_expressions p) b.name) P e)) (sym same) (is_running H.0 H.1 N)
 
 -- ## What is given side by side
@@ -182,30 +185,30 @@ module _ (x : Name) where
         each c (Some i) h rest = absurd cc
 
     -- one that has stands for the process that is given there, if one is
-    process_placed : (xs : List Name) (gs : List Given) (d e : Environment) (i : ℕ) → AreGiven φ p xs gs d e → last_parameter x xs ≡ Some i → IsFound φ p (handed_of (slice_get gs i)) (process_of x e)
+    process_placed : (xs : List Name) (gs : List Given) (d e : Environment) (i : ℕ) → AreGiven φ p xs gs d e → last_parameter x xs ≡ Some i → IsFound φ p x (handed_of (slice_get gs i)) (process_of x e)
     process_placed xs gs d e i nothing_given h = absurd cc
     process_placed xs gs d e i (value_is_given {x = y} {xs = ys} {v = v} {gs = hs} {d = b} G) h =
         each (bytes_eq x y) (last_parameter x ys) h (process_past ys hs (known y v b) e G) (λ j. process_placed ys hs (known y v b) e j G)
       where
-        each : (c : Bool) (o : Option ℕ) → place_behind c o ≡ Some i → (o ≡ None → process_of x e ≡ cond c passing (process_of x b)) → ((j : ℕ) → o ≡ Some j → IsFound φ p (handed_of (slice_get hs j)) (process_of x e))
-            → IsFound φ p (handed_of (slice_get (GValue v ∷ hs) i)) (process_of x e)
-        each true None h past rest = let z : 0 ≡ i = cc in subst (λ k. IsFound φ p (handed_of (slice_get (GValue v ∷ hs) k)) (process_of x e)) z (past refl)
+        each : (c : Bool) (o : Option ℕ) → place_behind c o ≡ Some i → (o ≡ None → process_of x e ≡ cond c passing (process_of x b)) → ((j : ℕ) → o ≡ Some j → IsFound φ p x (handed_of (slice_get hs j)) (process_of x e))
+            → IsFound φ p x (handed_of (slice_get (GValue v ∷ hs) i)) (process_of x e)
+        each true None h past rest = let z : 0 ≡ i = cc in subst (λ k. IsFound φ p x (handed_of (slice_get (GValue v ∷ hs) k)) (process_of x e)) z (past refl)
         each false None h past rest = absurd cc
-        each c (Some j) h past rest = let z : suc j ≡ i = cc in subst (λ k. IsFound φ p (handed_of (slice_get (GValue v ∷ hs) k)) (process_of x e)) z (rest j refl)
+        each c (Some j) h past rest = let z : suc j ≡ i = cc in subst (λ k. IsFound φ p x (handed_of (slice_get (GValue v ∷ hs) k)) (process_of x e)) z (rest j refl)
     process_placed xs gs d e i (process_is_given {x = y} {xs = ys} {a = a} {b = t} {inner = inner} {gs = hs} {P = P} {d = b} A B G) h =
-        each (bytes_eq x y) (last_parameter x ys) h (process_past ys hs (running y P b) e G) (λ j. process_placed ys hs (running y P b) e j G)
+        each (bytes_eq x y) (last_parameter x ys) (λ equal. (bytes_eq-Decides x y).0 equal) h (process_past ys hs (running y P b) e G) (λ j. process_placed ys hs (running y P b) e j G)
       where
-        each : (c : Bool) (o : Option ℕ) → place_behind c o ≡ Some i → (o ≡ None → process_of x e ≡ cond c P (process_of x b)) → ((j : ℕ) → o ≡ Some j → IsFound φ p (handed_of (slice_get hs j)) (process_of x e))
-            → IsFound φ p (handed_of (slice_get (GProcess' a t inner ∷ hs) i)) (process_of x e)
-        each true None h past rest = let z : 0 ≡ i = cc in subst (λ k. IsFound φ p (handed_of (slice_get (GProcess' a t inner ∷ hs) k)) (process_of x e)) z (subst (λ Q. IsFound φ p (handed_of (Some (GProcess' a t inner))) Q) (sym (past refl)) (A, B))
-        each false None h past rest = absurd cc
-        each c (Some j) h past rest = let z : suc j ≡ i = cc in subst (λ k. IsFound φ p (handed_of (slice_get (GProcess' a t inner ∷ hs) k)) (process_of x e)) z (rest j refl)
+        each : (c : Bool) (o : Option ℕ) → (c ≡ true → x ≡ y) → place_behind c o ≡ Some i → (o ≡ None → process_of x e ≡ cond c P (process_of x b)) → ((j : ℕ) → o ≡ Some j → IsFound φ p x (handed_of (slice_get hs j)) (process_of x e))
+            → IsFound φ p x (handed_of (slice_get (GProcess' a t inner ∷ hs) i)) (process_of x e)
+        each true None same h past rest = let z : 0 ≡ i = cc in subst (λ k. IsFound φ p x (handed_of (slice_get (GProcess' a t inner ∷ hs) k)) (process_of x e)) z (subst (λ Q. IsFound φ p x (handed_of (Some (GProcess' a t inner))) Q) (sym (past refl)) (A, λ asked. B (subst (λ k. IsTrue (plan_asks p k)) (same refl) asked)))
+        each false None same h past rest = absurd cc
+        each c (Some j) same h past rest = let z : suc j ≡ i = cc in subst (λ k. IsFound φ p x (handed_of (slice_get (GProcess' a t inner ∷ hs) k)) (process_of x e)) z (rest j refl)
 
     -- the process of a name is the one that is given at its last place
-    pub process_of_place : (xs : List Name) (gs : List Given) (e : Environment) → AreGiven φ p xs gs empty e → IsFound φ p (handed_of (given_at (last_parameter x xs) gs)) (process_of x e)
+    pub process_of_place : (xs : List Name) (gs : List Given) (e : Environment) → AreGiven φ p xs gs empty e → IsFound φ p x (handed_of (given_at (last_parameter x xs) gs)) (process_of x e)
     process_of_place xs gs e G = each (last_parameter x xs) (process_past xs gs empty e G) (λ i. process_placed xs gs empty e i G)
       where
-        each : (o : Option ℕ) → (o ≡ None → process_of x e ≡ passing) → ((i : ℕ) → o ≡ Some i → IsFound φ p (handed_of (slice_get gs i)) (process_of x e)) → IsFound φ p (handed_of (given_at o gs)) (process_of x e)
+        each : (o : Option ℕ) → (o ≡ None → process_of x e ≡ passing) → ((i : ℕ) → o ≡ Some i → IsFound φ p x (handed_of (slice_get gs i)) (process_of x e)) → IsFound φ p x (handed_of (given_at o gs)) (process_of x e)
         each None past there = past refl
         each (Some i) past there = there i refl
 
@@ -227,7 +230,7 @@ module _ (φ : AnswersByName) (p : Plan) where
   pub called_follows : (r s : Rc Call Global) → s.value ≡ r.value → (e : Environment) → IsNames φ p (ECalled r) e → IsNames φ p (ECalled s) e
   called_follows r s same e N = called_of r.value s same e (called_gives r e N)
 
-  pub found_called : (x : Name) (r : Rc Call Global) (e : Environment) → IsNames φ p (ECalled r) e → IsFound φ p (handed_of (given_at (last_parameter x (names_called p r.value)) r.value.arguments.items)) (process_of x e)
+  pub found_called : (x : Name) (r : Rc Call Global) (e : Environment) → IsNames φ p (ECalled r) e → IsFound φ p x (handed_of (given_at (last_parameter x (names_called p r.value)) r.value.arguments.items)) (process_of x e)
   found_called x r e N = process_of_place x φ p (names_called p r.value) r.value.arguments.items e (called_gives r e N)
 
 pub value_called : (p : Plan) (x : Name) (r : Rc Call Global) → given_value (given_at (last_parameter x (names_called p r.value)) r.value.arguments.items) ≡ value_named (values_around p (ECalled r)) x

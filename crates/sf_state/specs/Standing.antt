@@ -1,26 +1,28 @@
 -- What states stand for.
-use Rattle.std.specs.Prelude.{◌≡◌, ℕ, Bool, true, false, IsTrue, List, [], ◌∷◌, Option, Some, None, String, string_bytes}
+use Rattle.std.specs.Prelude.{◌≡◌, ℕ, Bool, true, false, IsTrue, List, [], ◌∷◌, Option, Some, None, Result, Ok, Err, String, string_bytes}
 use Rattle.std.specs.declared.alloc.Global.{Global}
 use Rattle.std.specs.declared.rc.Rc.{Rc}
 use Rattle.sf_value.specs.declared.value.Value.{Value}
 use Rattle.sf_value.specs.Values.{Name, Data, first_of}
+use Rattle.sf_value.specs.declared.fault.ValueFault.{ValueFault}
 use Rattle.sf_func.specs.Registries.{AnswersByName}
-use Rattle.sf_expr.specs.Expressions.{Pattern, Expression}
+use Rattle.sf_expr.specs.Expressions.{Pattern, Expression, Function}
 use Rattle.sf_expr.specs.Patterns.{pattern_of}
 use Rattle.sf_expr.specs.declared.exprs.NameId.{NameId}
 use Rattle.sf_expr.specs.declared.exprs.PatternId.{PatternId}
 use Rattle.sf_expr.specs.Arena.{placed_at, name_at}
-use Rattle.sf_expr.specs.Evaluation.{answer}
+use Rattle.sf_expr.specs.Evaluation.{Evaluated, answer, failed, eval}
 use Rattle.sf_term.specs.declared.form.Join.{Join}
+use Rattle.sf_term.specs.declared.form.Join.TheVariants.{InSequence}
 use Rattle.sf_term.specs.declared.form.Side.TheVariants.{First as OnFirst, Second as OnSecond}
-use Rattle.sf_term.specs.declared.form.Heading.TheVariants.{LoopPre, Initialized as WithInitial, Replaced as WithReplaced}
+use Rattle.sf_term.specs.declared.form.Heading.TheVariants.{LoopPre, Initialized as WithInitial, Replaced as WithReplaced, Followed as WithFollowed}
 use Rattle.sf_term.specs.declared.form.Observation.{Observation}
 use Rattle.sf_term.specs.declared.form.Switching.{Switching}
 use Rattle.sf_term.specs.declared.form.Switching.TheVariants.{Basic, Recurring}
-use Rattle.sf_term.specs.Trees.{Primitive, probe, whole, rest, Term, primitive, Reference, reference, joined, sided, headed, switching, keeping, staged}
+use Rattle.sf_term.specs.Trees.{Primitive, probe, whole, rest, Term, primitive, Reference, reference, joined, sided, headed, transformed, switching, keeping, staged}
 use Rattle.sf_mean.specs.Lives.{Step, Life, Process, closure, resumed, Environment, empty, known, running, base, bind, passing, scope_around, first_input, with_inputs, relay, observed_life, after, fed_back, older, fed}
 use Rattle.sf_mean.specs.Formulas.{at_first, with_first, side_of}
-use Rattle.sf_mean.specs.Meaning.{Network, Made, value_made, referred, make, left_life, right_life, itself as watched_itself, observed, waits, fired, body_of, body_with, whenever, last_event, since_event, what_runs, Outputs, Loops, Since}
+use Rattle.sf_mean.specs.Meaning.{Network, Made, value_made, newest_or, referred, make, left_life, right_life, itself as watched_itself, observed, waits, fired, body_of, body_with, whenever, last_event, since_event, what_runs, Outputs, Loops, Since}
 use Rattle.sf_coincidence.specs.Alike.{Alike, AlikeAt}
 use Rattle.sf_law.specs.declared.node.PlanId.{PlanId}
 use Rattle.sf_law.specs.declared.node.TemplateId.{TemplateId}
@@ -28,7 +30,7 @@ use Rattle.sf_law.specs.declared.mentioned.Mentioned.{Mentioned}
 use Rattle.sf_law.specs.Mentioned.{is_mentioned}
 use Rattle.sf_law.specs.Places.{names_of_parameters}
 use Rattle.sf_law.specs.declared.plan.Plan.{Plan}
-use Rattle.sf_law.specs.Arena.{plan_tree, plan_expressions, plan_anew, header_at, network_of_plan}
+use Rattle.sf_law.specs.Arena.{plan_tree, plan_expressions, plan_asks, header_at, network_of_plan}
 use Rattle.sf_prim.specs.declared.prim_state.PrimState.{PrimState}
 use Rattle.sf_prim.specs.Keeping.{Remembers}
 use Rattle.sf_state.specs.declared.state.State.{State}
@@ -37,7 +39,7 @@ use Rattle.sf_state.specs.declared.state.Live.{Live}
 use Rattle.sf_state.specs.declared.state.Live.TheVariants.{Probe as LProbe, Join as LJoin, Pipeline' as LPipeline', Wrap as LWrap}
 use Rattle.sf_state.specs.declared.state.Live.{items-the_row-State}
 use Rattle.sf_state.specs.declared.state.Wrap.{Wrap}
-use Rattle.sf_state.specs.declared.state.Wrap.TheVariants.{First, Second, Loop, Initialized, Replaced}
+use Rattle.sf_state.specs.declared.state.Wrap.TheVariants.{First, Second, Loop, Initialized, Replaced, Followed}
 use Rattle.sf_state.specs.declared.state.Process.{Process as SProcess}
 use Rattle.sf_state.specs.declared.state.Switch.{Switch}
 use Rattle.sf_state.specs.declared.state.Keeping.{Keeping}
@@ -49,6 +51,11 @@ use Rattle.sf_state.specs.declared.env.Given.{Given}
 use Rattle.sf_state.specs.declared.env.Given.TheVariants.{Value as GValue, Process' as GProcess'}
 use Rattle.sf_state.specs.declared.env.Call.{items-the_row-Given}
 use Rattle.sf_state.specs.declared.env.Env.TheVariants.{Empty as SEmpty, Bound', Running', Called'}
+
+-- a value or a fault, as what an expression is worth
+abbrev pub worth_given : Result Data ValueFault → Evaluated Data
+worth_given (Ok v) = answer v
+worth_given (Err x) = failed x
 
 -- What a form with one part keeps after a life; the part, and the life that the part has led.
 pub data Wraps (n : Network) : Wrap → Term → Environment → Made → Life → Term → Life → Type 0 where
@@ -65,6 +72,18 @@ pub data Wraps (n : Network) : Wrap → Term → Environment → Made → Life �
       → Wraps n (Initialized (at_first L (Some v) None)) (headed WithInitial i t) e (value_made v) L t L
   wraps_replaced : {i : Expression} {t : Term} {e : Environment} {v : Data} {L : Life}
       → Wraps n (Replaced (at_first L (Some v) None)) (headed WithReplaced i t) e (value_made v) L t (with_first v L)
+  wraps_transformed : {f : Function} {t : Term} {e : Environment} {v : Data} {L : Life}
+      → Wraps n (Replaced (at_first L (Some v) None)) (transformed f t) e (value_made v) L t (with_first v L)
+  -- it keeps what it gives next: the newest value of the part, or before the first step the constant or its fault
+  wraps_followed : {i : Expression} {t : Term} {e : Environment} {m : Made} {L : Life} {ys : List Data} {last : Result Data ValueFault}
+      → Outputs n (closure t e) L ys
+      → newest_or (eval i (scope_around n.functions e)) ys ≡ worth_given last
+      → Wraps n (Followed last) (headed WithFollowed i t) e m L t L
+
+-- What two terms are as one that goes by a join: that join, or a pipeline of the two, which goes by `>>>`.
+pub data AreJoined : Join → (left right both : Term) → Type 0 where
+  as_join : {j : Join} {f g : Term} → AreJoined j f g (joined j f g)
+  as_pipeline : {f g : Term} → AreJoined InSequence f g (staged whole f g)
 
 -- a term with the names around it
 abbrev pub closed_over : PlanId → Env → SProcess
@@ -116,9 +135,9 @@ mutual
     is_empty : IsNames φ p SEmpty empty
     is_bound : {at : _} {q : PatternId} {v : Rc Value Global} {names : Env} {e : Environment}
         → IsNames φ p names e → IsNames φ p (Bound' at q v names) (bind (pattern_of (placed_at (plan_expressions p) q)) v.value e)
-    -- a process that has lived no step, beside what it began as, where processes may begin anew
+    -- a process that has lived no step, beside what it began as, where that is asked of its name
     is_running : {at : _} {k : NameId} {a : State} {b : PlanId} {inner names : Env} {P : Process} {e : Environment}
-        → Stands φ p a P [] → (IsTrue (plan_anew p) → IsProcess φ p (closed_over b inner) (base P)) → IsNames φ p names e → IsNames φ p (Running' at k a b inner names) (running (name_at (plan_expressions p) k) P e)
+        → Stands φ p a P [] → (IsTrue (plan_asks p (name_at (plan_expressions p) k)) → IsProcess φ p (closed_over b inner) (base P)) → IsNames φ p names e → IsNames φ p (Running' at k a b inner names) (running (name_at (plan_expressions p) k) P e)
     -- what is given for the parameters of a template
     is_called : {at : _} {g : TemplateId} {shape row : _} {e : Environment}
         → AreGiven φ p (names_of_parameters (plan_expressions p) (header_at p g).parameters) (items-the_row-Given _ row) empty e → IsNames φ p (Called' at g shape row) e
@@ -128,7 +147,7 @@ mutual
     nothing_given : {d : Environment} → AreGiven φ p [] [] d d
     value_is_given : {x : Name} {xs : List Name} {v : Data} {gs : List Given} {d e : Environment} → AreGiven φ p xs gs (known x v d) e → AreGiven φ p (x ∷ xs) (GValue v ∷ gs) d e
     process_is_given : {x : Name} {xs : List Name} {a : State} {b : PlanId} {inner : Env} {gs : List Given} {P : Process} {d e : Environment}
-        → Stands φ p a P [] → (IsTrue (plan_anew p) → IsProcess φ p (closed_over b inner) (base P)) → AreGiven φ p xs gs (running x P d) e → AreGiven φ p (x ∷ xs) (GProcess' a b inner ∷ gs) d e
+        → Stands φ p a P [] → (IsTrue (plan_asks p x) → IsProcess φ p (closed_over b inner) (base P)) → AreGiven φ p xs gs (running x P d) e → AreGiven φ p (x ∷ xs) (GProcess' a b inner ∷ gs) d e
 
   -- what can be run
   pub data IsProcess (φ : AnswersByName) (p : Plan) : SProcess → Process → Type 0 where
@@ -201,11 +220,12 @@ mutual
     lives_probe : {r : Rc (String Global) Global} {e : Environment} {m : Made} {L : Life}
         → Lives φ p (LProbe r) (primitive (probe (string_bytes r.value))) e m L
     -- each part on its own life
-    lives_join : {j : Join} {a b : State} {f g : Term} {e : Environment} {m : Made} {L : Life} {ys : List Data}
+    lives_join : {j : Join} {a b : State} {f g t : Term} {e : Environment} {m : Made} {L : Life} {ys : List Data}
+        → AreJoined j f g t
         → Outputs (network_of_plan φ p) (closure f e) (left_life j L) ys
         → Stands φ p a (closure f e) (left_life j L)
         → Stands φ p b (closure g e) (right_life j L ys)
-        → Lives φ p (LJoin j a b) (joined j f g) e m L
+        → Lives φ p (LJoin j a b) t e m L
     lives_pipeline : {shape row : _} {f g : Term} {e : Environment} {m : Made} {L : Life}
         → StagesStand φ p (items-the_row-State _ row) (staged rest f g) e L
         → Lives φ p (LPipeline' shape row) (staged whole f g) e m L
@@ -227,14 +247,14 @@ mutual
 pub data HasMentioned (φ : AnswersByName) (p : Plan) : Mentioned → Env → Environment → Type 0 where
   has_mentioned : {m : Mentioned} {names : Env} {d e : Environment} → IsNames φ p names d → ((x : Name) → IsTrue (is_mentioned m x) → AlikeAt x d e) → HasMentioned φ p m names e
 
--- what stands under a name for a process, beside what that began as, where processes may begin anew
-abbrev pub IsHanded : AnswersByName → Plan → Handed → Process → Type 0
-IsHanded φ p h P = Stands φ p h.process P [] × (IsTrue (plan_anew p) → IsProcess φ p h.base (base P))
+-- what stands under a name for a process, beside what that began as, where that is asked of the name
+abbrev pub IsHanded : AnswersByName → Plan → Name → Handed → Process → Type 0
+IsHanded φ p x h P = Stands φ p h.process P [] × (IsTrue (plan_asks p x) → IsProcess φ p h.base (base P))
 
 -- the process that was found under a name; where none was, inputs pass
-abbrev pub IsFound : AnswersByName → Plan → Option Handed → Process → Type 0
-IsFound φ p (Some h) P = IsHanded φ p h P
-IsFound φ p None P = P ≡ passing
+abbrev pub IsFound : AnswersByName → Plan → Name → Option Handed → Process → Type 0
+IsFound φ p x (Some h) P = IsHanded φ p x h P
+IsFound φ p x None P = P ≡ passing
 
 -- Each state stands for all that the one at its place stands for.
 pub data AllFollow (φ : AnswersByName) (p : Plan) : List State → List State → Type 0 where

@@ -8,7 +8,7 @@ ghost use Rattle.sf_expr.specs.Patterns.{pattern_of};
 ghost use Rattle.sf_value.specs.Values.{Name};
 ghost use Rattle.sf_mean.specs.Lives.{Environment, closure, Process as ProcessOf, empty, bind, running, process_of};
 ghost use Rattle.sf_law.specs.declared.plan.Plan.{Plan as PlanOf};
-ghost use Rattle.sf_law.specs.Arena.{plan_expressions, plan_anew, plan_tree, header_at};
+ghost use Rattle.sf_law.specs.Arena.{plan_expressions, plan_tree, header_at};
 ghost use Rattle.sf_law.specs.Places.{last_parameter, names_of_parameters};
 ghost use Rattle.sf_code.specs.Names.{ValuesByName, value_named};
 ghost use Rattle.sf_state.specs.declared.env.Env.{size-Env};
@@ -136,7 +136,7 @@ impl Running {
     fn over(&self, alloc: Global, fewer: Option<Env>) -> Result<Option<Env>, AllocError>
         ensures { IfOk result (λ names. (φ : AnswersByName) (p : PlanOf) (m l : MentionedOf) (e : Environment) (P : ProcessOf) →
             ((x : Name) → IsTrue (is_mentioned m x) → BindsOthers (named (name_at (plan_expressions p) self.now.name)) x → IsTrue (is_mentioned l x)) →
-            IsHanded φ p self.now.handed P → IfSome fewer (λ names. HasMentioned φ p l names e) → IfSome names (λ names. HasMentioned φ p m names (running (name_at (plan_expressions p) self.now.name) P e))) }
+            IsHanded φ p (name_at (plan_expressions p) self.now.name) self.now.handed P → IfSome fewer (λ names. HasMentioned φ p l names e) → IfSome names (λ names. HasMentioned φ p m names (running (name_at (plan_expressions p) self.now.name) P e))) }
     {
         let around = match fewer {
             Some(around) => around,
@@ -158,7 +158,7 @@ impl Running {
 impl Handed {
     // The same process, shared. The error is a want of memory, or too many owners.
     fn share(&self, alloc: Global) -> Result<Handed, AllocError>
-        ensures { IfOk result (λ same. (φ : AnswersByName) (p : PlanOf) (P : ProcessOf) → IsHanded φ p self.now P → IsHanded φ p same P) }
+        ensures { IfOk result (λ same. (φ : AnswersByName) (p : PlanOf) (x : Name) (P : ProcessOf) → IsHanded φ p x self.now P → IsHanded φ p x same P) }
     {
         let process = self.process.share(alloc)?;
         let base = self.base.share()?;
@@ -254,8 +254,8 @@ pub struct Running {
 pub struct Handed {
     /// The process, of which no step has been lived.
     pub process: State,
-    /// What it began as: itself, or where it was frozen what it was before it lived. In a plan in which no process begins
-    /// anew nothing asks for it, and it may be anything.
+    /// What it began as: itself, or where it was frozen what it was before it lived. Where the plan doesn't ask for it under
+    /// this name, it may be anything.
     pub base: Process,
 }
 
@@ -435,15 +435,15 @@ impl Env {
         Ok(Env::Bound(binding))
     }
 
-    /// These names, and inside them that of a process of which no step has been lived, beside what it began as, where a
-    /// process may begin anew. The error is a want of memory, or too many owners.
+    /// These names, and inside them that of a process of which no step has been lived, beside what it began as, where the plan
+    /// asks for that under this name. The error is a want of memory, or too many owners.
     pub fn with_process(
         &self,
         alloc: Global,
         name: NameId,
         handed: Handed,
     ) -> Result<Env, AllocError>
-        ensures { IfOk result (λ names. (φ : AnswersByName) (p : PlanOf) (e : Environment) (P : ProcessOf) → IsNames φ p self.now e → IsHanded φ p handed P →
+        ensures { IfOk result (λ names. (φ : AnswersByName) (p : PlanOf) (e : Environment) (P : ProcessOf) → IsNames φ p self.now e → IsHanded φ p (name_at (plan_expressions p) name) handed P →
             IsNames φ p names (running (name_at (plan_expressions p) name) P e)) }
     {
         let around = self.share()?;
@@ -479,7 +479,7 @@ impl Env {
     /// What a name stands for, if that is a process: of the same names the innermost counts. The names are those of the plan.
     pub fn running<'r>(&'r self, plan: &Plan, name: &str) -> Option<&'r Handed>
         ensures { (φ : AnswersByName) (e : Environment) → IsNames φ plan.now self.now e →
-            IsFound φ plan.now (option_map (λ r. r.now) result) (process_of name.now e) }
+            IsFound φ plan.now name.now (option_map (λ r. r.now) result) (process_of name.now e) }
     {
         match self {
             Env::Empty => None,

@@ -5,7 +5,7 @@ ghost use Rattle.sf_func.specs.Registries.{AnswersByName};
 ghost use Rattle.sf_law.specs.declared.plan.Plan.{Plan};
 ghost use Rattle.sf_expr.specs.Arena.{placed_at, name_at};
 ghost use Rattle.sf_expr.specs.Patterns.{pattern_of};
-ghost use Rattle.sf_law.specs.Arena.{plan_expressions, plan_tree, plan_anew};
+ghost use Rattle.sf_law.specs.Arena.{plan_expressions, plan_tree, plan_asks};
 ghost use Rattle.sf_mean.specs.Lives.{base, bind, closure, resumed, empty, running, frozen as frozen_process, Environment, Step, Life, Process as ProcessOf};
 ghost use Rattle.sf_mean.specs.Meaning.{body_of};
 ghost use Rattle.sf_state.specs.declared.env.Env.{Env as EnvOf};
@@ -17,7 +17,7 @@ use sf_expr::{NameId, PatternId};
 use sf_law::{Plan, PlanId};
 use sf_prim::PrimState;
 use sf_term::{Join, Observation, Switching};
-use sf_value::Value;
+use sf_value::{Value, ValueFault};
 use std::alloc::{AllocError, Global};
 use std::rc::Rc;
 
@@ -239,8 +239,10 @@ pub enum Wrap {
     Loop(Feedback),
     /// `-->`, with the value of its head before the first sample.
     Initialized(Option<Value>),
-    /// `>--`, with the value of its head before the first sample.
+    /// `>--`, with the value of its head before the first sample; `>=-`, with what its function made of the first input.
     Replaced(Option<Value>),
+    /// `fby`, with what its part gave at the sample before; before the first sample with the value of its head, or its fault.
+    Followed(Result<Value, ValueFault>),
 }
 
 impl Drop for Wrap {
@@ -251,6 +253,7 @@ impl Drop for Wrap {
             Wrap::Loop(feedback) => drop(feedback),
             Wrap::Initialized(first) => drop(first),
             Wrap::Replaced(first) => drop(first),
+            Wrap::Followed(last) => drop(last),
         }
     }
 }
@@ -497,7 +500,8 @@ impl Keeping {
 
     /// Its body before the first sample, inside its pattern for the payload of an event, and around that the name of what
     /// ran before the event, frozen to go on `wait` milliseconds later, which began as its first term, where these names are
-    /// around the switch; that it did is kept where a process may begin anew. The error is a want of memory, or too many owners.
+    /// around the switch; that it did is kept where the plan asks for it under that name. The error is a want of memory, or too
+    /// many owners.
     pub fn begin(
         &self,
         alloc: Global,
@@ -512,7 +516,7 @@ impl Keeping {
             (bind (pattern_of (placed_at (plan_expressions p) self.now.pattern)) payload.value (running (name_at (plan_expressions p) self.now.name) (frozen_process P L wait) e))) []) }
     {
         let frozen = self.before.freeze(alloc, wait)?;
-        let base = Process::where_asked(alloc, plan, self.first, names)?;
+        let base = Process::where_asked(alloc, plan, self.name, self.first, names)?;
         let handed = Handed {
             process: frozen,
             base,
@@ -648,6 +652,8 @@ impl Wrap {
             Wrap::Initialized(Some(value)) => Ok(Wrap::Initialized(Some(value.clone_in(alloc)?))),
             Wrap::Replaced(None) => Ok(Wrap::Replaced(None)),
             Wrap::Replaced(Some(value)) => Ok(Wrap::Replaced(Some(value.clone_in(alloc)?))),
+            Wrap::Followed(Ok(value)) => Ok(Wrap::Followed(Ok(value.clone_in(alloc)?))),
+            Wrap::Followed(Err(fault)) => Ok(Wrap::Followed(Err(*fault))),
         }
     }
 }
@@ -679,16 +685,17 @@ impl Process {
         Ok(Process { term, names })
     }
 
-    // The same where a process may begin anew; else the term without names.
+    // The same where the plan asks what a process of this name began as; else the term without names.
     fn where_asked(
         alloc: Global,
         plan: &Plan,
+        name: NameId,
         term: PlanId,
         names: &Env,
     ) -> Result<Process, AllocError>
-        ensures { IfOk result (λ process. IsTrue (plan_anew plan.now) → (φ : AnswersByName) (e : Environment) → IsNames φ plan.now names.now e → IsProcess φ plan.now process (closure (plan_tree plan.now term) e)) }
+        ensures { IfOk result (λ process. IsTrue (plan_asks plan.now (name_at (plan_expressions plan.now) name)) → (φ : AnswersByName) (e : Environment) → IsNames φ plan.now names.now e → IsProcess φ plan.now process (closure (plan_tree plan.now term) e)) }
     {
-        if plan.begins_anew() {
+        if plan.asks(name) {
             return Process::within(alloc, plan, term, names);
         }
         Ok(Process {

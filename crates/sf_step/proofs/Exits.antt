@@ -2,15 +2,19 @@
 use Rattle.std.proofs.Common.{◌≡◌, ℕ, ◌+◌, ◌≤◌, List, [], ◌∷◌, ◌++◌, Result, Ok, Err, sym, ap, ◌∙◌, subst, arith}
 use Rattle.sf_value.specs.Values.{Data}
 use Rattle.sf_value.specs.declared.fault.Fault.{Fault}
-use Rattle.sf_value.specs.declared.fault.Fault.TheVariants.{Memory}
+use Rattle.sf_probe.specs.declared.reading.Readings as declared
+use Rattle.sf_probe.specs.Readings.{readings_of}
+use Rattle.sf_value.specs.declared.fault.Fault.TheVariants.{Value, Memory}
+use Rattle.sf_value.specs.declared.fault.ValueFault.{ValueFault}
+use Rattle.sf_expr.specs.Evaluation.{Evaluated, answer, failed as no_answer}
 use Rattle.sf_term.specs.declared.form.Join.{Join}
 use Rattle.sf_law.specs.declared.node.PlanId.{PlanId}
 use Rattle.sf_func.specs.Registries.{AnswersByName}
 use Rattle.sf_law.specs.declared.plan.Plan.{Plan}
-use Rattle.sf_term.specs.Trees.{Term, joined}
+use Rattle.sf_term.specs.Trees.{Term}
 use Rattle.sf_law.specs.Arena.{plan_tree}
 use Rattle.sf_mean.specs.Lives.{Step, step, Life, Process, closure, Environment, first_input}
-use Rattle.sf_mean.specs.Meaning.{Network, Readings, Outcome, gave, Cost, count, height, both_costs, over, left_life, right_life, join_value, Gives, gives, Outputs, not_begun, and_gave, of_form, Form, of_join, goes_on}
+use Rattle.sf_mean.specs.Meaning.{Network, Readings, Outcome, gave, faulted, as_outcome, Cost, count, height, both_costs, over, left_life, right_life, join_value, Gives, gives, Outputs, not_begun, and_gave, of_form, Form}
 use Rattle.sf_law.specs.Arena.{network_of_plan}
 use Rattle.sf_prim.specs.declared.prim_state.PrimState.{PrimState}
 use Rattle.sf_state.specs.declared.state.State.{State}
@@ -30,7 +34,7 @@ use Rattle.sf_parts.specs.Answering.{Rel, Ticks, Ticked, ticked, refused, Spent,
 use Rattle.sf_parts.specs.Beginning.{Prepared, primitive_prepared, live_prepared, switch_prepared, keeping_prepared, BeginsAs, begins_itself}
 use Rattle.sf_parts.proofs.Costs.{memory_exit, counts, begin_stops}
 use Rattle.sf_step.specs.Sampling.{PartSteps, StateSteps, CountedSteps}
-use Rattle.sf_step.proofs.Parts.{counted, with_change, over_spent, both_spent, fails_alike, over_fails, change_fails, then_fails, rest_fails, spent_within, answered, failed}
+use Rattle.sf_step.proofs.Parts.{counted, then_on, with_change, over_spent, both_spent, fails_alike, over_fails, change_fails, then_fails, rest_fails, spent_within, answered, failed}
 use Rattle.sf_step.proofs.Forms.{left_and, right_and, single_gives, gave_outputs, form_alike, join_alike, wrap_alike, wraps_on}
 use Rattle.sf_step.specs.Routing.{left_input, right_input, part_input, wrap_value, kept_after}
 use Rattle.sf_step.specs.Stepping.{EachCostsAtLeast, Steps, stepped, faulted_so, too_large, no_memory}
@@ -71,8 +75,8 @@ module _ (φ : AnswersByName) (p : Plan) where
     pub join_left_fails : (f : Fault) → StateSteps φ p a (step d u) (Err f) n n' inside
         → (m : Meter) (depth : ℕ) → Ticks m n depth inside → (P : Process) (L : Life) → Ready φ p (LJoin j a b) P (first_input (step d x) L) L
         → StopsFor (Gives net P (step d x ∷ L)) f m n' depth
-    join_left_fails q hs m depth t P L (ready {m = made} h O (lives_join {f = f} {g = g} {e = e} {ys = ys} OL A B)) =
-        fails_alike (form_alike net (step d x) L h O) (fails_alike (join_alike net j f g e made (step d x) L ys OL)
+    join_left_fails q hs m depth t P L (ready {m = made} h O (lives_join {f = f} {g = g} {t = both} {e = e} {ys = ys} J OL A B)) =
+        fails_alike (form_alike net (step d x) L h O) (fails_alike (join_alike net e made (step d x) L ys J OL)
         (over_fails t (then_fails (subst (λ (K : Life). StopsFor (Gives net (closure f e) K) q n n' inside) (left_at L) (failed (hs _ _ A))))))
 
     module _ (a' : State) (y w : Data) (ew : w ≡ right_input j x y) (hs : StateSteps φ p a (step d u) (Ok (a', y)) n n' inside) where
@@ -82,16 +86,16 @@ module _ (φ : AnswersByName) (p : Plan) where
       pub join_right_fails : (n'' : Meter) (f : Fault) → StateSteps φ p b (step d w) (Err f) n' n'' inside
           → (m : Meter) (depth : ℕ) → Ticks m n depth inside → (P : Process) (L : Life) → Ready φ p (LJoin j a b) P (first_input (step d x) L) L
           → StopsFor (Gives net P (step d x ∷ L)) f m n'' depth
-      join_right_fails n'' q hs2 m depth t P L (ready {m = made} h O (lives_join {f = f} {g = g} {e = e} {ys = ys} OL A B)) =
+      join_right_fails n'' q hs2 m depth t P L (ready {m = made} h O (lives_join {f = f} {g = g} {t = both} {e = e} {ys = ys} J OL A B)) =
           let one = answered (hs _ _ A) in
           let G = subst (λ (K : Life). Gives net (closure f e) K (gave y one.r) one.k) (left_at L) one.given in
           let H = subst (λ (K : Life). StopsFor (Gives net (closure g e) K) q n' n'' inside) (right_at L ys) (failed (hs2 _ _ B)) in
-          fails_alike (form_alike net (step d x) L h O) (fails_alike (join_alike net j f g e made (step d x) L ys OL)
+          fails_alike (form_alike net (step d x) L h O) (fails_alike (join_alike net e made (step d x) L ys J OL)
           (over_fails t (rest_fails (λ z. Gives net (closure g e) (right_life j (step d x ∷ L) (z ∷ ys))) (single_gives net _ _) G one.spent H)))
 
       pub join_steps : (n'' : Meter) (b' : State) (z v : Data) → v ≡ join_value j y z → StateSteps φ p b (step d w) (Ok (b', z)) n' n'' inside
           → LiveSteps φ p (LJoin j a b) (step d x) (Ok (LJoin j a' b', v)) n n'' inside
-      join_steps n'' b' z v ev hs2 m depth t P L (ready {m = made} h O (lives_join {f = f} {g = g} {e = e} {ys = ys} OL A B)) =
+      join_steps n'' b' z v ev hs2 m depth t P L (ready {m = made} h O (lives_join {f = f} {g = g} {t = both} {e = e} {ys = ys} J OL A B)) =
           let one = answered (hs _ _ A) in
           let G = subst (λ (K : Life). Gives net (closure f e) K (gave y one.r) one.k) (left_at L) one.given in
           let OL' = subst (λ (K : Life). Outputs net (closure f e) K (y ∷ ys)) (left_at L) (gave_outputs net OL one.given) in
@@ -99,9 +103,9 @@ module _ (φ : AnswersByName) (p : Plan) where
           let two = answered (hs2 _ _ B) in
           let H = subst (λ (K : Life). Gives net (closure g e) K (gave z two.r) two.k) (right_at L ys) two.given in
           let B' = subst (λ (K : Life). Stands φ p b' (closure g e) K) (right_at L ys) two.holds in
-          let F : Form net (joined j f g) e made (step d x) L (gave (join_value j y z) (one.r ++ two.r)) (over (both_costs one.k two.k)) = of_join OL G (goes_on H) in
-          let F' = subst (λ (v : Data). Form net (joined j f g) e made (step d x) L (gave v (one.r ++ two.r)) (over (both_costs one.k two.k))) (sym ev) F in
-          answers (gives O (of_form h F')) (over_spent t (both_spent one.spent two.spent)) (settles (ready h (and_gave O (of_form h F')) (lives_join OL' A' B')))
+          let F = (join_alike net e made (step d x) L ys J OL).to _ _ (counted (then_on G H)) in
+          let F' = subst (λ (v : Data). Form net both e made (step d x) L (gave v (one.r ++ two.r)) (over (both_costs one.k two.k))) (sym ev) F in
+          answers (gives O (of_form h F')) (over_spent t (both_spent one.spent two.spent)) (settles (ready h (and_gave O (of_form h F')) (lives_join J OL' A' B')))
 
       -- the second part's result is the join's
       pub join_last : {A E : Type 0} (n'' : Meter) (b' : State) (z v : Data) (r : Result A E) (f : Fault) → v ≡ join_value j y z → StateSteps φ p b (step d w) (left_or r (b', z) f) n' n'' inside
@@ -122,18 +126,30 @@ module _ (φ : AnswersByName) (p : Plan) where
         fails_alike (form_alike net (step d x) L h O) (fails_alike (wrap_alike net d x W)
         (over_fails t (change_fails (subst (λ (K : Life). StopsFor (Gives net (closure v e) K) q n n' inside) (part_at K) (failed (hs _ _ A))))))
 
-    pub wrap_steps : (a' : State) (w' : Wrap) (y v : Data) → w' ≡ kept_after w y → v ≡ wrap_value w x y → StateSteps φ p a (step d u) (Ok (a', y)) n n' inside
+    pub wrap_steps : (a' : State) (w' : Wrap) (y v : Data) → w' ≡ kept_after w y → answer v ≡ wrap_value w x y → StateSteps φ p a (step d u) (Ok (a', y)) n n' inside
         → LiveSteps φ p (LWrap w a) (step d x) (Ok (LWrap w' a', v)) n n' inside
     wrap_steps a' w' y v ew ev hs m depth t P L (ready {m = made} h O (lives_wrap {t = form} {u = part} {e = e} {K = K} W A)) =
         let one = answered (hs _ _ A) in
         let G = subst (λ (K : Life). Gives net (closure part e) K (gave y one.r) one.k) (part_at K) one.given in
         let A' = subst (λ (K : Life). Stands φ p a' (closure part e) K) (part_at K) one.holds in
-        let F = (wrap_alike net d x W).to (gave (wrap_value w x y) one.r) (over one.k) (counted (with_change G)) in
-        let F' = subst (λ (v : Data). Form net form e made (step d x) L (gave v one.r) (over one.k)) (sym ev) F in
+        let F = (wrap_alike net d x W).to (as_outcome (wrap_value w x y) one.r) (over one.k) (counted (with_change G)) in
+        let F' = subst (λ (z : Evaluated Data). Form net form e made (step d x) L (as_outcome z one.r) (over one.k)) (sym ev) F in
         answers (gives O (of_form h F')) (over_spent t one.spent) (settles (ready h (and_gave O (of_form h F')) (lives_wrap (rw ew (wraps_on net d x W G)) A')))
 
+    -- a fault comes after the part's value
+    pub wrap_faults : (a' : State) (y : Data) (z : ValueFault) → no_answer z ≡ wrap_value w x y → StateSteps φ p a (step d u) (Ok (a', y)) n n' inside
+        → {n'' : Meter} {f : Fault} → entered_of n'' ≡ entered_of n' → height_of n'' ≡ height_of n' → f ≡ Value z → LiveSteps φ p (LWrap w a) (step d x) (Err f) n n'' inside
+    wrap_faults a' y z ez hs {n''} {f} en hn ef m depth t P L (ready {m = made} h O (lives_wrap {t = form} {u = part} {e = e} {K = K} W A)) =
+        let one = answered (hs _ _ A) in
+        let G = subst (λ (K : Life). Gives net (closure part e) K (gave y one.r) one.k) (part_at K) one.given in
+        let F = (wrap_alike net d x W).to (as_outcome (wrap_value w x y) one.r) (over one.k) (counted (with_change G)) in
+        let F' = subst (λ (z : Evaluated Data). Form net form e made (step d x) L (as_outcome z one.r) (over one.k)) (sym ez) F in
+        let H : Gives net (closure form e) (step d x ∷ L) (faulted z) (over one.k) = gives O (of_form h F') in
+        fails (subst (λ (f : Fault). StopsFor (Gives net (closure form e) (step d x ∷ L)) f m n'' depth) (sym ef)
+        (faults H ((spent_within (single_gives net (closure form e) (step d x ∷ L)) H (over_spent t one.spent) en hn).most _ _ H)))
+
     -- the part's result is the form's
-    pub wrap_last : {A E : Type 0} (a' : State) (w' : Wrap) (y v : Data) (r : Result A E) (f : Fault) → w' ≡ kept_after w y → v ≡ wrap_value w x y → StateSteps φ p a (step d u) (left_or r (a', y) f) n n' inside
+    pub wrap_last : {A E : Type 0} (a' : State) (w' : Wrap) (y v : Data) (r : Result A E) (f : Fault) → w' ≡ kept_after w y → answer v ≡ wrap_value w x y → StateSteps φ p a (step d u) (left_or r (a', y) f) n n' inside
         → LiveSteps φ p (LWrap w a) (step d x) (left_or r (LWrap w' a', v) f) n n' inside
     wrap_last a' w' y v (Ok u) f ew ev hs = wrap_steps a' w' y v ew ev hs
     wrap_last a' w' y v (Err e) f ew ev hs = λ m depth t P L R. fails (wrap_fails f hs m depth t P L R)
@@ -161,7 +177,7 @@ module _ (φ : AnswersByName) (p : Plan) where
 
   pub live_counted : {A E : Type 0} {at : _} (at' : _) {n n' : Meter} {inside : ℕ} (names : Env) (l l' : Live) (s : Step) (v : Data) (r : Result A E) (f : Fault) → LiveSteps φ p l s (left_or r (l', v) f) n n' inside
       → CountedSteps φ p (Alive' names at l) s (left_or r (Alive' names at' l', v) f) n n' inside
-  live_counted at' names l l' s v r f h m depth t P L (live_prepared N R) = held at' names l' v r f N (h m depth t P L (R s))
+  live_counted at' names l l' s v r f h m depth t P L (live_prepared N R) = held at' names l' v r f N (h m depth t P L R)
 
   -- the node that is stepped stands for all that the shared one stands for
   pub own_steps : (l own : Live) (s : Step) (r : Result (Live × Data) Fault) {n n' : Meter} {inside : ℕ} → ((P : Process) (x : Data) (L : Life) → Ready φ p l P x L → Ready φ p own P x L) → LiveSteps φ p own s r n n' inside → LiveSteps φ p l s r n n' inside
@@ -169,27 +185,27 @@ module _ (φ : AnswersByName) (p : Plan) where
 
   -- all that a state stands for itself, it is prepared for
   abbrev pub IsPrepared : State → Type 0
-  IsPrepared a = (P : Process) (L : Life) → StandsItself φ p a P L → Prepared φ p a P L
+  IsPrepared a = (P : Process) (s : Step) (L : Life) → StandsItself φ p a P L → Prepared φ p a P (first_input s L) L
 
   pub primitive_is : (i : PrimState) → IsPrepared (SPrimitive i)
-  primitive_is i P L (recalling R) = primitive_prepared R
+  primitive_is i P s L (recalling R) = primitive_prepared R
 
   pub live_is : {at : _} (names : Env) (l : Live) → IsPrepared (Alive' names at l)
-  live_is names l P L (alive N (settles R)) = live_prepared N (λ s. R)
+  live_is names l P s L (alive N (settles R)) = live_prepared N R
 
   pub switch_is : {at : _} (names : Env) (k : Switch) → IsPrepared (Watching' names at k.form k.running k.pattern k.body)
-  switch_is names k P L (watching N W) = switch_prepared N W
+  switch_is names k P s L (watching N W) = switch_prepared N W
 
   pub keeping_is : {at : _} (names : Env) (k : Keeping) → IsPrepared (Keeping' names at k.shown k.first k.source k.before k.observer k.name k.pattern k.body)
-  keeping_is names k P L (keeping_on N W) = keeping_prepared N W
+  keeping_is names k P s L (keeping_on N W) = keeping_prepared N W
 
   -- such a state counts, and steps
   pub counted_steps : (a : State) (s : Step) (r : Result (State × Data) Fault) {m n n' : Meter} {depth inside : ℕ} → Ticks m n depth inside → IsPrepared a → CountedSteps φ p a s r n n' inside → StateSteps φ p a s r m n' depth
-  counted_steps a s r {m = m} {n' = n'} {depth = depth} t f h = lift_steps φ p a s r m n' depth (λ P L A. h m depth t P L (f P L A))
+  counted_steps a s r {m = m} {n' = n'} {depth = depth} t f h = lift_steps φ p a s r m n' depth (λ P L A. h m depth t P L (f P s L A))
 
   -- ## The first sample
 
-  begun_prepared : {a : State} {t : Term} {e : Environment} → BeginsAs φ p t e a (Ok begun.Itself) → Prepared φ p a (closure t e) []
+  begun_prepared : {a : State} {t : Term} {e : Environment} {x : Data} → BeginsAs φ p t e x a (Ok begun.Itself) → Prepared φ p a (closure t e) x []
   begun_prepared (begins_itself A) = A
 
   module _ {m n : Meter} {depth inside : ℕ} (term : PlanId) (names : Env) (d : ℕ) (x : Data) (t : Ticks m n depth inside) where
@@ -203,16 +219,16 @@ module _ (φ : AnswersByName) (p : Plan) where
         go P L (unborn (is_closure {e = e} A N)) = took_answers φ p (was_alike A not_begun) (h e N)
 
     -- it counts, and steps as what it has become
-    pub begun_steps : {n' : Meter} (a : State) (r : Result (State × Data) Fault) → ((e : Environment) → IsNames φ p names e → BeginsAs φ p (plan_tree p term) e a (Ok begun.Itself)) → CountedSteps φ p a (step d x) r n n' inside
+    pub begun_steps : {n' : Meter} (a : State) (r : Result (State × Data) Fault) → ((e : Environment) → IsNames φ p names e → BeginsAs φ p (plan_tree p term) e x a (Ok begun.Itself)) → CountedSteps φ p a (step d x) r n n' inside
         → StateSteps φ p (Unborn (SClosure term names)) (step d x) r m n' depth
     begun_steps a r ho hs = starts r (λ e N. hs m depth t _ [] (begun_prepared (ho e N)))
 
-    pub begun_runs : {n' : Meter} (a : State) (r : Result (State × Data) Fault) → ((e : Environment) → IsNames φ p names e → BeginsAs φ p (plan_tree p term) e a (Ok begun.Referred)) → StateSteps φ p a (step d x) r n n' inside
+    pub begun_runs : {n' : Meter} (a : State) (r : Result (State × Data) Fault) → ((e : Environment) → IsNames φ p names e → BeginsAs φ p (plan_tree p term) e x a (Ok begun.Referred)) → StateSteps φ p a (step d x) r n n' inside
         → StateSteps φ p (Unborn (SClosure term names)) (step d x) r m n' depth
     begun_runs a r ho hs = starts r (λ e N. referred_begins φ p t (ho e N) hs)
 
     module _ {n' : Meter} (en : entered_of n' ≡ entered_of n) (hn : height_of n' ≡ height_of n) where
-      pub begun_fails : (a : State) (f g : Fault) → g ≡ f → ((e : Environment) → IsNames φ p names e → BeginsAs φ p (plan_tree p term) e a (Err f)) → StateSteps φ p (Unborn (SClosure term names)) (step d x) (Err g) m n' depth
+      pub begun_fails : (a : State) (f g : Fault) → g ≡ f → ((e : Environment) → IsNames φ p names e → BeginsAs φ p (plan_tree p term) e x a (Err f)) → StateSteps φ p (Unborn (SClosure term names)) (step d x) (Err g) m n' depth
       begun_fails a f g eg ho = starts (Err g) (λ e N. fails (subst (λ (g : Fault). StopsFor (Gives net (closure (plan_tree p term) e) (step d x ∷ [])) g m n' depth) (sym eg) (begin_stops φ p t en hn _ (ho e N))))
 
   -- ## A sample
@@ -220,12 +236,14 @@ module _ (φ : AnswersByName) (p : Plan) where
   all_recorded : {m n : Meter} {k : Cost} {r : Readings} → readings m ≡ [] → Spent m n 0 k r → r ≡ readings n
   all_recorded {r = r} h s = sym (s.recorded ∙ ap (λ l. l ++ r) h)
 
-  pub sample_steps : {m n : Meter} (a a' : State) (s : Step) (v : Data) → entered_of m ≡ 0 → height_of m ≡ 0 → readings m ≡ [] → StateSteps φ p a s (Ok (a', v)) m n 0
-      → (P : Process) (L : Life) → Stands φ p a P L → Steps φ p P (s ∷ L) (Ok v) a' n
-  sample_steps a a' s v em hm rm hs P L A =
+  -- a value, with what the meter had recorded
+  pub sample_steps : {m n n' : Meter} (a a' : State) (s : Step) (v : Data) (q : declared.Readings) → entered_of m ≡ 0 → height_of m ≡ 0 → readings m ≡ [] → StateSteps φ p a s (Ok (a', v)) m n 0
+      → readings_of q ≡ readings n → entered_of n' ≡ entered_of n → height_of n' ≡ height_of n
+      → (P : Process) (L : Life) → Stands φ p a P L → Steps φ p P (s ∷ L) (Ok (v, q)) a' n'
+  sample_steps {n' = n'} a a' s v q em hm rm hs taken en hn P L A =
       let w = answered (hs P L A) in
-      let G = subst (λ (r : Readings). Gives net P (s ∷ L) (gave v r) w.k) (all_recorded rm w.spent) w.given in
-      stepped G (let c = w.spent.entered in omega arith) (let c = w.spent.high in omega arith) w.holds
+      let G = subst (λ (r : Readings). Gives net P (s ∷ L) (gave v r) w.k) (all_recorded rm w.spent ∙ sym taken) w.given in
+      stepped {m = n'} G (let c = w.spent.entered in omega arith) (let c = w.spent.high in omega arith) w.holds
 
   each_costs : {m n : Meter} {P : Process} {L : Life} → entered_of m ≡ 0 → height_of m ≡ 0 → Within (Gives net P L) m n 0 → EachCostsAtLeast φ p P L n
   each_costs em hm w = record { few = λ o k G. let a = (w.most o k G).entered in omega arith; low = λ o k G. let a = (w.most o k G).high in omega arith }

@@ -4,7 +4,8 @@ use Rattle.std.specs.Prelude.{IsErr}
 use Rattle.sf_value.specs.Values.{Data}
 use Rattle.sf_value.specs.declared.fault.ValueFault.{ValueFault}
 use Rattle.sf_value.specs.declared.fault.Fault.{Fault}
-use Rattle.sf_mean.specs.Meaning.{Readings, Outcome, gave, faulted, changed, combined, value_in, Cost, count, height, both_costs, over}
+use Rattle.sf_expr.specs.Evaluation.{Evaluated}
+use Rattle.sf_mean.specs.Meaning.{Readings, Outcome, gave, faulted, answered_by, combined, value_in, Cost, count, height, both_costs, over}
 use Rattle.sf_parts.specs.declared.meter.Meter.{Meter}
 use Rattle.sf_parts.specs.Meters.{entered_of, height_of, readings}
 use Rattle.sf_parts.specs.Answering.{Rel, Ticks, Spent, AtMost, Within, StopsFor, faults, large, memory, Answers, answers, fails, left_or}
@@ -22,9 +23,9 @@ pub data Then (R : Rel) (f : Data → Data → Data) (stop : Cost) (S : Data →
   then_on : {y : Data} {r : Readings} {o : Outcome} {k l : Cost} → R (gave y r) k → S y o l → Then R f stop S (combined f (gave y r) o) (both_costs k l)
   then_stop : {x : ValueFault} {k : Cost} → R (faulted x) k → Then R f stop S (faulted x) (both_costs k stop)
 
--- a part, with a value made of its value
-pub data Changed (f : Data → Data) (R : Rel) : Outcome → Cost → Type 0 where
-  with_change : {o : Outcome} {k : Cost} → R o k → Changed f R (changed f o) k
+-- a part, with what is made of its value: another one, or a fault
+pub data Changed (f : Data → Evaluated Data) (R : Rel) : Outcome → Cost → Type 0 where
+  with_change : {o : Outcome} {k : Cost} → R o k → Changed f R (answered_by (f (value_in o)) o) k
 
 -- the two relations have the same outcomes
 pub record Alike (R S : Rel) : Type 0 where
@@ -67,7 +68,7 @@ over_within {R = R} {m = m} {n' = n'} {depth = depth} t w = record { most = go }
     go : (o : Outcome) (k : Cost) → Over R o k → AtMost m n' depth k
     go o k (counted G) = over_most t (w.most _ _ G)
 
-change_within : {R : Rel} {g : Data → Data} {m n : Meter} {depth : ℕ} → Within R m n depth → Within (Changed g R) m n depth
+change_within : {R : Rel} {g : Data → Evaluated Data} {m n : Meter} {depth : ℕ} → Within R m n depth → Within (Changed g R) m n depth
 change_within {R = R} {g = g} {m = m} {n = n} {depth = depth} w = record { most = go }
   where
     go : (o : Outcome) (k : Cost) → Changed g R o k → AtMost m n depth k
@@ -97,7 +98,7 @@ over_fails {R} {f} {m} {n} {n'} {depth} {inside} t (large h w) = large go (over_
 over_fails t (memory w) = memory (over_within t w)
 
 -- a part fails, and there is no value to change
-pub change_fails : {R : Rel} {g : Data → Data} {f : Fault} {m n : Meter} {depth : ℕ} → StopsFor R f m n depth → StopsFor (Changed g R) f m n depth
+pub change_fails : {R : Rel} {g : Data → Evaluated Data} {f : Fault} {m n : Meter} {depth : ℕ} → StopsFor R f m n depth → StopsFor (Changed g R) f m n depth
 change_fails (faults G s) = faults (with_change G) s
 change_fails {R} {g} {f} {m} {n} {depth} (large h w) = large go (change_within w)
   where

@@ -134,7 +134,7 @@ module _ (φ : AnswersByName) (p : Plan) where
     referred_steps t (answers G sp A) = let H = referred_to (counted G) in answers H (over_spent t sp) (took_over (ran is (gave_outputs net not_begun H)) A)
     referred_steps {s = s} t (fails h) = fails (fails_alike (referred_alike s) (over_fails t h))
 
-  pub referred_begins : {u : Term} {e : Environment} {a : State} {s : Step} {r : Result (State × Data) Fault} {m n n' : Meter} {depth inside : ℕ} → Ticks m n depth inside → BeginsAs φ p u e a (Ok begun.Referred) → StateSteps φ p a s r n n' inside
+  pub referred_begins : {u : Term} {e : Environment} {a : State} {s : Step} {r : Result (State × Data) Fault} {m n n' : Meter} {depth inside : ℕ} {x : Data} → Ticks m n depth inside → BeginsAs φ p u e x a (Ok begun.Referred) → StateSteps φ p a s r n n' inside
       → PartSteps φ p (closure u e) [] s r m n' depth
   referred_begins {e = e} {s = s} {r = r} {m = m} {n' = n'} {depth = depth} t (begins_referred same is A) h =
       subst (λ u. PartSteps φ p (closure u e) [] s r m n' depth) (sym same) (referred_steps is t (h _ _ A))
@@ -169,11 +169,11 @@ module _ (φ : AnswersByName) (p : Plan) where
       waits_at : {t : Term} {e : Environment} {L : Life} → IsNames φ p names e → W k (closure t e) L → WaitsAt names k (closure t e) L
 
     -- the node that is stepped waits for all that the shared one waits for
-    module _ (names : Env) (k own : A) (follows : (P : Process) (L : Life) → W k P L → W own P L) (a : State) (s : Step) (n n' : Meter) (inside : ℕ) (sees : (P : Process) (L : Life) → Prepared φ p a P L → WaitsAt names k P L) where
+    module _ (names : Env) (k own : A) (follows : (P : Process) (L : Life) → W k P L → W own P L) (a : State) (s : Step) (n n' : Meter) (inside : ℕ) (sees : (P : Process) (x : Data) (L : Life) → Prepared φ p a P x L → WaitsAt names k P L) where
       -- a state steps as the switch does
       as_waiting : (r : Result (State × Data) Fault)
           → ((m : Meter) (depth : ℕ) → Ticks m n depth inside → (t : Term) (e : Environment) (L : Life) → IsNames φ p names e → W own (closure t e) L → PartSteps φ p (closure t e) L s r m n' depth) → CountedSteps φ p a s r n n' inside
-      as_waiting r h m depth t P L R = by_names (sees P L R)
+      as_waiting r h m depth t P L R = by_names (sees P _ L R)
         where
           by_names : {P : Process} {L : Life} → WaitsAt names k P L → PartSteps φ p P L s r m n' depth
           by_names (waits_at N S) = h m depth t _ _ _ N (follows _ _ S)
@@ -195,11 +195,11 @@ module _ (φ : AnswersByName) (p : Plan) where
   is_keeping : {at : _} (names : Env) (k : Keeping) → IsWaiting (WaitsKeeping φ p) names k (Keeping' names at k.shown k.first k.source k.before k.observer k.name k.pattern k.body)
   is_keeping names k t e s L N S = keeping_on N S
 
-  seen_watching : {at : _} (names : Env) (k : Switch) (P : Process) (L : Life) → Prepared φ p (Watching' names at k.form k.running k.pattern k.body) P L → WaitsAt (Waits φ p) names k P L
-  seen_watching names k P L (switch_prepared N S) = waits_at N S
+  seen_watching : {at : _} (names : Env) (k : Switch) (P : Process) (x : Data) (L : Life) → Prepared φ p (Watching' names at k.form k.running k.pattern k.body) P x L → WaitsAt (Waits φ p) names k P L
+  seen_watching names k P x L (switch_prepared N S) = waits_at N S
 
-  seen_keeping : {at : _} (names : Env) (k : Keeping) (P : Process) (L : Life) → Prepared φ p (Keeping' names at k.shown k.first k.source k.before k.observer k.name k.pattern k.body) P L → WaitsAt (WaitsKeeping φ p) names k P L
-  seen_keeping names k P L (keeping_prepared N S) = waits_at N S
+  seen_keeping : {at : _} (names : Env) (k : Keeping) (P : Process) (x : Data) (L : Life) → Prepared φ p (Keeping' names at k.shown k.first k.source k.before k.observer k.name k.pattern k.body) P x L → WaitsAt (WaitsKeeping φ p) names k P L
+  seen_keeping names k P x L (keeping_prepared N S) = waits_at N S
 
   module _ (at : _) (names : Env) (k own : Switch) (follows : (P : Process) (L : Life) → Waits φ p k P L → Waits φ p own P L) (s : Step) (n n' : Meter) (inside : ℕ) where
     watching_goes : (o : Option State) (b : State) (k' : Switch) (v : Data) → o ≡ Some b → WaitingSteps φ p (Waits φ p) names own s (Ok ((o, k'), v)) n n' inside → CountedSteps φ p (Watching' names at k.form k.running k.pattern k.body) s (Ok (b, v)) n n' inside

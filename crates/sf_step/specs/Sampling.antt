@@ -4,7 +4,7 @@ use Rattle.sf_value.specs.Values.{Data}
 use Rattle.sf_value.specs.declared.fault.Fault.{Fault}
 use Rattle.sf_func.specs.Registries.{AnswersByName}
 use Rattle.sf_term.specs.Trees.{Term}
-use Rattle.sf_mean.specs.Lives.{Step, Life, Process, closure, Environment}
+use Rattle.sf_mean.specs.Lives.{Step, Life, Process, closure, Environment, first_input}
 use Rattle.sf_mean.specs.Meaning.{Gives}
 use Rattle.sf_law.specs.declared.plan.Plan.{Plan}
 use Rattle.sf_law.specs.Arena.{network_of_plan}
@@ -55,4 +55,4 @@ KeepingSteps φ p = WaitingSteps φ p (WaitsKeeping φ p)
 -- a state that counted between m and n steps to the outcome of its process on the longer life, where its parts stand inside so
 -- many nodes
 abbrev pub CountedSteps : AnswersByName → Plan → State → Step → Result (State × Data) Fault → Meter → Meter → ℕ → Type 0
-CountedSteps φ p a s result n n' inside = (m : Meter) (depth : ℕ) → Ticks m n depth inside → (P : Process) (L : Life) → Prepared φ p a P L → PartSteps φ p P L s result m n' depth
+CountedSteps φ p a s result n n' inside = (m : Meter) (depth : ℕ) → Ticks m n depth inside → (P : Process) (L : Life) → Prepared φ p a P (first_input s L) L → PartSteps φ p P L s result m n' depth

@@ -13,24 +13,24 @@ use sf_func::Holds;
 use sf_law::Plan;
 use sf_parts::{
     Begun, Meter, SampleContext, Stop, begin, beside, copies, hold_back, payload_of, put_first,
-    show, step_prim, step_probe, take_over, value_and_payload,
+    put_last, show, step_prim, step_probe, take_over, value_and_payload,
 };
+use sf_probe::Readings;
 use sf_state::{
     Env, Feedback, Keeping, Live, State, Switch, Wrap, unshare, unshare_keeping, unshare_switch,
 };
 use sf_term::{Join, Observation, Switching};
-use sf_value::{Fault, Value};
+use sf_value::{Fault, Value, ValueFault};
 use std::alloc::Global;
 use std::mem;
 use std::rc::Rc;
 
-/// The value at the next sample of a network, `dt` milliseconds after the one before; at the first
-/// sample `dt` isn't looked at. The input may be any value: what takes a pair apart takes a value
-/// that is none for both its parts. The meter counts the nodes that this sample enters, and has what its
-/// probes recorded, and nothing of the samples before. The error is the first fault of the network's values, `Large` at the 1,000,001st
-/// node or at more than 1,600 one inside another, or `Memory`; the meter then counts no more nodes than
-/// the sample would have entered. After an error the state stands for nothing. No state that was
-/// frozen from it changes.
+/// The value at the next sample of a network, `dt` milliseconds after the one before, with what its probes recorded, in order;
+/// at the first sample `dt` isn't looked at. The input may be any value: what takes a pair apart takes a value that is none
+/// for both its parts. The meter counts the nodes that this sample enters, and nothing of the samples before. The error is the
+/// first fault of the network's values, `Large` at the 1,000,001st node or at more than 1,600 one inside another, or `Memory`;
+/// the meter then counts no more nodes than the sample would have entered. After an error the state stands for nothing. No
+/// state that was frozen from it changes.
 pub fn step<R: Holds>(
     alloc: Global,
     state: &mut State,
@@ -39,7 +39,7 @@ pub fn step<R: Holds>(
     dt: u64,
     input: Value,
     meter: &mut Meter,
-) -> Result<Value, Fault>
+) -> Result<(Value, Readings), Fault>
     // a state of (P, L) steps to the outcome of P on the longer life
     ensures answers { (P : ProcessOf) (L : Life) → Stands (R.answers functions.now) plan.now state.old P L →
         Steps (R.answers functions.now) plan.now P (step dt input ∷ L) result state.new meter.new }
@@ -54,7 +54,7 @@ pub fn step<R: Holds>(
     };
     let mut value = input;
     match step_state(&context, state, 0, &mut value, meter) {
-        Ok(()) => Ok(value),
+        Ok(()) => Ok((value, meter.take_readings(alloc))),
         Err(Stop) => Err(meter.fault()),
     }
 }
@@ -113,7 +113,7 @@ fn step_other<R: Holds>(
             let term = process.term;
             let names = mem::replace(&mut process.names, Env::Empty);
             let inside = meter.tick(depth)?;
-            match begin(context, state, term, names) {
+            match begin(context, state, term, names, value) {
                 Ok(Begun::Itself) => step_counted(context, state, inside, value, meter),
                 Ok(Begun::Referred) => step_state(context, state, inside, value, meter),
                 Err(fault) => Err(meter.stop(fault)),
@@ -435,6 +435,7 @@ fn step_live<R: Holds>(
                 context, first, part, inside, value, meter,
             ),
             Wrap::Replaced(first) => step_replaced(context, first, part, inside, value, meter),
+            Wrap::Followed(last) => step_followed(context, last, part, inside, value, meter),
         },
     }
 }
@@ -639,4 +640,25 @@ fn step_replaced<R: Holds>(
 {
     put_first(initial, value);
     step_state(context, part, inside, value, meter)
+}
+
+// The next sample of a part whose values show a sample late, and at first a constant, which comes after the part; likewise.
+#[cycle(step)]
+#[inline(never)]
+fn step_followed<R: Holds>(
+    context: &SampleContext<R>,
+    last: &mut Result<Value, ValueFault>,
+    part: &mut State,
+    inside: u64,
+    value: &mut Value,
+    meter: &mut Meter,
+) -> Result<(), Stop>
+    ensures { LiveSteps (R.answers context.now.functions.now) (plan_in context.now) (Live.Wrap (Wrap.Followed last.old) part.old) (step (dt_in context.now) value.old)
+        (left_or result (Live.Wrap (Wrap.Followed last.new) part.new, value.new) (fault_in meter.new)) meter.old meter.new inside }
+{
+    step_state(context, part, inside, value, meter)?;
+    match put_last(last, value) {
+        Ok(()) => Ok(()),
+        Err(fault) => Err(meter.stop(Fault::Value(fault))),
+    }
 }

@@ -19,7 +19,7 @@ use Rattle.sf_expr.specs.declared.exprs.ExprNode.{ExprNode}
 use Rattle.sf_refusal.specs.declared.spot.Spot.{Spot}
 use Rattle.sf_expr.specs.Expressions.{Literal, Expression}
 use Rattle.sf_expr.specs.Patterns.{PlacedPattern, pattern_of}
-use Rattle.sf_expr.specs.Arena.{expression, name_at, count_of, function_count, name_count, constant_count, pattern_count, placed_at, Keeps as KeepsExpressions, Adds, AddsName, AddsConstant, AddsPattern, AddsFunction, IsUnchanged}
+use Rattle.sf_expr.specs.Arena.{expression, function_at, name_at, count_of, function_count, name_count, constant_count, pattern_count, placed_at, Keeps as KeepsExpressions, Adds, AddsName, AddsConstant, AddsPattern, AddsFunction, IsUnchanged}
 use Rattle.sf_expr.proofs.Entered.{below_holds, below_function, below_name, below_constant, below_pattern, unchanged_keeps, keeps_trans}
 use Rattle.sf_term.specs.declared.node.Primitive.TheVariants as primitives
 use Rattle.sf_term.specs.declared.node.Node.{Node}
@@ -27,7 +27,7 @@ use Rattle.sf_term.specs.declared.node.Node.TheVariants as nodes
 use Rattle.sf_term.specs.declared.node.Argument.{Argument}
 use Rattle.sf_term.specs.declared.node.Argument.TheVariants as arguments
 use Rattle.sf_term.specs.declared.node.ArgumentsId.{ArgumentsId}
-use Rattle.sf_term.specs.Trees.{Term, primitive, reference, call, value_argument, process_argument, joined, sided, headed, never, switching, keeping, with_value, timed, arrow, accumulated, named_term, term_depth}
+use Rattle.sf_term.specs.Trees.{Term, primitive, reference, call, value_argument, process_argument, joined, sided, headed, transformed, never, switching, keeping, with_value, timed, arrow, accumulated, named_term, term_depth}
 use Rattle.sf_term.specs.Entries.{TermBase, arguments_listed, arguments_over, terms_end, expressions_end, identity_term, term_among, term_over, absent_payload, needs_terms, needs_expressions, needs_functions, constants_needed, patterns_needed, names_needed, arguments_needed, identity_entry, term_entry, term_made, terms_made, term_entered, AreTerms}
 
 -- a node's term depends on its parts alone
@@ -55,6 +55,7 @@ local b ts more entry h = at_node entry.node h
     at_node (nodes.Joined j a c) h = ap₂ (λ s t. joined j s t) (part a.0 (omega arith)) (part c.0 (omega arith))
     at_node (nodes.Sided d a) h = ap (λ t. sided d t) (part a.0 h)
     at_node (nodes.Headed k e a) h = ap (λ t. headed k (expression b.expressions e) t) (part a.0 h)
+    at_node (nodes.Transformed f a) h = ap (λ t. transformed (function_at b.expressions f) t) (part a.0 h)
     at_node (nodes.Switching w a p c) h = ap₂ (λ s t. switching w s (pattern_of (placed_at b.expressions p)) t) (part a.0 (omega arith)) (part c.0 (omega arith))
     at_node (nodes.Keeping w a o k s p c) h = rw (part a.0 (omega arith), part o.0 (omega arith), part c.0 (omega arith)) refl
 
@@ -169,6 +170,7 @@ term-same b c entries i k m a =
     at_node ts (nodes.Joined j d e) h g q m l v = refl
     at_node ts (nodes.Sided d a) h g q m l v = refl
     at_node ts (nodes.Headed w e a) h g q m l v = ap (λ v. headed w v (term_among ts a.0)) (k.trees e (below_holds b.expressions e (omega arith)))
+    at_node ts (nodes.Transformed f a) h g q m l v = ap (λ v. transformed v (term_among ts a.0)) (k.meanings f (below_function b.expressions f (omega arith)))
     at_node ts (nodes.Switching w d p e) h g q m l v = ap (λ v. switching w (term_among ts d.0) (pattern_of v) (term_among ts e.0)) (k.placed p (below_pattern b.expressions p (omega arith)))
     at_node ts (nodes.Keeping w d o n s p e) h g q m l v = ap₂ (λ u v. keeping w (term_among ts d.0) (term_among ts o.0) u (pattern_of v) (term_among ts e.0)) (k.names n (below_name b.expressions n (omega arith))) (k.placed p (below_pattern b.expressions p (omega arith)))
 
@@ -186,6 +188,7 @@ needs-same b c (nodes.Call k a) m h = let e = listed-same b c a m (omega arith) 
 needs-same b c (nodes.Joined j a d) m h = (refl, refl)
 needs-same b c (nodes.Sided d a) m h = (refl, refl)
 needs-same b c (nodes.Headed q e a) m h = (refl, refl)
+needs-same b c (nodes.Transformed f a) m h = (refl, refl)
 needs-same b c (nodes.Switching w a q d) m h = (refl, refl)
 needs-same b c (nodes.Keeping w a o k s q d) m h = (refl, refl)
 

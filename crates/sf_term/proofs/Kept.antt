@@ -73,6 +73,7 @@ parts_needed p (nodes.Call k a) h =
 parts_needed p (nodes.Joined j a b) h = record { terms = omega arith; expressions = omega arith; functions = omega arith; patterns = omega arith; names = omega arith; constants = omega arith; arguments = omega arith }
 parts_needed p (nodes.Sided d a) h = record { terms = omega arith; expressions = omega arith; functions = omega arith; patterns = omega arith; names = omega arith; constants = omega arith; arguments = omega arith }
 parts_needed p (nodes.Headed q e a) h = record { terms = omega arith; expressions = omega (arith, holds_below p.expressions e h.0); functions = omega arith; patterns = omega arith; names = omega arith; constants = omega arith; arguments = omega arith }
+parts_needed p (nodes.Transformed f a) h = record { terms = omega arith; expressions = omega arith; functions = omega (arith, function_below p.expressions f h.0); patterns = omega arith; names = omega arith; constants = omega arith; arguments = omega arith }
 parts_needed p (nodes.Switching w a q b) h = record { terms = omega (arith, h.0, h.2); expressions = omega arith; functions = omega arith; patterns = omega (arith, pattern_below p.expressions q h.1); names = omega arith; constants = omega arith; arguments = omega arith }
 parts_needed p (nodes.Keeping w a o k s q b) h = record {
   terms = omega (arith, h.0, h.1, h.4);
@@ -111,6 +112,7 @@ node-made p (nodes.Call k a) = ap (λ vs. reference (call (name_at p.expressions
 node-made p (nodes.Joined j a b) = refl
 node-made p (nodes.Sided d a) = refl
 node-made p (nodes.Headed h e a) = refl
+node-made p (nodes.Transformed f a) = refl
 node-made p (nodes.Switching w a q b) = refl
 node-made p (nodes.Keeping w a o k s q b) = refl
 
@@ -142,6 +144,7 @@ parts_below p t = of_node (term_entry (entries_of p.terms) t.0).node (p.arena.in
     of_node (nodes.Joined j a b) h = (omega arith, omega arith)
     of_node (nodes.Sided d a) h = omega arith
     of_node (nodes.Headed q e a) h = omega arith
+    of_node (nodes.Transformed f a) h = omega arith
     of_node (nodes.Switching w a q b) h = (omega arith, omega arith)
     of_node (nodes.Keeping w a o k s q b) h = (omega arith, omega arith, omega arith)
 
@@ -492,6 +495,7 @@ parts_held p t = of_node (term_entry (entries_of p.terms) t.0).node needed
     of_node (nodes.Joined j a c) h = (omega (arith, h.terms), omega (arith, h.terms))
     of_node (nodes.Sided d a) h = omega (arith, h.terms)
     of_node (nodes.Headed q e a) h = (below_holds p.expressions e (omega (arith, h.expressions)), omega (arith, h.terms))
+    of_node (nodes.Transformed f a) h = (below_function p.expressions f (omega (arith, h.functions)), omega (arith, h.terms))
     of_node (nodes.Switching w a q c) h = (omega (arith, h.terms), below_pattern p.expressions q (omega (arith, h.patterns)), omega (arith, h.terms))
     of_node (nodes.Keeping k a o n s q c) h = (omega (arith, h.terms), omega (arith, h.terms), below_name p.expressions n (omega (arith, h.names)), below_pattern p.expressions q (omega (arith, h.patterns)), omega (arith, h.terms))
 

@@ -19,7 +19,7 @@ use Rattle.sf_term.specs.declared.node.Primitive.TheVariants as primitives
 use Rattle.sf_term.specs.declared.node.Node.{Node}
 use Rattle.sf_term.specs.declared.node.Node.TheVariants as nodes
 use Rattle.sf_term.specs.declared.program.Program.{Program}
-use Rattle.sf_term.specs.Trees.{Term, primitive, reference, call, Arguments, no_arguments, value_argument, process_argument, joined, sided, headed, switching, keeping, bare, never, with_value, timed, selected, arrow, accumulated, named_term, term_depth, Template, Templates}
+use Rattle.sf_term.specs.Trees.{Term, primitive, reference, call, Arguments, no_arguments, value_argument, process_argument, joined, sided, headed, transformed, switching, keeping, bare, never, with_value, timed, selected, arrow, accumulated, named_term, term_depth, Template, Templates}
 use Rattle.sf_term.specs.Parameters.{parameters_of}
 use Rattle.sf_term.specs.Headers.{Header}
 use Rattle.sf_term.specs.Entries.{TermBase, absent_payload, term_entry, term_entered}
@@ -132,6 +132,7 @@ term_of p (nodes.Call k a) = reference (call (name_at (expressions_of p) k) (arg
 term_of p (nodes.Joined j a b) = joined j (tree p a) (tree p b)
 term_of p (nodes.Sided d a) = sided d (tree p a)
 term_of p (nodes.Headed h e a) = headed h (expression_under p e) (tree p a)
+term_of p (nodes.Transformed f a) = transformed (function_in p f) (tree p a)
 term_of p (nodes.Switching w a q b) = switching w (tree p a) (pattern_of (pattern_under p q)) (tree p b)
 term_of p (nodes.Keeping w a o k s q b) = keeping w (tree p a) (tree p o) (name_at (expressions_of p) k) (pattern_of (pattern_under p q)) (tree p b)
 
@@ -172,6 +173,7 @@ TermPartsBelow p (nodes.Call k a) n = All (ArgumentBelow n) (arguments_under p a
 TermPartsBelow p (nodes.Joined j a b) n = (term_number a < n) × (term_number b < n)
 TermPartsBelow p (nodes.Sided d a) n = term_number a < n
 TermPartsBelow p (nodes.Headed h e a) n = term_number a < n
+TermPartsBelow p (nodes.Transformed f a) n = term_number a < n
 TermPartsBelow p (nodes.Switching w a q b) n = (term_number a < n) × (term_number b < n)
 TermPartsBelow p (nodes.Keeping w a o k s q b) n = (term_number a < n) × (term_number o < n) × (term_number b < n)
 
@@ -194,6 +196,7 @@ HoldsTermParts p (nodes.Call k a) = HoldsName (expressions_of p) k × HoldsArgum
 HoldsTermParts p (nodes.Joined j a b) = HoldsTerm p a × HoldsTerm p b
 HoldsTermParts p (nodes.Sided d a) = HoldsTerm p a
 HoldsTermParts p (nodes.Headed h e a) = HoldsExpression p e × HoldsTerm p a
+HoldsTermParts p (nodes.Transformed f a) = ProgramHoldsFunction p f × HoldsTerm p a
 HoldsTermParts p (nodes.Switching w a q b) = HoldsTerm p a × HoldsPatternIn p q × HoldsTerm p b
 HoldsTermParts p (nodes.Keeping w a o k s q b) = HoldsTerm p a × HoldsTerm p o × HoldsName (expressions_of p) k × HoldsPatternIn p q × HoldsTerm p b
 

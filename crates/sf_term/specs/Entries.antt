@@ -14,7 +14,7 @@ use Rattle.sf_term.specs.declared.node.Argument.{Argument}
 use Rattle.sf_term.specs.declared.node.Argument.TheVariants as arguments
 use Rattle.sf_term.specs.declared.node.Node.{Node}
 use Rattle.sf_term.specs.declared.node.Node.TheVariants as nodes
-use Rattle.sf_term.specs.Trees.{Term, primitive, reference, call, Arguments, no_arguments, value_argument, process_argument, joined, sided, headed, switching, keeping, bare, never, with_value, timed, selected, arrow, accumulated, named_term, term_depth}
+use Rattle.sf_term.specs.Trees.{Term, primitive, reference, call, Arguments, no_arguments, value_argument, process_argument, joined, sided, headed, transformed, switching, keeping, bare, never, with_value, timed, selected, arrow, accumulated, named_term, term_depth}
 
 -- What terms are made over beside terms: expressions, and the arguments of calls.
 pub record TermBase : Type 0 where
@@ -61,6 +61,7 @@ term_over b ts (nodes.Call k c) = reference (call (name_at b.expressions k) (arg
 term_over b ts (nodes.Joined j c d) = joined j (term_among ts c.0) (term_among ts d.0)
 term_over b ts (nodes.Sided d a) = sided d (term_among ts a.0)
 term_over b ts (nodes.Headed h e a) = headed h (expression b.expressions e) (term_among ts a.0)
+term_over b ts (nodes.Transformed f a) = transformed (function_at b.expressions f) (term_among ts a.0)
 term_over b ts (nodes.Switching w c p d) = switching w (term_among ts c.0) (pattern_of (placed_at b.expressions p)) (term_among ts d.0)
 term_over b ts (nodes.Keeping w c o k s p d) = keeping w (term_among ts c.0) (term_among ts o.0) (name_at b.expressions k) (pattern_of (placed_at b.expressions p)) (term_among ts d.0)
 
@@ -84,6 +85,7 @@ needs_terms b (nodes.Call k a) = terms_end (arguments_listed b a)
 needs_terms b (nodes.Joined j a c) = suc (max a.0 c.0)
 needs_terms b (nodes.Sided d a) = suc a.0
 needs_terms b (nodes.Headed h e a) = suc a.0
+needs_terms b (nodes.Transformed f a) = suc a.0
 needs_terms b (nodes.Switching w a p c) = suc (max a.0 c.0)
 needs_terms b (nodes.Keeping w a o k s p c) = suc (max (max a.0 o.0) c.0)
 
@@ -101,6 +103,7 @@ needs_expressions b (nodes.Call k a) = expressions_end (arguments_listed b a)
 needs_expressions b (nodes.Joined j a c) = 0
 needs_expressions b (nodes.Sided d a) = 0
 needs_expressions b (nodes.Headed h e a) = suc (id_number e)
+needs_expressions b (nodes.Transformed f a) = 0
 needs_expressions b (nodes.Switching w a p c) = 0
 needs_expressions b (nodes.Keeping w a o k s p c) = 0
 
@@ -118,6 +121,7 @@ needs_functions (nodes.Call k a) = 0
 needs_functions (nodes.Joined j a b) = 0
 needs_functions (nodes.Sided d a) = 0
 needs_functions (nodes.Headed h e a) = 0
+needs_functions (nodes.Transformed f a) = suc f.0
 needs_functions (nodes.Switching w a p b) = 0
 needs_functions (nodes.Keeping w a o k s p b) = 0
 
@@ -129,6 +133,7 @@ patterns_needed (nodes.Call k a) = 0
 patterns_needed (nodes.Joined j a b) = 0
 patterns_needed (nodes.Sided d a) = 0
 patterns_needed (nodes.Headed h e a) = 0
+patterns_needed (nodes.Transformed f a) = 0
 patterns_needed (nodes.Switching w a p b) = suc p.0
 patterns_needed (nodes.Keeping w a o k s p b) = suc p.0
 
@@ -140,6 +145,7 @@ names_needed (nodes.Call k a) = suc k.0
 names_needed (nodes.Joined j a b) = 0
 names_needed (nodes.Sided d a) = 0
 names_needed (nodes.Headed h e a) = 0
+names_needed (nodes.Transformed f a) = 0
 names_needed (nodes.Switching w a p b) = 0
 names_needed (nodes.Keeping w a o k s p b) = suc k.0
 
@@ -157,6 +163,7 @@ constants_needed (nodes.Call k a) = 0
 constants_needed (nodes.Joined j a b) = 0
 constants_needed (nodes.Sided d a) = 0
 constants_needed (nodes.Headed h e a) = 0
+constants_needed (nodes.Transformed f a) = 0
 constants_needed (nodes.Switching w a p b) = 0
 constants_needed (nodes.Keeping w a o k s p b) = 0
 
@@ -168,6 +175,7 @@ arguments_needed (nodes.Call k a) = suc a.0
 arguments_needed (nodes.Joined j a b) = 0
 arguments_needed (nodes.Sided d a) = 0
 arguments_needed (nodes.Headed h e a) = 0
+arguments_needed (nodes.Transformed f a) = 0
 arguments_needed (nodes.Switching w a p b) = 0
 arguments_needed (nodes.Keeping w a o k s p b) = 0
 

@@ -45,7 +45,7 @@ pub data Extent : Type 0 where
 
 mutual
   -- terms: primitives, a process in whose place a name stands, two terms joined, a term on one side of a pair, a term with an
-  -- expression at its head, a term that gives way to another inside a pattern, and one that does so at the event of a second
+  -- expression or a function at its head, a term that gives way to another inside a pattern, and one that does so at the event of a second
   -- term and is then known by a name;
   -- and, in plans alone, a stage before the rest of its pipeline
   pub data Term : Type 0 where
@@ -54,6 +54,7 @@ mutual
     joined : Join → Term → Term → Term
     sided : Side → Term → Term
     headed : Heading → Expression → Term → Term
+    transformed : Function → Term → Term
     switching : Switching → Term → Pattern → Term → Term
     keeping : Observation → (source observer : Term) → Name → Pattern → Term → Term
     staged : Extent → Term → Term → Term
@@ -113,6 +114,7 @@ abbrev mutual
   term_depth (joined j f g) = suc (max (term_depth f) (term_depth g))
   term_depth (sided d t) = suc (term_depth t)
   term_depth (headed h e t) = suc (max (expression_depth e) (term_depth t))
+  term_depth (transformed f t) = suc (max (function_depth f) (term_depth t))
   term_depth (switching w t p u) = suc (max (max (term_depth t) (term_depth u)) (pattern_depth p))
   term_depth (keeping w t q k p u) = suc (max (max (max (term_depth t) (term_depth q)) (term_depth u)) (pattern_depth p))
   term_depth (staged x f g) = 65
@@ -161,6 +163,7 @@ abbrev mutual
   terms_in (joined j f g) = suc (terms_in f + terms_in g)
   terms_in (sided d t) = suc (terms_in t)
   terms_in (headed h e t) = suc (terms_in t)
+  terms_in (transformed f t) = suc (terms_in t)
   terms_in (switching w t p u) = suc (terms_in t + terms_in u)
   terms_in (keeping w t q k p u) = suc (terms_in t + terms_in q + terms_in u)
   terms_in (staged x f g) = suc (terms_in f + terms_in g)
@@ -197,6 +200,7 @@ abbrev mutual
   expressions_in (joined j f g) = expressions_in f + expressions_in g
   expressions_in (sided d t) = expressions_in t
   expressions_in (headed h e t) = expression_size e + expressions_in t
+  expressions_in (transformed f t) = function_size f + expressions_in t
   expressions_in (switching w t p u) = expressions_in t + expressions_in u
   expressions_in (keeping w t q k p u) = expressions_in t + expressions_in q + expressions_in u
   expressions_in (staged x f g) = expressions_in f + expressions_in g

@@ -143,4 +143,6 @@ pub enum Heading {
     Initialized,
     /// `>--(e, t)`: the values of `t`, with that of `e` in the place of its first input.
     Replaced,
+    /// `fby(e, t)`: the value of `e` at the first sample, then what `t` gave at the sample before.
+    Followed,
 }

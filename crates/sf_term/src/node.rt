@@ -69,6 +69,8 @@ pub enum Node {
     Sided(Side, TermId),
     /// A term with an expression at its head.
     Headed(Heading, ExprId, TermId),
+    /// `>=-(f, t)`: the values of a term, with what a function makes of its first input in the place of that input.
+    Transformed(FunctionId, TermId),
     /// A term, and the body that it gives way to, inside a pattern.
     Switching(Switching, TermId, PatternId, TermId),
     /// `kSwitch(t, q, k, p => u)`, delayed `dkSwitch`: at the first event that `q` sees in the inputs and values of `t`, `u`

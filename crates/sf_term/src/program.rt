@@ -123,6 +123,10 @@ impl Program {
             Node::Headed(_, value, part) => {
                 1 + self.expressions.depth(value).max(self.depth(part))
             }
+            Node::Transformed(function, part) => {
+                let depth = self.expressions.function_depth(function);
+                1 + depth.max(self.depth(part))
+            }
             Node::Switching(_, source, pattern, body) => {
                 let terms = self.depth(source).max(self.depth(body));
                 1 + terms.max(self.expressions.pattern_depth(pattern))

@@ -12,6 +12,13 @@ use std::test::Fail;
 const DIVISION: &[u8] =
     b"network 1;\ntemplate main(): Int ~> Int = ((identity >>> arr x => (1 div x)) >>> identity);\n";
 
+/// A constant with a fault, behind its part.
+const FOLLOWED: &[u8] = b"network 1;\ntemplate main(): Int ~> Int = fby((1 div 0), identity);\n";
+
+/// A function with a fault at the first input 0, before its part.
+const TRANSFORMED: &[u8] =
+    b"network 1;\ntemplate main(): Int ~> Int = >=-(x => (1 div x), identity);\n";
+
 /// Its switch fires at each first sample, and its body calls it again. Each turn enters five nodes, the call of the next one
 /// among them, and stands inside two nodes more.
 const ENDLESS: &[u8] =
@@ -33,6 +40,8 @@ fn a_meter_shows_what_was_entered_before_a_fault(rt: HostRuntime) -> Result<(), 
     let alloc = rt.alloc();
     let division = Fault::Value(ValueFault::DivideByZero);
     assert_eq!(rt; counted(alloc, DIVISION)?, (Some(division), 4, 3));
+    assert_eq!(rt; counted(alloc, FOLLOWED)?, (Some(division), 2, 2));
+    assert_eq!(rt; counted(alloc, TRANSFORMED)?, (Some(division), 1, 1));
     // 799 whole turns, and two nodes of the last one
     assert_eq!(rt;
         counted(alloc, ENDLESS)?,

@@ -51,7 +51,7 @@ fn given(
     functions: &Registry,
 ) -> Result<Value, Fault> {
     let mut meter = Meter::new(alloc);
-    step(
+    let (value, _) = step(
         alloc,
         state,
         plan,
@@ -59,7 +59,8 @@ fn given(
         1000,
         Value::int(5),
         &mut meter,
-    )
+    )?;
+    Ok(value)
 }
 
 /// What a network gives at its second sample, and again where it goes on from the first, at which it was shared.

@@ -3,7 +3,7 @@ use Rattle.std.proofs.Common.{◌≡◌, ℕ, suc, false, ◌+◌, ◌<◌, ◌�
 use Rattle.sf_value.specs.Values.{Name, Kind}
 use Rattle.sf_expr.specs.declared.exprs.ExprId.{ExprId}
 use Rattle.sf_expr.specs.declared.exprs.FunctionId.{FunctionId}
-use Rattle.sf_expr.specs.Expressions.{Pattern, Expression, depth as expression_depth, size}
+use Rattle.sf_expr.specs.Expressions.{Pattern, Expression, depth as expression_depth, size, Function, function_size}
 use Rattle.sf_term.specs.declared.form.Bare.{Bare}
 use Rattle.sf_term.specs.declared.form.WithValue.{WithValue}
 use Rattle.sf_term.specs.declared.form.WithValue.TheVariants as values
@@ -22,7 +22,7 @@ use Rattle.sf_term.specs.declared.node.Argument.{Argument}
 use Rattle.sf_term.specs.declared.program.Program.{Program}
 use Rattle.sf_term.specs.declared.refusal.BuildRefusal.{BuildRefusal}
 use Rattle.sf_term.specs.declared.refusal.BuildRefusal.TheVariants as refusals
-use Rattle.sf_term.specs.Trees.{terms_with_value, Term, primitive, bare, never, with_value, timed, selected, arrow, accumulated, named_term, joined, sided, switching, keeping, reference, call, no_arguments, term_depth, terms_in, expressions_in}
+use Rattle.sf_term.specs.Trees.{terms_with_value, Term, primitive, bare, never, with_value, timed, selected, arrow, accumulated, named_term, joined, sided, transformed, switching, keeping, reference, call, no_arguments, term_depth, terms_in, expressions_in}
 use Rattle.sf_term.specs.Names.{HasNames}
 use Rattle.sf_term.specs.Parameters.{NameKind}
 use Rattle.sf_term.specs.Arena.{tree, arguments_of, term_of, term_node_at, expression_under as expression_in, function_in, term_count, expression_count, KeepsProgram, AddsTerm}
@@ -34,7 +34,7 @@ use Rattle.sf_grammar.specs.declared.ty.Version.{Version}
 use Rattle.sf_grammar.specs.declared.ty.Version.TheVariants as versions
 use Rattle.sf_parse.specs.declared.stop.Stop.{Stop}
 use Rattle.sf_grammar.specs.Spelling.{stands_initially, head_makes}
-use Rattle.sf_grammar.specs.Reading.{parse_number, parse_never, parse_timed, parse_selected, Read, got, Counts, counts_with, counts_with_expression, parse_symbol, parse_inner_type, parse_pattern, parse_expression, parse_function, parse_value, parse_arrow, parse_accumulated, parse_sided, parse_headed, parse_body, parse_switching, parse_name, parse_named, parse_keeping, parse_listed, parse_arguments, parse_call, parse_name_kind, parse_parameter, term_read, parse_join, parse_joined, parse_term}
+use Rattle.sf_grammar.specs.Reading.{parse_number, parse_never, parse_timed, parse_selected, Read, got, Counts, counts_with, counts_with_expression, counts_with_function, parse_symbol, parse_inner_type, parse_pattern, parse_expression, parse_function, parse_value, parse_arrow, parse_accumulated, parse_sided, parse_headed, parse_transformed, parse_body, parse_switching, parse_name, parse_named, parse_keeping, parse_listed, parse_arguments, parse_call, parse_name_kind, parse_parameter, term_read, parse_join, parse_joined, parse_term}
 use Rattle.sf_parse.specs.Answers.{StopsReading, FoundExpression, FoundFunction, counts_of, stop_for, built_as}
 use Rattle.sf_text.specs.Answers.{FoundTerm, ReadsTermInto, FoundBody, FoundArguments}
 use Rattle.sf_grammar.proofs.Words.{IsLone, named_alone}
@@ -221,6 +221,29 @@ headed_ready v {old} {one} {two} {start} {r0} {r1} {r2} {r3} {rest} {e} {a} h d 
       shallow = omega (arith, small, made.shallow took_f.shallow took_g.shallow);
       terms = omega (arith, f.terms, g.terms, made.terms);
       expressions = omega (arith, f.expressions, g.expressions, made.expressions);
+    }
+
+behind_function : (old mid : Program) (h : Function) → term_count mid ≡ term_count old → expression_count mid ≡ expression_count old + function_size h → counts_of mid ≡ counts_with_function (counts_of old) h
+behind_function old mid h terms expressions = rw (terms, expressions) refl
+
+-- a term with a function at its head
+pub transformed_ready : (v : Version) {old one two : Program} {start r0 r1 r2 r3 rest : List Tok} {g : FunctionId} {a : TermId} (d : ℕ) (tokens : List Tok) → d ≤ 63 → parse_symbol symbols.Open tokens ≡ got tt r0
+    → FoundFunction old one g r1 (parse_function d v (counts_of old) r0) → parse_symbol symbols.Comma r1 ≡ got tt r2 → FoundTerm one two a r3 (parse_term d v (counts_of one) r2) → parse_symbol symbols.Close r3 ≡ got tt rest
+    → Ready old two (transformed (function_in two g) (tree two a)) start rest (parse_transformed d v (parse_term d v) (counts_of old) start tokens)
+unfolding parse_transformed
+transformed_ready v {old} {one} {two} {start} {r0} {r1} {r2} {r3} {rest} {g} {a} d tokens small opening h comma f closing =
+    let second : parse_term d v (counts_with_function (counts_of old) h.function) r2 ≡ got f.term r3 =
+    subst (λ (c : Counts). parse_term d v c r2 ≡ got f.term r3) (behind_function old one h.function h.terms h.expressions) f.is in
+    let first_same : function_in two g ≡ h.function = f.kept.trees.meanings g h.held ∙ h.meaning in
+    let took_h : TookFunction v d (counts_of old) r0 h.function r1 = function_takes v d (counts_of old) r0 h.function r1 h.is in
+    let took_f = term_taken v one two a r3 r2 d f in
+    record {
+      term = transformed h.function f.term;
+      is = rw (opening, h.is, comma, second, closing) refl;
+      same = rw (first_same, f.tree) refl;
+      shallow = omega (arith, took_h.shallow, took_f.shallow);
+      terms = omega (arith, h.terms, f.terms);
+      expressions = omega (arith, h.expressions, f.expressions);
     }
 
 -- the body of a switch

@@ -51,7 +51,7 @@ use Rattle.sf_grammar.specs.Reading.{got, parse_inner_type, parse_parameter, par
 use Rattle.sf_parse.specs.Answers.{toks}
 use Rattle.sf_grammar.proofs.Takes.{TookType, inner_type_takes, parameter_takes, TookSignature, signature_takes}
 use Rattle.sf_lex.specs.declared.token.PlacedToken.{PlacedToken}
-use Rattle.sf_grammar.specs.Placing.{around, PatternPlaced, ExpressionPlaced, FunctionPlaced, TermStands, TermPlaced, bare_placed, never_placed, with_value_placed, initialized_placed, timed_placed, selected_placed, arrow_placed, accumulated_placed, joined_placed, sided_placed, headed_placed, switching_placed, named_placed, keeping_placed, call_placed, ArgumentsPlaced, no_arguments_placed, some_arguments_placed, EachArgumentPlaced, no_argument_placed, argument_placed, ArgumentPlaced, value_argument_placed, process_argument_placed, ParameterPlaced, EachParameterPlaced, ParametersPlaced, no_parameters_placed, some_parameters_placed, TemplatePlaced, TemplatesPlaced, none_placed, template_placed, NetworkPlaced, IsPlacedIn}
+use Rattle.sf_grammar.specs.Placing.{around, PatternPlaced, ExpressionPlaced, FunctionPlaced, TermStands, TermPlaced, bare_placed, never_placed, with_value_placed, initialized_placed, timed_placed, selected_placed, arrow_placed, accumulated_placed, joined_placed, sided_placed, headed_placed, transformed_placed, switching_placed, named_placed, keeping_placed, call_placed, ArgumentsPlaced, no_arguments_placed, some_arguments_placed, EachArgumentPlaced, no_argument_placed, argument_placed, ArgumentPlaced, value_argument_placed, process_argument_placed, ParameterPlaced, EachParameterPlaced, ParametersPlaced, no_parameters_placed, some_parameters_placed, TemplatePlaced, TemplatesPlaced, none_placed, template_placed, NetworkPlaced, IsPlacedIn}
 use Rattle.sf_text.specs.Progress.{IsSpelled}
 use Rattle.sf_text.proofs.Whole.{toks_same}
 use Rattle.sf_parse.specs.Consuming.{places, BehindOne, BehindSome, NamePlaced, Consumes, Parted}
@@ -84,6 +84,8 @@ mutual
   term_keeps v old new k id xs (sided_placed s part) = sided_placed (term_stays old new k _ _ _ s) (term_keeps v old new k _ _ part)
   term_keeps v old new k id xs (headed_placed opening comma closing s value part) =
       headed_placed opening comma closing (term_stays old new k _ _ _ s) (expression_keeps v old new k _ _ value) (term_keeps v old new k _ _ part)
+  term_keeps v old new k id xs (transformed_placed opening comma closing s function part) =
+      transformed_placed opening comma closing (term_stays old new k _ _ _ s) (function_keeps v old new k _ _ function) (term_keeps v old new k _ _ part)
   term_keeps v old new k id xs (switching_placed opening comma leads closing s source pattern body) =
       switching_placed opening comma leads closing (term_stays old new k _ _ _ s) (term_keeps v old new k _ _ source) (pattern_stays old new k _ _ pattern) (term_keeps v old new k _ _ body)
   term_keeps v old new k id xs (named_placed s) = named_placed (term_stays old new k _ _ _ s)
@@ -199,6 +201,7 @@ bare_places is (accumulated_placed opening comma closing s value function) = abs
 bare_places is (joined_placed between closing s one two) = absurd (let e = sym s.node ∙ is in cc)
 bare_places is (sided_placed s part) = absurd (let e = sym s.node ∙ is in cc)
 bare_places is (headed_placed opening comma closing s value part) = absurd (let e = sym s.node ∙ is in cc)
+bare_places is (transformed_placed opening comma closing s function part) = absurd (let e = sym s.node ∙ is in cc)
 bare_places is (switching_placed opening comma leads closing s source pattern body) = absurd (let e = sym s.node ∙ is in cc)
 bare_places is (named_placed s) = absurd (let e = sym s.node ∙ is in cc)
 bare_places is (keeping_placed opening comma second third leads closing s source observer pattern body) = absurd (let e = sym s.node ∙ is in cc)
@@ -219,6 +222,13 @@ pub headed_read : {v : Version} {one two new : Program} {id a : TermId} (h : Hea
 headed_read {v} {one} {two} {new} {id} {a} h {e} {n} {t} {spot} k is added opening value between part closing =
     behind_opening opening (in_brackets_read value between part closing (λ comma closing xs ys p q.
     headed_placed_so opening.at comma closing (subst (HeadedNode h e a (term_node_at two a)) (sym is) (node_view h e a (term_node_at two a))) refl added (expression_keeps v two new added.kept.trees e xs (expression_keeps v one two k e xs p)) q))
+
+-- a function and a term in brackets
+pub transformed_read : {v : Version} {one two new : Program} {id a : TermId} {f : FunctionId} {t : Term} {spot : Spot} {r r0 r1 r2 r3 rest : List Spot} → KeepsTrees one two → AddsTerm two new id (nodes.Transformed f a) t spot
+    → BehindOne r r0 → Consumes (FunctionPlaced v one f) r0 r1 → BehindOne r1 r2 → Consumes (TermPlaced v two a) r2 r3 → BehindOne r3 rest → Consumes (TermPlaced v new id) (spot ∷ r) rest
+transformed_read {v} {one} {two} {new} {id} {a} {f} {t} {spot} k added opening function between part closing =
+    behind_opening opening (in_brackets_read function between part closing (λ comma closing xs ys p q.
+    transformed_placed opening.at comma closing (term_stands two new id _ t spot added) (function_keeps v two new added.kept.trees f xs (function_keeps v one two k f xs p)) (term_keeps v two new added.kept.trees a ys q)))
 
 -- a term, a pattern and another term in brackets
 pub switching_read : {v : Version} {one two new : Program} {id a b : TermId} {w : Switching} {p : PlacedPattern} {q : PatternId} {t : Term} {spot : Spot} {r r0 r1 r2 r3 rest : List Spot} → KeepsTrees one two → AddsTerm two new id (nodes.Switching w a q b) t spot

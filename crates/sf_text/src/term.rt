@@ -7,7 +7,7 @@ ghost use Rattle.sf_text.specs.Answers.{ReadsTerm, ReadsTermForm, ReadsBody, Rea
 ghost use Rattle.sf_grammar.specs.Placing.{PatternPlaced, TermPlaced, ArgumentPlaced, EachArgumentPlaced, ArgumentsPlaced};
 ghost use Rattle.sf_parse.specs.Consuming.{spots_ahead, BehindOne, StandsOn, StandsFrom, Parted};
 ghost use Rattle.sf_text.specs.Consuming.{headed_node, HasValueSo};
-ghost use Rattle.sf_grammar.specs.Reading.{begins_term, begins_fresh, head_at, too_deep, term_read, parse_never, parse_value, parse_timed, parse_selected, parse_arrow, parse_accumulated, parse_sided, parse_headed, parse_body, parse_switching, parse_named, parse_keeping, parse_argument, parse_arguments, parse_listed, parse_call, parse_join, parse_joined, parse_form, parse_behind_head, parse_term};
+ghost use Rattle.sf_grammar.specs.Reading.{begins_term, begins_fresh, head_at, too_deep, term_read, parse_never, parse_value, parse_timed, parse_selected, parse_arrow, parse_accumulated, parse_sided, parse_headed, parse_transformed, parse_body, parse_switching, parse_named, parse_keeping, parse_argument, parse_arguments, parse_listed, parse_call, parse_join, parse_joined, parse_form, parse_behind_head, parse_term};
 ghost use Rattle.sf_term.specs.Arena.{HoldsExpression, HoldsTerm, HoldsTermParts, term_node_at};
 ghost use Rattle.sf_grammar.specs.Spelling.{stands_initially};
 
@@ -246,6 +246,7 @@ fn behind_head<'a>(
         Head::Joined => joined(reader, version, start, left),
         Head::Sided(side) => sided(reader, version, start, side, left),
         Head::Headed(heading) => headed(reader, version, start, heading, left),
+        Head::Transformed => transformed(reader, version, start, left),
         Head::Switching(kind) => switching(reader, version, start, kind, left),
         Head::Named(form) => named(reader, start, form),
         Head::Keeping(kind) => keeping(reader, version, start, kind, left),
@@ -282,7 +283,9 @@ fn head_node(program: &Program, heading: Heading, value: ExprId, part: TermId) -
     ensures held { HoldsTermParts program.now result }
 {
     match heading {
-        Heading::LoopPre | Heading::Replaced => Node::Headed(heading, value, part),
+        Heading::LoopPre | Heading::Replaced | Heading::Followed => {
+            Node::Headed(heading, value, part)
+        }
         Heading::Initialized => match program.node(part) {
             Node::Primitive(Primitive::Bare(Bare::Pre)) => {
                 Node::Primitive(Primitive::WithValue(WithValue::InitializedPre, value))
@@ -292,7 +295,7 @@ fn head_node(program: &Program, heading: Heading, value: ExprId, part: TermId) -
     }
 }
 
-/// A term with an expression at its head, behind its word or `-->`.
+/// A term with an expression at its head, behind its word or symbol.
 #[cycle(term)]
 #[tactic(auto, unfolding(sf_grammar::specs::Reading::parse_headed))]
 fn headed(
@@ -312,6 +315,28 @@ fn headed(
     let part = term(reader, version, left)?;
     reader.cursor.symbol(Symbol::Close)?;
     let node = head_node(&reader.program, heading, value, part);
+    start.built(reader.program.add(node, start.spot))
+}
+
+/// A term with a function at its head, behind `>=-`.
+#[cycle(term)]
+#[tactic(auto, unfolding(sf_grammar::specs::Reading::parse_transformed))]
+fn transformed(
+    reader: &mut Reader,
+    version: Version,
+    start: Mark,
+    left: u32,
+) -> Result<TermId, Stop>
+    requires shallow { left ≤ 63 }
+    ensures reads { ReadsTermForm reader.old reader.new start result (parse_transformed left version (parse_term left version) (counts_of reader.old.program)) }
+    ensures placed { StandsFrom start (TermPlaced version reader.new.program) result reader.old.cursor reader.new.cursor }
+{
+    reader.cursor.symbol(Symbol::Open)?;
+    let function = reader.function(version, left)?;
+    reader.cursor.symbol(Symbol::Comma)?;
+    let part = term(reader, version, left)?;
+    reader.cursor.symbol(Symbol::Close)?;
+    let node = Node::Transformed(function, part);
     start.built(reader.program.add(node, start.spot))
 }
 

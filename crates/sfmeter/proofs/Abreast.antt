@@ -1,6 +1,5 @@
 -- Two plans of one network.
 use Rattle.std.proofs.Common.{◌≡◌, ◌≤◌, Ok, sym, ap, subst, arith}
-use Rattle.sf_value.specs.Values.{Data}
 use Rattle.sf_func.specs.Registries.{AnswersByName}
 use Rattle.sf_check.specs.declared.checked.Checked.{Checked}
 use Rattle.sf_check.specs.Accepting.{checked_main}
@@ -26,7 +25,7 @@ rewritten_means c p q P Q φ =
     (subst (λ n. MeansTheSame n (closure (checked_main c).body empty) (network_of_plan φ q) (main_of_plan q)) (sym (P.network φ)) (optimised_runs c q Q φ))
 
 -- a sample that both plans give enters no more nodes in the rewritten one
-pub enters_no_more : {φ : AnswersByName} {p q : Plan} {L : Life} {x y : Data} {s t : State} {m k : Meter}
+pub enters_no_more : {φ : AnswersByName} {p q : Plan} {L : Life} {x y : _} {s t : State} {m k : Meter}
     → MeansTheSame (network_of_plan φ p) (main_of_plan p) (network_of_plan φ q) (main_of_plan q)
     → Steps φ p (main_of_plan p) L (Ok x) s m → Steps φ q (main_of_plan q) L (Ok y) t k → entered_of k ≤ entered_of m
 enters_no_more {φ = φ} {q = q} {L = L} M (stepped {k = c} G entered high stands) (stepped {k = d} H entered' high' stands') =
@@ -36,5 +35,5 @@ enters_no_more {φ = φ} {q = q} {L = L} M (stepped {k = c} G entered high stand
     omega (arith, entered, entered', less.2, cost)
 
 -- the state that a sample leaves
-pub stands_after : {φ : AnswersByName} {p : Plan} {L : Life} {x : Data} {s : State} {m : Meter} → Steps φ p (main_of_plan p) L (Ok x) s m → Stands φ p s (main_of_plan p) L
+pub stands_after : {φ : AnswersByName} {p : Plan} {L : Life} {x : _} {s : State} {m : Meter} → Steps φ p (main_of_plan p) L (Ok x) s m → Stands φ p s (main_of_plan p) L
 stands_after (stepped G entered high stands) = stands

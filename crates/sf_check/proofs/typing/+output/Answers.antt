@@ -6,11 +6,11 @@ use Rattle.std.proofs.lemmas.List.{length-map}
 use Rattle.std.proofs.lemmas.Slice.Zip.{Zip-more, either_empty_from_Zip}
 use Rattle.sf_refusal.specs.declared.rule.Rule.TheVariants.{Mismatch}
 use Rattle.sf_refusal.specs.Refusals.{broken, no_memory}
-use Rattle.sf_check.specs.Breaking.{keeping_inside, initialized_part, replaced_part, sequence_left, fan_left, fan_right, parallel_input, side_input, switch_source, keeping_source}
+use Rattle.sf_check.specs.Breaking.{keeping_inside, transformed_part, sequence_left, fan_left, fan_right, parallel_input, side_input, switch_source, keeping_source}
 use Rattle.sf_term.specs.Arena.{term_number, expressions_of, term_spot_at, arguments_under, ArgumentBelow}
 use Rattle.sf_check.specs.Standing.{inside_names}
 use Rattle.sf_check.specs.Contexts.{context_in}
-use Rattle.sf_check.proofs.Terms.{part_refused, err_answers, memory_answers, named_there, sided_there, pair_differs, mismatch_refused, primitive_answers, probe_answers, sequence_answers, fan_answers, left_reached, right_reached, first_reached, second_reached, parallel_answers, first_answers, second_answers, start_answers, initialized_answers, replaced_answers, replaced_refused, fed_refused, loop_reached, loop_answers, answers_under, body_under, err_body, pattern_stops, within_stops, body_answered, switch_answers, source_answers, source_wants, input_answers, first_term_reached, input_wants, watched_answers, observer_reached, observer_answers, keeping_answers}
+use Rattle.sf_check.proofs.Terms.{part_refused, err_answers, memory_answers, named_there, sided_there, headed_there, pair_differs, mismatch_refused, primitive_answers, probe_answers, sequence_answers, fan_answers, left_reached, right_reached, first_reached, second_reached, parallel_answers, first_answers, second_answers, start_answers, output_reached, output_answers, replaced_reached, replaced_answers, replaced_refused, fed_refused, loop_reached, loop_answers, function_answers, transformed_answers, transformed_refused, answers_under, body_under, err_body, pattern_stops, within_stops, body_answered, switch_answers, source_answers, source_wants, input_answers, first_term_reached, input_wants, watched_answers, observer_reached, observer_answers, keeping_answers}
 use Rattle.sf_term.specs.ParameterView.{kind_of_form}
 use Rattle.sf_check.specs.Contexts.{program_in}
 use Rattle.sf_check.proofs.Calls.{err_argument, value_refused, value_answers, misplaced, term_stops, process_answers, no_template_answers, other_number_answers, none_absent, all_so, so_next, so_end, next_so, answer_for, argument_answers, differs_answers, call_answers}
@@ -90,58 +90,72 @@ pub sided_output-returns-in_ok-second-in-Second : goal.sided_output-returns-in_o
 sided_output-returns-in_ok-second-in-Second t c =
     second_answers _ _ _ _ _ c.spot-spot.ensures _ _ c.in_ok-a.ensures.ok _ _ _ (sided_there _ _ c.in-Second.is c.requires.there) c.requires.fits c.in_ok-second-in-Second.ensures (answers_pair _ _ _ _ c.pair_type-in-Second.ensures)
 
--- ## `loopPre`
+-- ## A value at the head
 
-pub looped_output-returns-in_err-fed : goal.looped_output-returns-in_err-fed
-looped_output-returns-in_err-fed t c =
-    err_answers _ _ _ _ _ _ c.from_residual.ensures.1 (start_answers _ _ _ _ _ c.spot-spot.ensures _ _ _ c.requires.there _ refl _ c.in_err-fed.ensures)
-
-pub looped_output-returns-in_err-given : goal.looped_output-returns-in_err-given
-looped_output-returns-in_err-given t c =
-    err_answers _ _ _ _ _ _ c.from_residual-in_err-given.ensures.1 (fed_refused _ _ _ _ _ c.spot-spot.ensures _ _ c.requires.there _ refl _ c.in_ok-fed.ensures _ (answers_pair _ _ _ (Err _) c.in_err-given.ensures))
-
-pub looped_output-returns-in_err-output : goal.looped_output-returns-in_err-output
-looped_output-returns-in_err-output t c =
-    let given = answers_pair _ _ c.spot-spot.result (Ok _) c.in_ok-given.ensures in
-    err_answers _ _ _ _ _ _ c.from_residual-in_err-output.ensures.1 (part_refused _ _ _ _ _ c.requires.there _ _ _ (loop_reached _ _ _ _ _ c.spot-spot.ensures _ _ c.requires.there _ refl _ c.in_ok-fed.ensures _ given.0 given.1) c.in_err-output.ensures)
-
-pub looped_output-returns : goal.looped_output-returns
-looped_output-returns t c =
-    let given = answers_pair _ _ c.spot-spot.result (Ok _) c.in_ok-given.ensures in
-    loop_answers _ _ _ _ _ c.spot-spot.ensures _ _ c.requires.there _ refl _ c.in_ok-fed.ensures _ _ _ given.0 c.requires.fits c.in_ok-output.ensures c.loop_output.ensures.ok c.loop_output.ensures.err
-
--- ## `-->`
-
-pub initialized_output-returns-in_err-given : goal.initialized_output-returns-in_err-given
-initialized_output-returns-in_err-given t c =
+pub headed_output-returns-in_err-given : goal.headed_output-returns-in_err-given
+headed_output-returns-in_err-given t c =
     err_answers _ _ _ _ _ _ c.from_residual.ensures.1 (start_answers _ _ _ _ _ c.spot-spot.ensures _ _ _ c.requires.there _ refl _ c.in_err-given.ensures)
 
-pub initialized_output-returns-in_err-output : goal.initialized_output-returns-in_err-output
-initialized_output-returns-in_err-output t c =
-    err_answers _ _ _ _ _ _ c.from_residual-in_err-output.ensures.1 (part_refused _ _ _ _ _ c.requires.there _ _ _ (initialized_part c.in_ok-given.ensures) c.in_err-output.ensures)
+pub headed_output-returns-in_err-fed-in-LoopPre : goal.headed_output-returns-in_err-fed-in-LoopPre
+headed_output-returns-in_err-fed-in-LoopPre t c =
+    let there = headed_there _ _ c.in-LoopPre.is c.requires.there in
+    err_answers _ _ _ _ _ _ c.from_residual-in_err-fed-in-LoopPre.ensures.1 (fed_refused _ _ _ _ _ c.spot-spot.ensures _ _ there _ c.in_ok-given.ensures _ (answers_pair _ _ _ (Err _) c.in_err-fed-in-LoopPre.ensures))
 
-pub initialized_output-returns : goal.initialized_output-returns
-initialized_output-returns t c =
+pub headed_output-returns-in_err-output-in-LoopPre : goal.headed_output-returns-in_err-output-in-LoopPre
+headed_output-returns-in_err-output-in-LoopPre t c =
+    let there = headed_there _ _ c.in-LoopPre.is c.requires.there in
+    let fed = answers_pair _ _ c.spot-spot.result (Ok _) c.in_ok-fed-in-LoopPre.ensures in
+    err_answers _ _ _ _ _ _ c.from_residual-in_err-output-in-LoopPre.ensures.1 (part_refused _ _ _ _ _ there _ _ _ (loop_reached _ _ _ _ _ c.spot-spot.ensures _ _ there _ c.in_ok-given.ensures _ fed.0 fed.1) c.in_err-output-in-LoopPre.ensures)
+
+pub headed_output-returns-in-LoopPre : goal.headed_output-returns-in-LoopPre
+headed_output-returns-in-LoopPre t c =
+    let there = headed_there _ _ c.in-LoopPre.is c.requires.there in
+    let fed = answers_pair _ _ c.spot-spot.result (Ok _) c.in_ok-fed-in-LoopPre.ensures in
+    loop_answers _ _ _ _ _ c.spot-spot.ensures _ _ there _ c.in_ok-given.ensures _ _ _ fed.0 c.requires.fits c.in_ok-output-in-LoopPre.ensures c.loop_output.ensures.ok c.loop_output.ensures.err
+
+pub headed_output-returns-in_err-output-in-Replaced : goal.headed_output-returns-in_err-output-in-Replaced
+headed_output-returns-in_err-output-in-Replaced t c =
+    let there = headed_there _ _ c.in-Replaced.is c.requires.there in
+    err_answers _ _ _ _ _ _ c.from_residual-in_err-output-in-Replaced.ensures.1 (part_refused _ _ _ _ _ there _ _ _ (replaced_reached _ _ _ _ _ c.spot-spot.ensures _ _ there _ c.in_ok-given.ensures c.requires.fits) c.in_err-output-in-Replaced.ensures)
+
+pub headed_output-returns-in_err-same-in-Replaced : goal.headed_output-returns-in_err-same-in-Replaced
+headed_output-returns-in_err-same-in-Replaced t c =
+    let there = headed_there _ _ c.in-Replaced.is c.requires.there in
+    let wrong = c.in_err-same-in-Replaced.ensures.err in
+    err_answers _ _ _ _ _ _ c.from_residual-in_err-same-in-Replaced.ensures.1 (replaced_refused _ _ _ _ _ c.spot-spot.ensures _ _ there _ c.in_ok-given.ensures _ c.in_ok-output-in-Replaced.ensures _ wrong.0 wrong.1)
+
+pub headed_output-returns-in-Replaced : goal.headed_output-returns-in-Replaced
+headed_output-returns-in-Replaced t c =
+    let there = headed_there _ _ c.in-Replaced.is c.requires.there in
+    replaced_answers _ _ _ _ _ c.spot-spot.ensures _ _ there _ c.in_ok-given.ensures _ c.in_ok-output-in-Replaced.ensures c.requires.fits c.in_ok-same-in-Replaced.ensures.ok
+
+pub headed_output-returns-in_err-output-in-Initialized : goal.headed_output-returns-in_err-output-in-Initialized
+headed_output-returns-in_err-output-in-Initialized t c =
+    err_answers _ _ _ _ _ _ c.from_residual-in_err-output-in-Initialized.ensures.1 (part_refused _ _ _ _ _ c.requires.there _ _ _ (output_reached _ _ _ _ _ _ _ c.in_ok-given.ensures c.in-Initialized.is c.requires.fits) c.in_err-output-in-Initialized.ensures)
+
+pub headed_output-returns : goal.headed_output-returns
+headed_output-returns t c =
     let wanted = c.wanted_output.ensures in
-    initialized_answers _ _ _ _ _ c.spot-spot.ensures _ _ c.requires.there _ c.in_ok-given.ensures _ c.in_ok-output.ensures _ c.requires.fits wanted.same wanted.ok wanted.err
+    output_answers _ _ _ _ _ c.spot-spot.ensures _ _ _ c.requires.there _ c.in_ok-given.ensures _ c.in_ok-output-in-Initialized.ensures c.in-Initialized.is _ c.requires.fits wanted.same wanted.ok wanted.err
 
--- ## `>--`
+-- ## A function at the head
 
-pub replaced_output-returns-in_err-given : goal.replaced_output-returns-in_err-given
-replaced_output-returns-in_err-given t c =
-    err_answers _ _ _ _ _ _ c.from_residual.ensures.1 (start_answers _ _ _ _ _ c.spot-spot.ensures _ _ _ c.requires.there _ refl _ c.in_err-given.ensures)
+pub transformed_output-returns-in_err-made : goal.transformed_output-returns-in_err-made
+transformed_output-returns-in_err-made t c =
+    err_answers _ _ _ _ _ _ c.from_residual.ensures.1 (function_answers _ _ _ _ _ c.spot-spot.ensures _ _ c.requires.there _ c.in_err-made.ensures)
 
-pub replaced_output-returns-in_err-output : goal.replaced_output-returns-in_err-output
-replaced_output-returns-in_err-output t c =
-    err_answers _ _ _ _ _ _ c.from_residual-in_err-output.ensures.1 (part_refused _ _ _ _ _ c.requires.there _ _ _ (replaced_part c.in_ok-given.ensures) c.in_err-output.ensures)
+pub transformed_output-returns-in_err-output : goal.transformed_output-returns-in_err-output
+transformed_output-returns-in_err-output t c =
+    err_answers _ _ _ _ _ _ c.from_residual-in_err-output.ensures.1 (part_refused _ _ _ _ _ c.requires.there _ _ _ (transformed_part c.in_ok-made.ensures) c.in_err-output.ensures)
 
-pub replaced_output-returns-in_err-same : goal.replaced_output-returns-in_err-same
-replaced_output-returns-in_err-same t c =
-    err_answers _ _ _ _ _ _ c.from_residual-in_err-same.ensures.1 (replaced_refused _ _ _ _ _ c.spot-spot.ensures _ _ c.requires.there _ c.in_ok-given.ensures _ c.in_ok-output.ensures _ c.in_err-same.ensures.err.0 c.in_err-same.ensures.err.1)
+pub transformed_output-returns-in_err-same : goal.transformed_output-returns-in_err-same
+transformed_output-returns-in_err-same t c =
+    let wrong = c.in_err-same.ensures.err in
+    err_answers _ _ _ _ _ _ c.from_residual-in_err-same.ensures.1 (transformed_refused _ _ _ _ _ c.spot-spot.ensures _ _ c.requires.there _ c.in_ok-made.ensures _ c.in_ok-output.ensures _ wrong.0 wrong.1)
 
-pub replaced_output-returns : goal.replaced_output-returns
-replaced_output-returns t c =
-    replaced_answers _ _ _ _ _ c.spot-spot.ensures _ _ c.requires.there _ c.in_ok-given.ensures _ c.in_ok-output.ensures c.requires.fits c.in_ok-same.ensures.ok
+pub transformed_output-returns : goal.transformed_output-returns
+transformed_output-returns t c =
+    transformed_answers _ _ _ _ _ c.spot-spot.ensures _ _ c.requires.there _ c.in_ok-made.ensures _ c.in_ok-output.ensures c.requires.fits c.in_ok-same.ensures.ok
 
 -- ## Bodies
 

@@ -17,14 +17,11 @@ decreases-joined_output l = 6 * term_number l.term + 2
 abbrev pub decreases-sided_output : goal.decreases-sided_output
 decreases-sided_output l = 6 * term_number l.term + 2
 
-abbrev pub decreases-looped_output : goal.decreases-looped_output
-decreases-looped_output l = 6 * term_number l.term + 2
+abbrev pub decreases-headed_output : goal.decreases-headed_output
+decreases-headed_output l = 6 * term_number l.term + 2
 
-abbrev pub decreases-initialized_output : goal.decreases-initialized_output
-decreases-initialized_output l = 6 * term_number l.term + 2
-
-abbrev pub decreases-replaced_output : goal.decreases-replaced_output
-decreases-replaced_output l = 6 * term_number l.term + 2
+abbrev pub decreases-transformed_output : goal.decreases-transformed_output
+decreases-transformed_output l = 6 * term_number l.term + 2
 
 abbrev pub decreases-switching_output : goal.decreases-switching_output
 decreases-switching_output l = 6 * term_number l.term + 2

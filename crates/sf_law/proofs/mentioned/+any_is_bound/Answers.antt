@@ -1,4 +1,4 @@
-use Rattle.std.proofs.Common.{false, List, sym, ◌∙◌, ap, subst, IsTrue}
+use Rattle.std.proofs.Common.{List, sym, ◌∙◌, ap, subst, IsTrue}
 use Rattle.std.specs.Prelude.{String, string_bytes}
 use Rattle.std.specs.declared.rc.Rc.{Rc}
 use Rattle.std.specs.declared.alloc.Global.{Global}

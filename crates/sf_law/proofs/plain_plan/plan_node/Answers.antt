@@ -1,4 +1,4 @@
-use Rattle.sf_law.specs.Copies.{copies_primitive, copies_joined, copies_sided, copies_headed, copies_switching, copies_keeping}
+use Rattle.sf_law.specs.Copies.{copies_primitive, copies_joined, copies_sided, copies_headed, copies_transformed, copies_switching, copies_keeping}
 use Rattle.sf_law.proofs.plain_plan.plan_node.Goals as goal
 
 pub returns-in_ok-primitive-in-Primitive-clause-same : goal.returns-in_ok-primitive-in-Primitive-clause-same
@@ -15,6 +15,9 @@ returns-in-Sided-clause-same c = rw (c.in-Sided.is, c.plan_id-in-Sided.ensures) 
 
 pub returns-in_ok-code-in-Headed-clause-same : goal.returns-in_ok-code-in-Headed-clause-same
 returns-in_ok-code-in-Headed-clause-same c = rw (c.in-Headed.is, c.plan_id-in-Headed.ensures) copies_headed
+
+pub returns-in_ok-head-in-Transformed-clause-same : goal.returns-in_ok-head-in-Transformed-clause-same
+returns-in_ok-head-in-Transformed-clause-same c = rw (c.in-Transformed.is, c.plan_id-in-Transformed.ensures) copies_transformed
 
 pub returns-in-Switching-clause-same : goal.returns-in-Switching-clause-same
 returns-in-Switching-clause-same c = rw (c.in-Switching.is, c.plan_id-source.ensures, c.plan_id-in-Switching.ensures) copies_switching

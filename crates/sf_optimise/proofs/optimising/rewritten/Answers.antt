@@ -1,7 +1,7 @@
 use Rattle.std.proofs.Common.{arith}
 use Rattle.sf_law.proofs.Copied.{parts_fit, no_pipeline}
 use Rattle.sf_optimise.proofs.Forms.{ok_then}
-use Rattle.sf_optimise.proofs.Rewritten.{part_of, primitive_rewritten, named_rewritten, side_rewritten, join_rewritten, heading_rewritten, switching_rewritten, keeping_rewritten}
+use Rattle.sf_optimise.proofs.Rewritten.{part_of, primitive_rewritten, named_rewritten, side_rewritten, join_rewritten, heading_rewritten, transforming_rewritten, switching_rewritten, keeping_rewritten}
 use Rattle.sf_optimise.proofs.optimising.rewritten.Goals as goal
 
 pub add-requires-in-Named-clause-held : goal.add-requires-in-Named-clause-held
@@ -42,6 +42,13 @@ returns-in-Headed-clause-ok c =
     let held = rw c.in-Headed.is at c.requires.held in
     let part = part_of c.args.program.now c.args.plan.now c.args.plans.now c.requires.plans c.in-Headed.part below c.plan_of-in-Headed.ensures in
     rw c.in-Headed.is (ok_then c.with_head.result (λ a h. heading_rewritten c.args.program.now c.args.plan.now c.with_head.new.plan c.in-Headed.value c.requires.kept held.0 part h) c.with_head.ensures.ok)
+
+pub returns-in-Transformed-clause-ok : goal.returns-in-Transformed-clause-ok
+returns-in-Transformed-clause-ok c =
+    let below = rw c.in-Transformed.is at c.requires.below in
+    let held = rw c.in-Transformed.is at c.requires.held in
+    let part = part_of c.args.program.now c.args.plan.now c.args.plans.now c.requires.plans c.in-Transformed.part below c.plan_of-in-Transformed.ensures in
+    rw c.in-Transformed.is (ok_then c.transformed.result (λ a h. transforming_rewritten c.args.program.now c.args.plan.now c.transformed.new.plan c.in-Transformed.function c.requires.kept held.0 part h) c.transformed.ensures.ok)
 
 pub returns-in-Switching-clause-ok : goal.returns-in-Switching-clause-ok
 returns-in-Switching-clause-ok c =

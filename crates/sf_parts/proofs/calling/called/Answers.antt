@@ -1,7 +1,8 @@
-use Rattle.std.proofs.Common.{Ok, Err, map, subst}
+use Rattle.std.proofs.Common.{Ok, Err, IsTrue, map, sym, subst}
 use Rattle.sf_mean.specs.Lives.{empty}
 use Rattle.sf_mean.specs.Meaning.{argued}
-use Rattle.sf_law.specs.Arena.{header_at, plan_binding, plan_arguments}
+use Rattle.sf_law.specs.Arena.{header_at, plan_asks, plan_expressions, plan_binding, plan_arguments}
+use Rattle.sf_law.specs.Asking.{arguments_asked}
 use Rattle.sf_law.specs.Headers.{PlanHeader}
 use Rattle.sf_state.specs.Standing.{IsNames}
 use Rattle.sf_parts.specs.Beginning.{Makes}
@@ -9,7 +10,14 @@ use Rattle.sf_parts.proofs.Arguments.{called_so, called_fails, made_failure}
 use Rattle.sf_parts.proofs.calling.called.Goals as goal
 
 pub bound_names-requires : goal.bound_names-requires
-bound_names-requires g c = record { same = c.template-template.ensures.value; bound = c.template-template.ensures.bound; coded = c.requires.coded; within = c.requires.within }
+bound_names-requires g c =
+    let p = c.args.context.now.plan.now in
+    record {
+      same = c.template-template.ensures.value;
+      bound = c.template-template.ensures.bound;
+      coded = c.requires.coded;
+      asked = subst (λ (h : PlanHeader). IsTrue (arguments_asked (plan_expressions p) (plan_asks p) h.parameters c.args.arguments.now)) (sym c.template-template.ensures.value) c.requires.asked;
+    }
 
 pub returns : goal.returns
 returns g c = λ e N.

@@ -1,10 +1,11 @@
 use Rattle.std.proofs.Common.{◌≡◌, ap, ◌∙◌, inl, inr}
 use Rattle.std.proofs.lemmas.List.Elements.{All-head, All-tail}
 use Rattle.sf_value.specs.declared.fault.Fault.TheVariants.{Memory}
-use Rattle.sf_law.specs.Entries.{BindsName, IsCodedArgument, argument_within}
+use Rattle.sf_law.specs.Entries.{BindsName, IsCodedArgument}
+use Rattle.sf_law.specs.Arena.{plan_asks}
 use Rattle.sf_state.specs.Standing.{is_empty}
 use Rattle.sf_parts.specs.Beginning.{makes_nothing}
-use Rattle.sf_parts.proofs.Arguments.{both_true, none_bound, next_bound, next_fails, all_bound, made_failure}
+use Rattle.sf_parts.proofs.Arguments.{first_asked, none_bound, next_bound, next_fails, all_bound, made_failure}
 use Rattle.sf_parts.proofs.calling.one_inside_another.Goals as goal
 
 pub loop-parameter-init : goal.loop-parameter-init
@@ -16,17 +17,18 @@ loop-parameter-init g c =
     record {
       named = rw parameters c.requires.bound;
       coded = rw arguments c.requires.coded;
-      within = rw arguments c.requires.within;
+      asked = rw (parameters, arguments) c.requires.asked;
       binds = λ e N. none_bound (g.R.Holds.answers c.args.context.now.functions.now) c.args.context.now.plan.now c.args.parameters.now c.args.arguments.now e _ _ _ parameters arguments is_empty;
     }
 
 pub given_by-requires : goal.given_by-requires
 given_by-requires g c =
-    let x = c.args.context.now.plan.now.expressions in
+    let p = c.args.context.now.plan.now in
+    let x = p.expressions in
     let steps = c.in-Some.ensures.steps in
     record {
       coded = All-head (IsCodedArgument x) c.in-Some.argument.now c.next.new.self.b.rest.now (rw steps.1 at c.loop-parameter.invariant.coded);
-      within = (both_true (argument_within c.args.context.now.plan.now.anew c.in-Some.argument.now) _ (rw steps.1 at c.loop-parameter.invariant.within)).0;
+      asked = (first_asked x (plan_asks p) c.in-Some.parameter.now _ _ c.in-Some.argument.now _ _ steps.0 steps.1 c.loop-parameter.invariant.asked).0;
     }
 
 pub bind-requires : goal.bind-requires
@@ -42,9 +44,9 @@ loop-parameter-preserved g c =
     record {
       named = All-tail (BindsName p.expressions) c.in-Some.parameter.now c.next.new.self.a.rest.now (rw steps.0 at c.loop-parameter.invariant.named);
       coded = All-tail (IsCodedArgument p.expressions) c.in-Some.argument.now c.next.new.self.b.rest.now (rw steps.1 at c.loop-parameter.invariant.coded);
-      within = (both_true (argument_within p.anew c.in-Some.argument.now) _ (rw steps.1 at c.loop-parameter.invariant.within)).1;
+      asked = (first_asked p.expressions (plan_asks p) c.in-Some.parameter.now _ _ c.in-Some.argument.now _ _ steps.0 steps.1 c.loop-parameter.invariant.asked).1;
       binds = λ e N. next_bound φ p c.args.parameters.now c.args.arguments.now e _ _ _ _ c.loop-parameter.bound
-          c.in-Some.parameter.now c.in-Some.argument.now steps.0 steps.1 (c.loop-parameter.invariant.binds e N) c.args.names.now c.in_ok-given.given c.in_ok-bound.bound N (c.in_ok-given.ensures c.in-Some.parameter.now) (c.in_ok-bound.ensures φ);
+          c.in-Some.parameter.now c.in-Some.argument.now steps.0 steps.1 (c.loop-parameter.invariant.binds e N) c.args.names.now c.in_ok-given.given c.in_ok-bound.bound N c.in_ok-given.ensures (c.in_ok-bound.ensures φ);
     }
 
 pub returns-in_err-given : goal.returns-in_err-given
@@ -53,7 +55,7 @@ returns-in_err-given g c = λ e N.
     let p = c.args.context.now.plan.now in
     let steps = c.in-Some.ensures.steps in
     made_failure _ _ _ c.in_err-given.field-0.0 c.from_residual.ensures.1
-    (next_fails φ p c.args.parameters.now c.args.arguments.now e _ _ _ _ c.loop-parameter.bound c.in-Some.parameter.now c.in-Some.argument.now steps.0 steps.1 (c.loop-parameter.invariant.binds e N) c.args.names.now c.in_err-given.field-0.0 N (c.in_err-given.ensures c.in-Some.parameter.now))
+    (next_fails φ p c.args.parameters.now c.args.arguments.now e _ _ _ _ c.loop-parameter.bound c.in-Some.parameter.now c.in-Some.argument.now steps.0 steps.1 (c.loop-parameter.invariant.binds e N) c.args.names.now c.in_err-given.field-0.0 N c.in_err-given.ensures)
 
 pub returns-in_err-bound : goal.returns-in_err-bound
 returns-in_err-bound g c = λ e N. made_failure _ _ _ Memory c.from_residual-in_err-bound.ensures.1 makes_nothing

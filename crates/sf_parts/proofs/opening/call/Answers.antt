@@ -7,7 +7,7 @@ use Rattle.sf_parts.proofs.Begins.{open_failure, open_call, open_call_fails}
 use Rattle.sf_parts.proofs.opening.call.Goals as goal
 
 pub called-requires : goal.called-requires
-called-requires g c = record { coded = c.requires.coded; within = c.requires.within }
+called-requires g c = record { coded = c.requires.coded; asked = c.requires.asked }
 
 pub returns : goal.returns
 returns g c = λ k v t same B.
@@ -17,9 +17,9 @@ returns g c = λ k v t same B.
     open_call φ p k c.args.template v t c.args.names.now c.in_ok-body.body B (λ e N. subst (λ us. StandsCalled φ p (header_at p c.args.template) us e r) (sym same) (c.in_ok-body.ensures e N))
 
 pub returns-in_err-body : goal.returns-in_err-body
-returns-in_err-body g c = λ k v t same B e N.
+returns-in_err-body g c = λ k v t same B x e N.
     let φ = g.R.Holds.answers c.args.context.now.functions.now in
     let p = c.args.context.now.plan.now in
     let r : Result State Fault = Err c.in_err-body.field-0.0 in
     open_failure φ p t e _ c.in_err-body.field-0.0 c.from_residual.ensures.1
-    (open_call_fails φ p k c.args.template v t c.args.names.now c.in_err-body.field-0.0 B (λ e N. subst (λ us. StandsCalled φ p (header_at p c.args.template) us e r) (sym same) (c.in_err-body.ensures e N)) e N)
+    (open_call_fails φ p k c.args.template v t c.args.names.now c.in_err-body.field-0.0 B (λ e N. subst (λ us. StandsCalled φ p (header_at p c.args.template) us e r) (sym same) (c.in_err-body.ensures e N)) x e N)

@@ -2,13 +2,13 @@ use Rattle.sf_parts.proofs.Begins.{open_exit, open_keeping}
 use Rattle.sf_parts.proofs.opening.keeping.Goals as goal
 
 pub returns-in_err-running : goal.returns-in_err-running
-returns-in_err-running c = λ φ e N. open_exit φ c.args.plan.now _ e _ c.from_residual.ensures.1
+returns-in_err-running c = λ φ x e N. open_exit φ c.args.plan.now _ e _ c.from_residual.ensures.1
 
 pub returns-in_err-around : goal.returns-in_err-around
-returns-in_err-around c = λ φ e N. open_exit φ c.args.plan.now _ e _ c.from_residual-in_err-around.ensures.1
+returns-in_err-around c = λ φ x e N. open_exit φ c.args.plan.now _ e _ c.from_residual-in_err-around.ensures.1
 
 pub returns-in_err-node : goal.returns-in_err-node
-returns-in_err-node c = λ φ e N. open_exit φ c.args.plan.now _ e _ c.from_residual-in_err-node.ensures.1
+returns-in_err-node c = λ φ x e N. open_exit φ c.args.plan.now _ e _ c.from_residual-in_err-node.ensures.1
 
 pub returns : goal.returns
 returns c = λ φ.

@@ -1,51 +1,58 @@
 use Rattle.std.proofs.Common.{sym}
-use Rattle.sf_parts.proofs.Begins.{open_joined, open_sided, open_builds_headed, open_builds_switch, open_builds_keeping, coded_arguments}
+use Rattle.sf_parts.proofs.Begins.{parts_joined, open_sided, open_builds_headed, open_builds_transformed, open_builds_switch, open_builds_keeping, coded_arguments}
 use Rattle.sf_parts.proofs.opening.open.Goals as goal
 
 pub returns-in-Primitive : goal.returns-in-Primitive
-returns-in-Primitive g c = c.open_primitive.ensures _ (rw c.in-Primitive.is at c.node.ensures.builds)
+returns-in-Primitive g c = c.open_primitive.ensures _ (rw c.in-Primitive.is at c.node.ensures.builds) c.args.input.now
 
 pub returns-in-Joined : goal.returns-in-Joined
 returns-in-Joined g c =
     let φ = g.R.Holds.answers c.args.context.now.functions.now in
     let p = c.args.context.now.plan.now in
-    open_joined φ p c.in-Joined.join c.in-Joined.left c.in-Joined.right _ c.args.names.now _ (rw c.in-Joined.is at c.node.ensures.builds) (c.joined.ensures φ p)
+    c.joined.ensures φ p _ (parts_joined φ p c.in-Joined.join c.in-Joined.left c.in-Joined.right _ (rw c.in-Joined.is at c.node.ensures.builds)) c.args.input.now
 
 pub returns-in-Sided : goal.returns-in-Sided
-returns-in-Sided g c = open_sided (g.R.Holds.answers c.args.context.now.functions.now) c.args.context.now.plan.now c.in-Sided.side c.in-Sided.part _ c.args.names.now _ _ (rw c.in-Sided.is at c.node.ensures.builds) c.on_side.ensures c.wrapped.ensures
+returns-in-Sided g c = open_sided (g.R.Holds.answers c.args.context.now.functions.now) c.args.context.now.plan.now c.in-Sided.side c.in-Sided.part _ c.args.names.now _ _ (rw c.in-Sided.is at c.node.ensures.builds) c.on_side.ensures c.wrapped.ensures c.args.input.now
 
 pub returns-in-Headed : goal.returns-in-Headed
 returns-in-Headed g c =
-    open_builds_headed (g.R.Holds.answers c.args.context.now.functions.now) c.args.context.now.plan.now c.in-Headed.heading c.in-Headed.field-1 c.in-Headed.code c.in-Headed.part _ c.args.names.now _ (rw c.in-Headed.is at c.node.ensures.builds) (c.headed.ensures _)
+    open_builds_headed (g.R.Holds.answers c.args.context.now.functions.now) c.args.context.now.plan.now c.in-Headed.heading c.in-Headed.field-1 c.in-Headed.code c.in-Headed.part _ c.args.names.now _ (rw c.in-Headed.is at c.node.ensures.builds) (c.headed.ensures _ c.args.input.now)
+
+pub returns-in-Transformed : goal.returns-in-Transformed
+returns-in-Transformed g c =
+    open_builds_transformed (g.R.Holds.answers c.args.context.now.functions.now) c.args.context.now.plan.now c.in-Transformed.field-0 c.in-Transformed.code c.in-Transformed.part _ c.args.names.now _ (rw c.in-Transformed.is at c.node.ensures.builds) (c.transformed.ensures _)
 
 pub returns-in-Switching : goal.returns-in-Switching
 returns-in-Switching g c =
     let φ = g.R.Holds.answers c.args.context.now.functions.now in
     let p = c.args.context.now.plan.now in
-    open_builds_switch φ p c.in-Switching.form c.in-Switching.first c.in-Switching.body c.in-Switching.pattern _ c.args.names.now _ (rw c.in-Switching.is at c.node.ensures.builds) (c.switching.ensures φ p)
+    open_builds_switch φ p c.in-Switching.form c.in-Switching.first c.in-Switching.body c.in-Switching.pattern _ c.args.names.now _ (rw c.in-Switching.is at c.node.ensures.builds) (c.switching.ensures φ p c.args.input.now)
 
 pub returns-in-Pipeline : goal.returns-in-Pipeline
 returns-in-Pipeline g c =
     let φ = g.R.Holds.answers c.args.context.now.functions.now in
-    c.pipeline.ensures φ c.args.context.now.plan.now c.in-Pipeline.stages _ (sym c.deref.ensures.value) (rw c.in-Pipeline.is at c.node.ensures.builds)
+    c.pipeline.ensures φ c.args.context.now.plan.now c.in-Pipeline.stages _ (sym c.deref.ensures.value) (rw c.in-Pipeline.is at c.node.ensures.builds) c.args.input.now
 
 pub returns-in-Keeping : goal.returns-in-Keeping
 returns-in-Keeping g c =
     let φ = g.R.Holds.answers c.args.context.now.functions.now in
     let p = c.args.context.now.plan.now in
-    open_builds_keeping φ p c.in-Keeping.shown c.in-Keeping.source c.in-Keeping.observer c.in-Keeping.body c.in-Keeping.name c.in-Keeping.pattern _ c.args.names.now _ (rw c.in-Keeping.is at c.node.ensures.builds) (c.keeping.ensures φ)
+    open_builds_keeping φ p c.in-Keeping.shown c.in-Keeping.source c.in-Keeping.observer c.in-Keeping.body c.in-Keeping.name c.in-Keeping.pattern _ c.args.names.now _ (rw c.in-Keeping.is at c.node.ensures.builds) (c.keeping.ensures φ c.args.input.now)
 
 pub returns-in-Started : goal.returns-in-Started
-returns-in-Started g c = c.referred.ensures _ (rw c.in-Started.is at c.node.ensures.builds)
+returns-in-Started g c = c.referred.ensures _ (rw c.in-Started.is at c.node.ensures.builds) c.args.input.now
+
+pub referred-requires : goal.referred-requires
+referred-requires g c = rw c.in-Started.is at c.node.ensures.asked
 
 pub returns-in-Probe : goal.returns-in-Probe
-returns-in-Probe g c = λ e N. c.probe.ensures (g.R.Holds.answers c.args.context.now.functions.now) c.args.context.now.plan.now _ (rw c.in-Probe.is at c.node.ensures.builds) e
+returns-in-Probe g c = λ e N. c.probe.ensures (g.R.Holds.answers c.args.context.now.functions.now) c.args.context.now.plan.now _ (rw c.in-Probe.is at c.node.ensures.builds) c.args.input.now e
 
 pub call-requires : goal.call-requires
 call-requires g c = record {
   coded = rw c.deref-in-Call.ensures.value (coded_arguments (g.R.Holds.answers c.args.context.now.functions.now) c.args.context.now.plan.now (rw c.in-Call.is at c.node.ensures.builds));
-  within = rw c.deref-in-Call.ensures.value (rw c.in-Call.is at c.node.ensures.within);
+  asked = rw c.deref-in-Call.ensures.value (rw c.in-Call.is at c.node.ensures.asked);
 }
 
 pub returns-in-Call : goal.returns-in-Call
-returns-in-Call g c = c.call.ensures c.in-Call.field-0 c.in-Call.arguments _ (sym c.deref-in-Call.ensures.value) (rw c.in-Call.is at c.node.ensures.builds)
+returns-in-Call g c = c.call.ensures c.in-Call.field-0 c.in-Call.arguments _ (sym c.deref-in-Call.ensures.value) (rw c.in-Call.is at c.node.ensures.builds) c.args.input.now

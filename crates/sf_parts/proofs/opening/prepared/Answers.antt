@@ -2,16 +2,16 @@ use Rattle.sf_parts.proofs.Begins.{begin_primitive, begin_live, begin_switch, be
 use Rattle.sf_parts.proofs.opening.prepared.Goals as goal
 
 pub returns-in-Primitive-clause-begins : goal.returns-in-Primitive-clause-begins
-returns-in-Primitive-clause-begins c = λ φ p u O. begin_primitive φ p c.in-Primitive.prim c.args.names (rw c.in-Primitive.is at O)
+returns-in-Primitive-clause-begins c = λ φ p u x O. begin_primitive φ p c.in-Primitive.prim c.args.names (rw c.in-Primitive.is at O)
 
 pub returns-in-Live-clause-begins : goal.returns-in-Live-clause-begins
-returns-in-Live-clause-begins c = λ φ p u O. begin_live φ p c.in-Live.node c.args.names (rw c.in-Live.is at O)
+returns-in-Live-clause-begins c = λ φ p u x O. begin_live φ p c.in-Live.node c.args.names (rw c.in-Live.is at O)
 
 pub returns-in-Switch-clause-begins : goal.returns-in-Switch-clause-begins
-returns-in-Switch-clause-begins c = λ φ p u O. begin_switch φ p c.in-Switch.watching c.args.names (rw c.in-Switch.is at O)
+returns-in-Switch-clause-begins c = λ φ p u x O. begin_switch φ p c.in-Switch.watching c.args.names (rw c.in-Switch.is at O)
 
 pub returns-in-Keeping-clause-begins : goal.returns-in-Keeping-clause-begins
-returns-in-Keeping-clause-begins c = λ φ p u O. begin_keeping φ p c.in-Keeping.kept c.args.names (rw c.in-Keeping.is at O)
+returns-in-Keeping-clause-begins c = λ φ p u x O. begin_keeping φ p c.in-Keeping.kept c.args.names (rw c.in-Keeping.is at O)
 
 pub returns-in-Running-clause-begins : goal.returns-in-Running-clause-begins
-returns-in-Running-clause-begins c = λ φ p u O. begin_referred φ p c.in-Running.process c.args.names (rw c.in-Running.is at O)
+returns-in-Running-clause-begins c = λ φ p u x O. begin_referred φ p c.in-Running.process c.args.names (rw c.in-Running.is at O)

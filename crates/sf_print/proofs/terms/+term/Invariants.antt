@@ -25,6 +25,9 @@ decreases-write_joined l = 8 * max (term_number l.first) (term_number l.second) 
 abbrev pub decreases-write_headed : goal.decreases-write_headed
 decreases-write_headed l = 8 * term_number l.part + 6
 
+abbrev pub decreases-write_transformed : goal.decreases-write_transformed
+decreases-write_transformed l = 8 * term_number l.part + 6
+
 abbrev pub decreases-write_body : goal.decreases-write_body
 decreases-write_body l = 8 * term_number l.body + 6
 

@@ -3,7 +3,7 @@ use Rattle.std.proofs.lemmas.Result.{on_ok_weaker}
 use Rattle.sf_expr.specs.Arena.{name_at}
 use Rattle.sf_term.specs.declared.node.Argument.TheVariants as arguments
 use Rattle.sf_term.specs.declared.node.Node.TheVariants as nodes
-use Rattle.sf_reach.specs.Order.{in_primitive, in_named, in_joined, in_sided, in_headed, in_switching, in_keeping}
+use Rattle.sf_reach.specs.Order.{in_primitive, in_named, in_joined, in_sided, in_headed, in_transformed, in_switching, in_keeping}
 use Rattle.sf_reach.specs.Graphs.{AddsArgumentCalls}
 use Rattle.sf_reach.proofs.Gathered.{adds_none, adds_one, adds_two, name_found, adds_found, adds_absent, no_argument, adds_value, adds_process}
 use Rattle.sf_reach.proofs.graph.+gathering.Goals as goal
@@ -57,7 +57,10 @@ gather-returns-in-Sided t c =
       | inl k ↦ adds_one p c.args.term (nodes.Sided k.0 f) (sym k.1 ∙ c.node.ensures.value) old _ f (λ cs l. in_sided l) h
       | inr j ↦ elim j [
         | inl k ↦ adds_one p c.args.term (nodes.Headed k.0 k.1 f) (sym k.2 ∙ c.node.ensures.value) old _ f (λ cs l. in_headed l) h
-        | inr k ↦ adds_one p c.args.term (nodes.Switching k.0 f k.1 k.2) (sym k.3 ∙ c.node.ensures.value) old _ f (λ cs l. in_switching l) h
+        | inr i ↦ elim i [
+          | inl k ↦ adds_one p c.args.term (nodes.Transformed k.0 f) (sym k.1 ∙ c.node.ensures.value) old _ f (λ cs l. in_transformed l) h
+          | inr k ↦ adds_one p c.args.term (nodes.Switching k.0 f k.1 k.2) (sym k.3 ∙ c.node.ensures.value) old _ f (λ cs l. in_switching l) h
+        ]
       ]
     ]) c.gather-in-Sided.ensures
 

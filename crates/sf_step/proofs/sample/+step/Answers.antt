@@ -1,14 +1,15 @@
-use Rattle.std.proofs.Common.{◌≡◌, length, Ok, Err, refl, ap, ◌∙◌, subst, arith}
+use Rattle.std.proofs.Common.{◌≡◌, length, Ok, Err, refl, sym, ap, ◌∙◌, subst, arith}
 use Rattle.std.specs.Vec.{with_items}
 use Rattle.std.proofs.lemmas.List.{with_items_is}
-use Rattle.sf_state.specs.declared.state.Wrap.TheVariants.{First, Second, Loop, Initialized, Replaced}
+use Rattle.sf_state.specs.declared.state.Wrap.TheVariants.{First, Second, Loop, Initialized, Replaced, Followed}
 use Rattle.sf_term.specs.declared.form.Join.TheVariants.{InSequence, InParallel, FannedOut}
 use Rattle.sf_value.specs.Values.{first_of, second_of}
 use Rattle.sf_value.specs.declared.value.Pair.{Pair}
 use Rattle.sf_mean.specs.Lives.{step, Life, Process}
 use Rattle.sf_state.specs.declared.state.Frozen.{Frozen}
 use Rattle.sf_state.specs.declared.state.State.{State}
-use Rattle.sf_state.specs.Standing.{Stands, kept_state}
+use Rattle.sf_state.specs.Standing.{Stands, kept_state, worth_given}
+use Rattle.sf_expr.specs.Evaluation.{answer}
 use Rattle.sf_mean.specs.Meaning.{switched_value}
 use Rattle.sf_parts.specs.Meters.{fault_of}
 use Rattle.sf_parts.specs.Answering.{left_or}
@@ -16,7 +17,7 @@ use Rattle.sf_parts.proofs.Costs.{memory_exit, early_memory}
 use Rattle.sf_step.specs.Sampling.{StateSteps}
 use Rattle.sf_step.proofs.Parts.{pass_exit, failed}
 use Rattle.sf_step.proofs.Stages.{StagesStep, continues_first, continues_next, continues_fails, continues_last, pipeline_steps, pipeline_fails}
-use Rattle.sf_step.proofs.Exits.{ticked_by, tick_fails, first_memory, join_left_fails, join_right_fails, join_steps, join_last, wrap_fails, wrap_steps, wrap_last, late_memory, primitive_counted, live_counted, own_steps, primitive_is, live_is, switch_is, keeping_is, counted_steps, begun_steps, begun_runs, begun_fails}
+use Rattle.sf_step.proofs.Exits.{ticked_by, tick_fails, first_memory, join_left_fails, join_right_fails, join_steps, join_last, wrap_fails, wrap_steps, wrap_faults, wrap_last, late_memory, primitive_counted, live_counted, own_steps, primitive_is, live_is, switch_is, keeping_is, counted_steps, begun_steps, begun_runs, begun_fails}
 use Rattle.sf_step.proofs.Recurring.{run_fails, run_memory, new_fails, new_runs, runs_alone}
 use Rattle.sf_step.proofs.Switches.{source_fails, switch_memory, switch_waits_on, body_fails, body_takes_over}
 use Rattle.sf_step.proofs.Keeping.{runs_alike, kept_fails, kept_memory, observer_fails, observer_memory, keeps_on, kept_body_fails, kept_body_takes_over, some_occurs, none_occurs}
@@ -348,7 +349,7 @@ step_first-returns-in_err-step_state g t c = λ m depth t P L R.
 pub step_first-returns : goal.step_first-returns
 step_first-returns g t c =
     wrap_steps (g.R.Holds.answers c.args.context.now.functions.now) c.args.context.now.plan.now First c.args.part.now c.args.meter.now c.step_state.new.meter c.args.inside c.args.context.now.dt c.args.value.now _ (ap (λ (p : Pair). p.first) c.in-Some.ensures.value ∙ c.in-Ok.ensures.first ∙ ap first_of c.replace-input.ensures.value)
-    c.step_state.new.state First c.step_state.new.value c.of_pair.result refl (rw (ap (λ (p : Pair). p.second) c.in-Some.ensures.value ∙ c.in-Ok.ensures.second ∙ ap second_of c.replace-input.ensures.value) at c.of_pair.ensures) c.in_ok-step_state.ensures
+    c.step_state.new.state First c.step_state.new.value c.of_pair.result refl (ap answer (rw (ap (λ (p : Pair). p.second) c.in-Some.ensures.value ∙ c.in-Ok.ensures.second ∙ ap second_of c.replace-input.ensures.value) at c.of_pair.ensures)) c.in_ok-step_state.ensures
 
 -- ## step_second
 
@@ -366,7 +367,7 @@ step_second-returns-in_err-step_state g t c = λ m depth t P L R.
 pub step_second-returns : goal.step_second-returns
 step_second-returns g t c =
     wrap_steps (g.R.Holds.answers c.args.context.now.functions.now) c.args.context.now.plan.now Second c.args.part.now c.args.meter.now c.step_state.new.meter c.args.inside c.args.context.now.dt c.args.value.now _ (ap (λ (p : Pair). p.second) c.in-Some.ensures.value ∙ c.in-Ok.ensures.second ∙ ap second_of c.replace-input.ensures.value)
-    c.step_state.new.state Second c.step_state.new.value c.of_pair.result refl (rw (ap (λ (p : Pair). p.first) c.in-Some.ensures.value ∙ c.in-Ok.ensures.first ∙ ap first_of c.replace-input.ensures.value) at c.of_pair.ensures) c.in_ok-step_state.ensures
+    c.step_state.new.state Second c.step_state.new.value c.of_pair.result refl (ap answer (rw (ap (λ (p : Pair). p.first) c.in-Some.ensures.value ∙ c.in-Ok.ensures.first ∙ ap first_of c.replace-input.ensures.value) at c.of_pair.ensures)) c.in_ok-step_state.ensures
 
 -- ## step_loop
 
@@ -387,7 +388,7 @@ step_loop-returns-in-Err g t c =
 pub step_loop-returns-in-Ok-keep : goal.step_loop-returns-in-Ok-keep
 step_loop-returns-in-Ok-keep g t c =
     wrap_steps (g.R.Holds.answers c.args.context.now.functions.now) c.args.context.now.plan.now (Loop c.args.feedback.now) c.args.part.now c.args.meter.now c.step_state.new.meter c.args.inside c.args.context.now.dt c.args.value.now c.in-Ok.both c.in-Ok.ensures.both
-    c.step_state.new.state (Loop c.keep.new.self) c.step_state.new.value c.keep.new.value (ap Loop c.in-Ok-keep.ensures.next) c.in-Ok-keep.ensures.output c.in_ok-step_state.ensures
+    c.step_state.new.state (Loop c.keep.new.self) c.step_state.new.value c.keep.new.value (ap Loop c.in-Ok-keep.ensures.next) (ap answer c.in-Ok-keep.ensures.output) c.in_ok-step_state.ensures
 
 -- ## step_initialized
 
@@ -399,7 +400,7 @@ step_initialized-returns-in_err-step_state g t c = λ m depth t P L R.
 pub step_initialized-returns : goal.step_initialized-returns
 step_initialized-returns g t c =
     wrap_steps (g.R.Holds.answers c.args.context.now.functions.now) c.args.context.now.plan.now (Initialized c.args.first.now) c.args.part.now c.args.meter.now c.step_state.new.meter c.args.inside c.args.context.now.dt c.args.value.now _ refl
-    c.step_state.new.state (Initialized c.put_first.new.first) c.step_state.new.value c.put_first.new.value (ap Initialized c.put_first.ensures.first) c.put_first.ensures.value c.in_ok-step_state.ensures
+    c.step_state.new.state (Initialized c.put_first.new.first) c.step_state.new.value c.put_first.new.value (ap Initialized c.put_first.ensures.first) (ap answer c.put_first.ensures.value) c.in_ok-step_state.ensures
 
 -- ## step_replaced
 
@@ -407,6 +408,23 @@ pub step_replaced-returns : goal.step_replaced-returns
 step_replaced-returns g t c =
     wrap_last (g.R.Holds.answers c.args.context.now.functions.now) c.args.context.now.plan.now (Replaced c.args.initial.now) c.args.part.now c.args.meter.now c.step_state.new.meter c.args.inside c.args.context.now.dt c.args.value.now c.put_first.new.value c.put_first.ensures.value
     c.step_state.new.state (Replaced c.put_first.new.first) c.step_state.new.value c.step_state.new.value c.step_state.result _ (ap Replaced c.put_first.ensures.first) refl c.step_state.ensures
+
+-- ## step_followed
+
+pub step_followed-returns-in_err-step_state : goal.step_followed-returns-in_err-step_state
+step_followed-returns-in_err-step_state g t c = λ m depth t P L R.
+    pass_exit _ _ c.from_residual.ensures.0 (wrap_fails (g.R.Holds.answers c.args.context.now.functions.now) c.args.context.now.plan.now (Followed c.args.last.now) c.args.part.now c.args.meter.now c.step_state.new.meter c.args.inside c.args.context.now.dt c.args.value.now _ refl
+    _ c.in_err-step_state.ensures m depth t P L R)
+
+pub step_followed-returns-in-Ok : goal.step_followed-returns-in-Ok
+step_followed-returns-in-Ok g t c =
+    wrap_steps (g.R.Holds.answers c.args.context.now.functions.now) c.args.context.now.plan.now (Followed c.args.last.now) c.args.part.now c.args.meter.now c.step_state.new.meter c.args.inside c.args.context.now.dt c.args.value.now _ refl
+    c.step_state.new.state (Followed c.put_last.new.last) c.step_state.new.value c.put_last.new.value (ap Followed c.in-Ok.ensures.last) (sym (ap worth_given c.in-Ok.ensures.value)) c.in_ok-step_state.ensures
+
+pub step_followed-returns-in-Err : goal.step_followed-returns-in-Err
+step_followed-returns-in-Err g t c =
+    wrap_faults (g.R.Holds.answers c.args.context.now.functions.now) c.args.context.now.plan.now (Followed c.args.last.now) c.args.part.now c.args.meter.now c.step_state.new.meter c.args.inside c.args.context.now.dt c.args.value.now _ refl
+    c.step_state.new.state c.step_state.new.value c.in-Err.fault (sym (ap worth_given c.in-Err.ensures.fault)) c.in_ok-step_state.ensures c.stop.ensures.entered c.stop.ensures.height c.stop.ensures.fault
 
 -- ## A switch that keeps its source, and a frozen state
 

@@ -34,6 +34,9 @@ decreases-step_initialized g l = 10 * (1600 - l.inside) + 6
 abbrev pub decreases-step_replaced : goal.decreases-step_replaced
 decreases-step_replaced g l = 10 * (1600 - l.inside) + 6
 
+abbrev pub decreases-step_followed : goal.decreases-step_followed
+decreases-step_followed g l = 10 * (1600 - l.inside) + 6
+
 abbrev pub decreases-step_live : goal.decreases-step_live
 decreases-step_live g l = 10 * (1600 - l.inside) + 7
 

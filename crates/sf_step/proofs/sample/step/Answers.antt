@@ -8,5 +8,5 @@ returns-in-Err-clause-answers g c =
 
 pub returns-in-Ok-clause-answers : goal.returns-in-Ok-clause-answers
 returns-in-Ok-clause-answers g c =
-    sample_steps _ _ c.args.state.now c.step_state.new.state _ c.step_state.new.value c.new.ensures.entered c.new.ensures.height c.new.ensures.readings
-    c.in-Ok.ensures
+    sample_steps _ _ c.args.state.now c.step_state.new.state _ c.step_state.new.value c.take_readings.result c.new.ensures.entered c.new.ensures.height c.new.ensures.readings
+    c.in-Ok.ensures c.take_readings.ensures.taken c.take_readings.ensures.entered c.take_readings.ensures.height

@@ -6,8 +6,8 @@ use Rattle.sf_parse.specs.Answers.{ahead}
 use Rattle.sf_parse.specs.Consuming.{spots_ahead, Consumes}
 use Rattle.sf_grammar.specs.Placing.{ArgumentsPlaced}
 use Rattle.sf_term.proofs.Kept.{keeps_trans}
-use Rattle.sf_text.proofs.Found.{term_built, headed_ready, joined_ready, sided_ready, switching_ready, keeping_ready, call_ready, body_found}
-use Rattle.sf_text.proofs.Placed.{headed_read, joined_read, sided_read, switching_read, keeping_read, call_read, value_read, process_read, no_arguments_placed_behind, each_argument_placed}
+use Rattle.sf_text.proofs.Found.{term_built, headed_ready, transformed_ready, joined_ready, sided_ready, switching_ready, keeping_ready, call_ready, body_found}
+use Rattle.sf_text.proofs.Placed.{headed_read, transformed_read, joined_read, sided_read, switching_read, keeping_read, call_read, value_read, process_read, no_arguments_placed_behind, each_argument_placed}
 use Rattle.sf_text.proofs.Lists.{ReadArguments, arguments_go_on, no_arguments_read, next_argument, argument_stops, argument_separator_stops, all_arguments, arguments_stopped_as}
 use Rattle.sf_parse.proofs.Found.{if_built, if_built_on}
 use Rattle.sf_parse.proofs.Placed.{parted_read}
@@ -22,6 +22,16 @@ headed-returns-clause-reads t c = λ whole counted.
 pub headed-returns-clause-placed : goal.headed-returns-clause-placed
 headed-returns-clause-placed t c = if_built _ _ c.args.start.ahead c.add.result c.built.result c.built.ensures c.add.ensures.ok (λ id added.
     headed_read c.args.heading c.in_ok-part.ensures.reads.kept.trees c.head_node-node.ensures.node added c.in_ok-symbol.ensures.behind c.in_ok-value.ensures.placed c.in_ok-symbol-2.ensures.behind c.in_ok-part.ensures.placed c.in_ok-symbol-3.ensures.behind)
+
+pub transformed-returns-clause-reads : goal.transformed-returns-clause-reads
+transformed-returns-clause-reads t c = λ whole counted.
+    term_built _ _ _ c.args.start.ahead c.add.result c.built.result
+    (transformed_ready c.args.version c.args.left (ahead c.args.reader.now.cursor) c.requires.shallow c.in_ok-symbol.ensures.reads c.in_ok-function.ensures.reads c.in_ok-symbol-2.ensures.reads c.in_ok-part.ensures.reads c.in_ok-symbol-3.ensures.reads)
+    (keeps_trans _ _ _ c.in_ok-function.ensures.reads.kept c.in_ok-part.ensures.reads.kept) counted c.built.ensures c.add.ensures.ok c.add.ensures.many (λ same. (c.add.ensures.deep.0 same).1) c.add.ensures.no_name
+
+pub transformed-returns-clause-placed : goal.transformed-returns-clause-placed
+transformed-returns-clause-placed t c = if_built _ _ c.args.start.ahead c.add.result c.built.result c.built.ensures c.add.ensures.ok (λ id added.
+    transformed_read c.in_ok-part.ensures.reads.kept.trees added c.in_ok-symbol.ensures.behind c.in_ok-function.ensures.placed c.in_ok-symbol-2.ensures.behind c.in_ok-part.ensures.placed c.in_ok-symbol-3.ensures.behind)
 
 pub joined-returns-clause-reads : goal.joined-returns-clause-reads
 joined-returns-clause-reads t c = λ whole counted.

@@ -19,6 +19,9 @@ decreases-sided l = 8 * l.left + 5
 abbrev pub decreases-headed : goal.decreases-headed
 decreases-headed l = 8 * l.left + 5
 
+abbrev pub decreases-transformed : goal.decreases-transformed
+decreases-transformed l = 8 * l.left + 5
+
 abbrev pub decreases-switching : goal.decreases-switching
 decreases-switching l = 8 * l.left + 5
 

@@ -13,7 +13,7 @@ returns-in-Ok-step g c = λ n m L S R H.
     (λ stands. goes_to R H refl refl refl refl refl refl (ap (λ x. Some x) c.in-Ok.ensures) stands)
     refl
     refl
-    c.take_readings.ensures.taken
+    refl
 
 pub returns-in-Err : goal.returns-in-Err
 returns-in-Err g c = λ n m L S R H.

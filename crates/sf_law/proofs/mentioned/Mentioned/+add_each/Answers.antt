@@ -1,4 +1,4 @@
-use Rattle.std.proofs.Common.{List, sym, subst, IsTrue}
+use Rattle.std.proofs.Common.{List, subst, IsTrue}
 use Rattle.std.specs.Prelude.{String, string_bytes}
 use Rattle.std.specs.declared.rc.Rc.{Rc}
 use Rattle.std.specs.declared.alloc.Global.{Global}

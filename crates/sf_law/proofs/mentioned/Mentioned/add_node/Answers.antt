@@ -7,7 +7,7 @@ use Rattle.sf_expr.specs.Patterns.{PlacedPattern, pattern_of}
 use Rattle.sf_expr.specs.Arena.{name_at, placed_at}
 use Rattle.sf_coincidence.specs.Mentions.{BindsOthers}
 use Rattle.sf_law.proofs.Naming.{ok_both}
-use Rattle.sf_law.proofs.Covering.{covers_primitive, covers_headed, covers_keeping, covers_pipeline}
+use Rattle.sf_law.proofs.Covering.{covers_primitive, covers_headed, covers_transformed, covers_keeping, covers_pipeline}
 use Rattle.sf_law.proofs.mentioned.Mentioned.add_node.Goals as goal
 
 pub returns-in-Primitive : goal.returns-in-Primitive
@@ -18,6 +18,12 @@ returns-in_ok-add_code-in-Headed c = λ t B.
     ok_both c.add_part-in-Headed.result
     (λ kept added. covers_headed c.args.plan.now c.add_part-in-Headed.new.self (rw c.in-Headed.is at B) (λ x h. kept x (c.in_ok-add_code-in-Headed.ensures.added x h)) (λ x h. added x (c.requires c.in-Headed.part x h)))
     c.add_part-in-Headed.ensures.kept c.add_part-in-Headed.ensures.added
+
+pub returns-in_ok-add_code-in-Transformed : goal.returns-in_ok-add_code-in-Transformed
+returns-in_ok-add_code-in-Transformed c = λ t B.
+    ok_both c.add_part-in-Transformed.result
+    (λ kept added. covers_transformed c.args.plan.now c.add_part-in-Transformed.new.self (rw c.in-Transformed.is at B) (λ x h. kept x (c.in_ok-add_code-in-Transformed.ensures.added x h)) (λ x h. added x (c.requires c.in-Transformed.part x h)))
+    c.add_part-in-Transformed.ensures.kept c.add_part-in-Transformed.ensures.added
 
 pub returns-in_ok-left-in-Keeping : goal.returns-in_ok-left-in-Keeping
 returns-in_ok-left-in-Keeping c = λ t B.

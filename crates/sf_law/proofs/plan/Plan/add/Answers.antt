@@ -1,6 +1,7 @@
-use Rattle.std.proofs.Common.{refl, sym, subst, arith}
-use Rattle.sf_law.specs.Entries.{AreWithin}
-use Rattle.sf_law.proofs.Placed.{arena_put, within_put}
+use Rattle.std.proofs.Common.{refl, arith}
+use Rattle.sf_law.specs.Entries.{node_among}
+use Rattle.sf_law.proofs.Placed.{arena_put}
+use Rattle.sf_law.proofs.Enough.{any_asked}
 use Rattle.sf_law.proofs.Covering.{few_put, covered_put}
 use Rattle.sf_law.proofs.Kept.{added_keeps, same_keeps, adds_added}
 use Rattle.sf_law.proofs.plan.Plan.add.Goals as goal
@@ -10,7 +11,7 @@ invariant_of-self-2 c =
     let p = c.args.self.now in
     record {
       arena = arena_put p.expressions p.templates.items p.nodes.items c.push.new.self.items c.args.node _ c.push.ensures.items p.arena c.requires.held c.requires.whole c.requires.coded c.requires.called;
-      within = subst (λ b. AreWithin b c.push.new.self.items) (sym c.anew_with-anew.ensures) (within_put p.anew p.nodes.items c.push.new.self.items c.args.node _ c.push.ensures.items p.within);
+      enough = λ i. any_asked p.expressions p.templates.items (node_among c.push.new.self.items i);
       few = few_put p.nodes.items c.push.new.self.items c.args.node _ p.mentions.items c.push.ensures.items p.few;
       covered = covered_put p.expressions p.nodes.items c.push.new.self.items c.args.node _ p.mentions.items c.push.ensures.items p.few p.covered;
       bound = p.bound;

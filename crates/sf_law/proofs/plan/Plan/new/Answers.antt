@@ -1,15 +1,16 @@
-use Rattle.std.proofs.Common.{◌≤◌, length, arith, false, refl, sym, subst}
+use Rattle.std.proofs.Common.{◌≤◌, length, arith, refl, sym, subst}
 use Rattle.sf_law.specs.Headers.{NumbersFirst}
 use Rattle.sf_law.specs.Places.{ArePlaces}
-use Rattle.sf_law.specs.Entries.{ArePlanNodes, AreWithin}
+use Rattle.sf_law.specs.Entries.{ArePlanNodes, node_among}
 use Rattle.sf_law.specs.Mentioned.{AreCovered}
 use Rattle.sf_law.proofs.Placed.{arena_empty}
+use Rattle.sf_law.proofs.Enough.{any_asked}
 use Rattle.sf_law.proofs.plan.Plan.new.Goals as goal
 
 pub invariant_of-result : goal.invariant_of-result
 invariant_of-result c = record {
   arena = subst (λ ns. ArePlanNodes c.args.expressions c.args.templates.items ns) (sym c.new.ensures.items) (arena_empty c.args.expressions c.args.templates.items);
-  within = subst (λ ns. AreWithin false ns) (sym c.new.ensures.items) (λ i. refl);
+  enough = λ i. any_asked c.args.expressions c.args.templates.items (node_among c.new.result.items i);
   few = subst (λ ms. length ms ≤ length c.new.result.items) (sym c.new-2.ensures.items) (omega arith);
   covered = subst (λ ms. AreCovered c.args.expressions c.new.result.items ms) (sym c.new-2.ensures.items) (λ i x h. refl);
   bound = c.requires;

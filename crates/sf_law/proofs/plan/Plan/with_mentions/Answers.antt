@@ -1,3 +1,5 @@
+use Rattle.sf_law.specs.Arena.{plan_node_at}
+use Rattle.sf_law.proofs.Enough.{enough_all}
 use Rattle.sf_law.proofs.Covering.{covered_all}
 use Rattle.sf_law.proofs.plan.Plan.with_mentions.Goals as goal
 
@@ -6,7 +8,7 @@ invariant_of-plan c =
     let p = c.args.self in
     record {
       arena = p.arena;
-      within = p.within;
+      enough = enough_all p c.in_ok-asked.asked c.in_ok-asked.ensures.enough;
       few = c.in_ok-mentions.ensures.count;
       covered = covered_all p c.in_ok-mentions.mentions.items c.in_ok-mentions.ensures.covered;
       bound = p.bound;
@@ -15,3 +17,7 @@ invariant_of-plan c =
       same = p.same;
       nothing = p.nothing;
     }
+
+pub returns-clause-asked : goal.returns-clause-asked
+unfolding plan_node_at
+returns-clause-asked c = c.in_ok-asked.ensures.only

@@ -1,12 +1,13 @@
-use Rattle.std.proofs.Common.{[], sym, ap, subst, ◌∙◌}
+use Rattle.std.proofs.Common.{[], Some, sym, ap, subst, ◌∙◌}
 use Rattle.std.specs.Prelude.{bytes_eq}
 use Rattle.sf_expr.specs.Arena.{name_at, placed_at}
 use Rattle.sf_law.specs.Places.{last_parameter}
 use Rattle.sf_mean.specs.Lives.{process_of}
 use Rattle.sf_state.specs.declared.env.Call.{Call}
+use Rattle.sf_state.specs.declared.env.Running.{Running}
 use Rattle.sf_state.specs.Names.{handed_of, given_at}
 use Rattle.sf_state.specs.Standing.{IsNames, IsFound}
-use Rattle.sf_state.proofs.Scopes.{found_value, found_outside, found_further, names_called, found_called}
+use Rattle.sf_state.proofs.Scopes.{found_value, found_outside, found_there, found_further, names_called, found_called}
 use Rattle.sf_state.proofs.env.Env.+running.Goals as goal
 
 pub returns-in-Some : goal.returns-in-Some
@@ -26,6 +27,15 @@ returns-in-None t c = λ φ e N.
     found_outside φ p c.args.name.now b.pattern b.value b.around _ e (rw (sym pattern, sym value) (c.in-None.ensures []))
     (λ e M. c.running.ensures φ e (subst (λ a. IsNames φ p a.around e) (sym c.deref-in-None.ensures) M)) (rw c.in-Bound.is at N)
 
+pub returns-then-eq : goal.returns-then-eq
+returns-then-eq t c = λ φ e N.
+    let p = c.args.plan.now in
+    let b = c.in-Running.running.value in
+    let name = c.name_of.ensures ∙ ap (λ a. name_at c.expressions-in-Running.result.now a.name) c.deref-in-Running.ensures ∙ ap (λ x. name_at x b.name) c.expressions-in-Running.ensures in
+    let found : IsFound φ p c.args.name.now (Some b.handed) (process_of c.args.name.now e) =
+    found_there φ p c.args.name.now b e (ap (λ n. bytes_eq c.args.name.now n) (sym name) ∙ sym c.eq.ensures ∙ c.if-eq.true) (rw c.in-Running.is at N) in
+    subst (λ (r : Running). IsFound φ p c.args.name.now (Some r.handed) (process_of c.args.name.now e)) (sym c.deref-then-eq.ensures) found
+
 pub returns-else-eq : goal.returns-else-eq
 returns-else-eq t c = λ φ e N.
     let p = c.args.plan.now in
@@ -38,4 +48,4 @@ pub returns-in-Called : goal.returns-in-Called
 returns-in-Called t c = λ φ e N.
     let p = c.args.plan.now in
     let given = c.handed.ensures ∙ ap (λ (k : Call). handed_of (given_at (last_parameter c.args.name.now (names_called p k)) k.arguments.items)) c.deref-in-Called.ensures in
-    subst (λ r. IsFound φ p r (process_of c.args.name.now e)) (sym given) (found_called φ p c.args.name.now c.in-Called.call e (rw c.in-Called.is at N))
+    subst (λ r. IsFound φ p c.args.name.now r (process_of c.args.name.now e)) (sym given) (found_called φ p c.args.name.now c.in-Called.call e (rw c.in-Called.is at N))
