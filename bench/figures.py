@@ -2,10 +2,10 @@
 
     python3 bench/figures.py          writes them, from the sources and from bench/figures.json
     python3 bench/figures.py gate     runs ./test before, and keeps the processor time of each crate's checks in bench/figures.json
-    python3 bench/figures.py first    the same of the first ./sfplay, in a checkout where nothing is built
+    python3 bench/figures.py first    the same of ./sfplay --prove, in a checkout where nothing is built
     python3 bench/figures.py speed    runs bench/instructions.py, keys.py, large.py, run.py, compare.py and stack.py, and writes what they print too
 
-Words after `gate` and `first` are the command that is run in place of ./test or ./sfplay (what it doesn't check keeps its figures);
+Words after `gate` and `first` are the command that is run in place of ./test or ./sfplay --prove (what it doesn't check keeps its figures);
 words after `speed` go to all six scripts. The time of a check is read from /proc, five times in a second, so up to a fifth of a second
 of each is lost. A run that fails changes nothing.
 """
@@ -22,7 +22,7 @@ from collections import defaultdict
 
 TOP = os.path.realpath(os.path.join(os.path.dirname(os.path.abspath(__file__)), ".."))
 KEPT = os.path.join(TOP, "bench", "figures.json")
-COMMANDS = {"gate": ["./test"], "first": ["./sfplay", "examples/previous.net"]}
+COMMANDS = {"gate": ["./test"], "first": ["./sfplay", "--prove"]}
 TICKS = os.sysconf("SC_CLK_TCK")
 PARTS = ("src", "specs", "proofs")
 # Forms with the names that they have in the sources.

@@ -74,7 +74,7 @@ def main():
     parser.add_argument("--exe", default=os.path.join(HERE, "..", "crates", "sfplay", "out", "sfplay"))
     exe = os.path.abspath(parser.parse_args().exe)
     if not os.path.exists(exe):
-        sys.exit(f"stack: {exe} is not there: build it with ./sfplay")
+        sys.exit(f"stack: {exe} is not there: ./sfplay --prove builds it")
     print(f"{'one inside another':20} {'nodes':>6} {'stack, KiB':>11} {'a node, bytes':>14} {'rewritten, KiB':>15}")
     with tempfile.TemporaryDirectory() as place:
         path = os.path.join(place, "network")

@@ -1,4 +1,4 @@
-"""Plays the worked rows of rows.json and the networks of examples/ with an executable `sfplay`, each with and without --plain.
+"""Plays the worked rows of rows.json and the networks of examples/ and recipes/ with an executable `sfplay`, each with and without --plain.
 
     python3 rows/play.py --exe PATH [--only NAME] [--timeout SECONDS]
 
@@ -18,7 +18,8 @@ import tempfile
 import threading
 
 HERE = os.path.dirname(os.path.abspath(__file__))
-EXAMPLES = os.path.join(HERE, "..", "examples")
+# The folders of networks, each with what one of theirs is called.
+FOLDERS = {"examples": "example", "recipes": "recipe"}
 # The words for the modes in which a row is played, by its key "plain".
 MODES = {None: ([], ["--plain"]), True: (["--plain"],), False: ([],)}
 # A text or a comment, which has no forms, or a word or a symbol.
@@ -39,19 +40,24 @@ def text_of(given):
     return b"".join(text_of(text) * times for text, times in given)
 
 
-def example(name):
-    """An example as a row: NAME.net is played on NAME.in and writes NAME.out, whose last line tells the status."""
-    network, lines, output = (open(os.path.join(EXAMPLES, name + end), encoding="utf-8").read() for end in (".net", ".in", ".out"))
+def example(folder, name):
+    """A network of a folder as a row: NAME.net is played on NAME.in and writes NAME.out, whose last line tells the status."""
+    path = os.path.join(HERE, "..", folder, name)
+    network, lines, output = (open(path + end, encoding="utf-8").read() for end in (".net", ".in", ".out"))
     last = output.splitlines()[-1]
     status = 4 if last.startswith("! line ") else 3 if last.startswith("! ") else 0
-    return {"name": f"example {name}", "network": network, "arguments": [], "input": lines, "output": output, "errors": "", "status": status}
+    name = f"{FOLDERS[folder]} {name}"
+    return {"name": name, "network": network, "arguments": [], "input": lines, "output": output, "errors": "", "status": status}
 
 
 def rows_and_examples():
-    """The rows of rows.json, and behind them the examples."""
+    """The rows of rows.json, and behind them the examples and recipes."""
     with open(os.path.join(HERE, "rows.json"), encoding="utf-8") as file:
         rows = json.load(file)
-    return rows + [example(name[: -len(".net")]) for name in sorted(os.listdir(EXAMPLES)) if name.endswith(".net")]
+    for folder in FOLDERS:
+        names = sorted(name for name in os.listdir(os.path.join(HERE, "..", folder)) if name.endswith(".net"))
+        rows += [example(folder, name[: -len(".net")]) for name in names]
+    return rows
 
 
 def runs(row):
