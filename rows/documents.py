@@ -1,4 +1,5 @@
-"""Runs the commands that the documents show, with an executable `sfplay`, and compares what they write with what is shown.
+"""Runs the commands that the documents show, with an executable `sfplay`, and compares what they write with what is shown; and counts
+the words of their sentences.
 
     python3 rows/documents.py --exe PATH
 
@@ -16,7 +17,11 @@ import sys
 import tempfile
 
 TOP = os.path.join(os.path.dirname(os.path.abspath(__file__)), "..")
-DOCUMENTS = ("README.md", "docs/RECIPES.md")
+# (The commands of docs/EMBEDDING.md need more than the program: rows/embedding.py runs them.)
+DOCUMENTS = ("README.md", "docs/TOUR.md", "docs/RECIPES.md")
+# Pages of text, of which no sentence has more than 40 words.
+PAGES = ("README.md", "CHANGES.md", *(f"docs/{name}.md" for name in ("ARCHITECTURE", "DECISIONS", "EMBEDDING", "FROM_YAMPA", "LANGUAGE", "MEANING", "PROVED", "RECIPES", "TOUR")))
+MOST = 40
 # Lines behind each other that are indented.
 BLOCK = re.compile(r"(?:^    .*\n)+", re.MULTILINE)
 # A paragraph that begins with the name of a file, and the network that is shown behind it.
@@ -72,6 +77,15 @@ def faults(text, place):
         yield "" if written(command, place) == read(f"docs/{name}") else f"docs/{name} is not what is drawn"
 
 
+def long_sentences(text):
+    """Each sentence of a page, outside of what is indented, that has more than the most words."""
+    for line in re.sub(r"^ {4}.*\n", "", text, flags=re.MULTILINE).split("\n"):
+        for cell in line.split("|") if line.startswith("|") else [line]:
+            for sentence in re.split(r"(?<=[.!?])\s+", cell):
+                if len(sentence.split()) > MOST:
+                    yield sentence.strip()
+
+
 def main():
     parser = argparse.ArgumentParser()
     parser.add_argument("--exe", required=True)
@@ -84,6 +98,11 @@ def main():
                 passed, failed = passed + (not fault), failed + bool(fault)
                 if fault:
                     print(f"{name}: {fault}")
+    for name in PAGES:
+        found = list(long_sentences(read(name)))
+        passed, failed = passed + (not found), failed + bool(found)
+        for sentence in found:
+            print(f"{name}: a sentence of {len(sentence.split())} words: {sentence}")
     print(f"{passed} passed, {failed} failed")
     return 1 if failed else 0
 

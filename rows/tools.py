@@ -147,6 +147,35 @@ def drawn(tools):
     yield "nothing to draw", tools.call("picture.py", lines="! line 1 BadLine\n", has_program=False) == ("", 1)
 
 
+def dumped(tools):
+    lines = '? level -1\n> 0 (none,true)\n? level -1\n> 10 (event "a b",false)\n? level 2\n> 11 (event "a b",false)\n'
+    wanted = """$timescale 1 ms $end
+$scope module network $end
+$var integer 64 n0 probe_level $end
+$var wire 1 n1 out.first.occurs $end
+$var wire 1 n2 out.second $end
+$var string 1 n3 out.first.payload $end
+$upscope $end
+$enddefinitions $end
+#0
+b1111111111111111111111111111111111111111111111111111111111111111 n0
+0n1
+1n2
+#10
+1n1
+sa_b n3
+0n2
+#11
+b10 n0
+#12
+0n1
+"""
+    yield "a dump of numbers, truths, events and texts", tools.call("waveform.py", lines=lines, has_program=False) == (wanted, 0)
+    output, status = tools.call("waveform.py", lines="> 0 1\n> 5 2\n> 3 1\n", has_program=False)
+    yield "a dump ends where the time goes back", (output.splitlines()[-4:], status) == (["b1 n0", "#5", "b10 n0", "#6"], 1)
+    yield "nothing to dump", tools.call("waveform.py", lines="! line 1 BadLine\n", has_program=False) == ("", 1)
+
+
 def compared(tools):
     for name, lines, output in (
         ("right", "0 none\n", "> 0 0\n"),
@@ -200,7 +229,7 @@ def no_program(tools):
         yield f"{tool} has no program", tools.call(tool, "--exe", os.path.join(tools.place, "none"), *words)[1] == 1
 
 
-TESTS = (explored, explored_in_several_runs, by_hand, taken_apart, drawn, compared, timed, no_program)
+TESTS = (explored, explored_in_several_runs, by_hand, taken_apart, drawn, dumped, compared, timed, no_program)
 
 
 def main():

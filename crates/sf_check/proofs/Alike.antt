@@ -31,10 +31,10 @@ use Rattle.sf_term.specs.declared.node.Node.{Node}
 use Rattle.sf_term.specs.declared.node.Node.TheVariants as terms
 use Rattle.sf_term.specs.declared.program.Program.{Program}
 use Rattle.sf_term.specs.Headers.{Header}
-use Rattle.sf_term.specs.Trees.{Primitive, bare, probe, never, with_value, timed, selected, arrow, accumulated, fused, Term, primitive, Reference, reference, started, call, Arguments, no_arguments, value_argument, process_argument, closed_argument, joined, sided, headed, transformed, switching, keeping, staged, Template, Templates}
+use Rattle.sf_term.specs.Trees.{Primitive, bare, probe, never, with_value, timed, selected, arrow, accumulated, fused, Term, primitive, Reference, reference, started, call, Arguments, no_arguments, value_argument, process_argument, collection_argument, closed_argument, joined, sided, headed, transformed, switching, keeping, gathered, releasing, editing, staged, Template, Templates}
 use Rattle.sf_term.specs.Arena.{term_number, tree, term_node_at, term_entry_of, expressions_of, arguments_under, arguments_of, headers_of, template_in, templates_of, ArgumentBelow, TermPartsBelow}
-use Rattle.sf_mean.specs.Contexts.{NameKind, value, process, Bindings, parameters_inside, context_with, bindings_inside, with_name_of, values_in}
-use Rattle.sf_mean.specs.Typing.{PrimitiveTakes, bare_takes, probe_takes, never_takes, value_takes, timed_takes, selected_takes, accumulated_takes, arrow_takes, fused_takes, Takes, takes, FormTakes, primitive_takes, started_takes, call_takes, ArgumentsFit, no_argument_fits, value_fits, process_fits, closed_fits, sequence_takes, parallel_takes, fan_takes, first_takes, second_takes, loop_takes, initialized_takes, replaced_takes, followed_takes, transformed_takes, switch_takes, recurring_takes, keeping_takes, stages_take, Accepted}
+use Rattle.sf_mean.specs.Contexts.{NameKind, value, process, collection, Bindings, parameters_inside, context_with, bindings_inside, with_name_of, values_in}
+use Rattle.sf_mean.specs.Typing.{PrimitiveTakes, bare_takes, probe_takes, never_takes, value_takes, timed_takes, selected_takes, accumulated_takes, arrow_takes, fused_takes, Takes, takes, FormTakes, primitive_takes, started_takes, call_takes, ArgumentsFit, no_argument_fits, value_fits, process_fits, collection_fits, closed_fits, sequence_takes, parallel_takes, fan_takes, first_takes, second_takes, loop_takes, initialized_takes, replaced_takes, followed_takes, transformed_takes, switch_takes, recurring_takes, keeping_takes, gathered_takes, releasing_takes, editing_takes, stages_take, Accepted}
 use Rattle.sf_check.specs.Answering.{primitive_in}
 use Rattle.sf_check.specs.Calling.{IsCalledAlike, AreCalledAlike}
 use Rattle.sf_check.proofs.Made.{made, tree_made}
@@ -58,7 +58,7 @@ module _ (fs gs : TypesByName) where
   abbrev pub FunctionAlike : Function → Type 0
   FunctionAlike (function p i) = Alike i
 
-  -- programs have no functions made into one, and no pipelines
+  -- programs have no functions made into one, no collections and no pipelines
   abbrev pub PrimitiveAlike : Primitive → Type 0
   PrimitiveAlike (bare k) = Unit {0}
   PrimitiveAlike (probe k) = Unit {0}
@@ -80,6 +80,9 @@ module _ (fs gs : TypesByName) where
     TermAlike (transformed f t) = FunctionAlike f × TermAlike t
     TermAlike (switching w t p u) = TermAlike t × TermAlike u
     TermAlike (keeping w t q k p u) = TermAlike t × TermAlike q × TermAlike u
+    TermAlike (gathered i) = ⊥
+    TermAlike (releasing w i q k p u) = ⊥
+    TermAlike (editing w i k p u) = ⊥
     TermAlike (staged x f g) = ⊥
 
     pub ReferenceAlike : Reference → Type 0
@@ -90,6 +93,7 @@ module _ (fs gs : TypesByName) where
     ArgumentsAlike no_arguments = Unit {0}
     ArgumentsAlike (value_argument e vs) = Alike e × ArgumentsAlike vs
     ArgumentsAlike (process_argument t vs) = TermAlike t × ArgumentsAlike vs
+    ArgumentsAlike (collection_argument i vs) = ⊥
     ArgumentsAlike (closed_argument t vs) = ⊥
 
   adds_functions : {p : Pattern} {t : Kind} {R S : Names} → AddsNames p t R S → functions_of S ≡ functions_of R
@@ -118,6 +122,7 @@ module _ (fs gs : TypesByName) where
   functions_beside : (x : Name) (k : NameKind) (R : Names) → functions_of (with_name_of x k R) ≡ functions_of R
   functions_beside x (value t) R = refl
   functions_beside x (process a b) R = refl
+  functions_beside x (collection k a b) R = refl
 
   functions_around : (bs : Bindings) → functions_of (values_in fs bs) ≡ fs
   functions_around [] = refl
@@ -126,6 +131,7 @@ module _ (fs gs : TypesByName) where
   types_beside : (x : Name) (k : NameKind) (R : Names) → with_types gs (with_name_of x k R) ≡ with_name_of x k (with_types gs R)
   types_beside x (value t) R = refl
   types_beside x (process a b) R = refl
+  types_beside x (collection k a b) R = refl
 
   types_around : (bs : Bindings) → with_types gs (values_in fs bs) ≡ values_in gs bs
   types_around [] = refl
@@ -178,12 +184,16 @@ module _ (fs gs : TypesByName) where
       form_over bs k (keeping_takes {k = x} {p = p} {a = a} {b = b} {c = c} t q h u) =
           let inner : Bindings = (x, process a b) ∷ bs in
           keeping_takes (takes_over bs k.0 t) (takes_over bs k.1 q) (bound_around inner h) (takes_over (bindings_inside p c inner) k.2 u)
+      form_over bs k (gathered_takes i) = absurd k
+      form_over bs k (releasing_takes i q h u) = absurd k
+      form_over bs k (editing_takes i h u) = absurd k
       form_over bs k (stages_take f g) = absurd k
 
       arguments_over : (bs : Bindings) {vs : Arguments} {qs : Bindings} → ArgumentsAlike vs → ArgumentsFit (context_with fs bs ts) vs qs → ArgumentsFit (context_with gs bs ts) vs qs
       arguments_over bs k no_argument_fits = no_argument_fits
       arguments_over bs k (value_fits h rest) = value_fits (typed_around bs k.0 h) (arguments_over bs k.1 rest)
       arguments_over bs k (process_fits h rest) = process_fits (takes_over bs k.0 h) (arguments_over bs k.1 rest)
+      arguments_over bs k (collection_fits i rest) = absurd k
       arguments_over bs k (closed_fits h rest) = absurd k
 
   -- ## Arenas of expressions

@@ -47,12 +47,12 @@ use Rattle.sf_term.specs.declared.program.Program.{Program}
 use Rattle.sf_term.specs.Entries.{absent_payload}
 use Rattle.sf_term.specs.Arena.{term_number, tree, term_node_at, term_entry_of, term_spot_at, expressions_of, arguments_under, ArgumentBelow, TermPartsBelow}
 use Rattle.sf_term.proofs.Kept.{parts_below}
-use Rattle.sf_mean.specs.Contexts.{NameKind, value, process, process_named, Bindings, bindings_inside, Signature, signature_named, Context, names_of_values, inside_pattern, inside_process}
+use Rattle.sf_mean.specs.Contexts.{NameKind, value, process, collection, process_named, Bindings, bindings_inside, Signature, signature_named, Context, names_of_values, inside_pattern, inside_process}
 use Rattle.sf_mean.specs.Typing.{bare_kind, value_kind, takes_input, takes_time, timed_kind, takes_number, selected_kind, accumulated_argument, accumulated_kind, PrimitiveTakes, bare_takes, probe_takes, never_takes, value_takes, timed_takes, selected_takes, accumulated_takes, arrow_takes, Takes, FormTakes, primitive_takes, started_takes, call_takes, no_argument_fits, ParameterFits, sequence_takes, parallel_takes, fan_takes, first_takes, second_takes, loop_takes, replaced_takes, transformed_takes, keeping_takes}
 use Rattle.sf_operator.specs.Kinds.{same_kind, payload_of}
 use Rattle.sf_operator.proofs.SameKinds.{same_is, is_same, payload_is}
 use Rattle.sf_mean.proofs.Inferred.{PartsAre, two_parts, no_parts, parts_are, names_inside, output_fits}
-use Rattle.sf_check.specs.Breaking.{IsNoEventBeside, kind_named, ProcessRefused, pattern_in, name_in, keeping_inside, BindsInside, Exceeds, PrimitiveBreaks, argument_refused, accumulator_refused, made_refused, value_refused, bare_refused, never_refused, given_refused, timed_value_refused, input_differs, time_outside, timed_refused, selected_refused, number_outside, start_value_refused, accumulation_breaks, function_refused, FormBreaks, primitive_breaks, no_process, process_differs, value_keeps, process_keeps, argument_refused, process_for_value, CallBreaks, no_template, other_number, argument_breaks, call_differs, call_breaks, parallel_input, parallel_exceeds, fan_exceeds, side_input, first_exceeds, second_exceeds, start_refused, fed_exceeds, head_differs, transform_refused, transform_differs, BodyWanted, after_source, beside_input, BodyBreaks, pattern_refused, body_differs, source_differs, recurring_input, switch_body_breaks, observed_exceeds, observer_differs, keeping_body_breaks, Reaches, call_argument, sequence_left, sequence_right, parallel_left, parallel_right, fan_left, fan_right, first_part, second_part, head_part, transformed_part, switch_source, recurring_first, switch_body, keeping_source, keeping_observer, keeping_body, TermBreaks, itself, within}
+use Rattle.sf_check.specs.Breaking.{IsNoEventBeside, kind_named, ProcessRefused, pattern_in, name_in, keeping_inside, BindsInside, Exceeds, PrimitiveBreaks, argument_refused, accumulator_refused, made_refused, value_refused, bare_refused, never_refused, given_refused, timed_value_refused, input_differs, time_outside, timed_refused, selected_refused, number_outside, start_value_refused, accumulation_breaks, function_refused, FormBreaks, primitive_breaks, no_process, process_differs, value_keeps, process_keeps, argument_refused, process_for_value, process_for_collection, CallBreaks, no_template, other_number, argument_breaks, call_differs, call_breaks, parallel_input, parallel_exceeds, fan_exceeds, side_input, first_exceeds, second_exceeds, start_refused, fed_exceeds, head_differs, transform_refused, transform_differs, BodyWanted, after_source, beside_input, BodyBreaks, pattern_refused, body_differs, source_differs, recurring_input, switch_body_breaks, observed_exceeds, observer_differs, keeping_body_breaks, Reaches, call_argument, sequence_left, sequence_right, parallel_left, parallel_right, fan_left, fan_right, first_part, second_part, head_part, transformed_part, switch_source, recurring_first, switch_body, keeping_source, keeping_observer, keeping_body, TermBreaks, itself, within}
 use Rattle.sf_check.specs.Answering.{primitive_in, ArgumentFits}
 use Rattle.sf_check.proofs.Made.{made}
 use Rattle.sf_check.proofs.Terms.{form_ok, wanted_takes, IsAmongOutputs, output_reached, output_differs, output_takes}
@@ -367,6 +367,7 @@ module _ (p : Program) (Γ : Context) (around : ContextFits Γ) where
       each : (o : Option NameKind) → kind_named (name_in p m) Γ.bindings ≡ o → IsAnswered p Γ t a
       each None e = broken t _ a is k (no_process (subst (λ o. ProcessRefused o n (breach_of UnknownName n)) (sym e) refl))
       each (Some (value u)) e = broken t _ a is k (no_process (subst (λ o. ProcessRefused o n (breach_of Mismatch n)) (sym e) refl))
+      each (Some (collection c b d)) e = broken t _ a is k (no_process (subst (λ o. ProcessRefused o n (breach_of Mismatch n)) (sym e) refl))
       each (Some (process b c)) e = elim (kinds_or a b) [
         | inr other ↦ broken t _ a is k (process_differs e other)
         | inl same ↦
@@ -383,10 +384,12 @@ module _ (p : Program) (Γ : Context) (around : ContextFits Γ) where
   abbrev fits_kind : Kind → NameKind → Bool
   fits_kind u (value t) = same_kind u t
   fits_kind u (process b c) = false
+  fits_kind u (collection k b c) = false
 
   kind_fits : (e : ExprId) (u : Kind) → HasType (names_of_values Γ) (expression (expressions_of p) e) u → (q : NameKind) → IsTrue (fits_kind u q) ↔ ArgumentFits p Γ (arguments.Value e) q
   kind_fits e u h (value t) = (λ same. subst (HasType (names_of_values Γ) (expression (expressions_of p) e)) (same_is u t same) h, λ other. ap (same_kind u) (expression_one other h) ∙ is_same u)
   kind_fits e u h (process b c) = (λ same. absurd cc, λ none. absurd none)
+  kind_fits e u h (collection k b c) = (λ same. absurd cc, λ none. absurd none)
 
   process_fits : (j : TermId) (b c d : Kind) → Takes Γ (tree p j) b d → IsTrue (same_kind d c) ↔ ArgumentFits p Γ (arguments.Process j) (process b c)
   process_fits j b c d h = (λ same. subst (Takes Γ (tree p j) b) (same_is d c same) h, λ other. ap (same_kind d) (takes_one other h) ∙ is_same d)
@@ -412,6 +415,7 @@ module _ (p : Program) (Γ : Context) (around : ContextFits Γ) where
         | inl u ↦ of_arguments ws rs (fit && fits_kind u.0 q) (next_so fit (fits_kind u.0 q) so (value_keeps u.1) (kind_fits e u.0 u.1 q)) (All-tail (ArgumentBelow (term_number t)) (arguments.Value e) ws below) (All-tail FitsIn (x, q) rs fits)
       ]
       of_arguments (arguments.Process j ∷ ws) ((x, value u) ∷ rs) fit so below fits = breaks_call named (argument_breaks so.left process_for_value)
+      of_arguments (arguments.Process j ∷ ws) ((x, collection c b d) ∷ rs) fit so below fits = breaks_call named (argument_breaks so.left process_for_collection)
       of_arguments (arguments.Process j ∷ ws) ((x, process b c) ∷ rs) fit so below fits =
           let small = All-head FitsIn (x, process b c) rs fits in
           elim (parts j (All-head (ArgumentBelow (term_number t)) (arguments.Process j) ws below) b small.0) [

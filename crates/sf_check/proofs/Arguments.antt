@@ -16,7 +16,7 @@ use Rattle.sf_term.specs.Arena.{tree, arguments_of}
 use Rattle.sf_term.proofs.Kept.{expression_in}
 use Rattle.sf_mean.specs.Contexts.{NameKind, process, Bindings, Signature, Context, names_of_values}
 use Rattle.sf_mean.specs.Typing.{Takes, ArgumentsFit, no_argument_fits, value_fits, process_fits}
-use Rattle.sf_check.specs.Breaking.{ArgumentKeeps, value_keeps, process_keeps, ArgumentsLeft, all_left, after_one, ArgumentBreaks, argument_refused, process_for_value, CallBreaks, no_template, other_number, argument_breaks, call_differs}
+use Rattle.sf_check.specs.Breaking.{ArgumentKeeps, value_keeps, process_keeps, ArgumentsLeft, all_left, after_one, ArgumentBreaks, argument_refused, process_for_value, process_for_collection, CallBreaks, no_template, other_number, argument_breaks, call_differs}
 
 pub fit_length : (p : Program) {Γ : Context} (vs : List Argument) {qs : Bindings} → ArgumentsFit Γ (arguments_of p vs) qs → length vs ≡ length qs
 fit_length p [] no_argument_fits = refl
@@ -63,6 +63,7 @@ module _ {p : Program} {Γ : Context} where
   pub breaks_keeps : {s : Spot} {v : Argument} {k : NameKind} {r : Breach} → ArgumentBreaks p Γ s v k r → ArgumentKeeps p Γ v k → ⊥
   breaks_keeps (argument_refused h) (value_keeps k) = refused_untyped h k
   breaks_keeps process_for_value keeps = elim keeps [ ]
+  breaks_keeps process_for_collection keeps = elim keeps [ ]
 
   -- a term where a process stands breaks no rule of its call
   pub no_breaks : {s : Spot} {t : TermId} {a b : Kind} {r : Breach} → ArgumentBreaks p Γ s (arguments.Process t) (process a b) r → ⊥
@@ -71,10 +72,12 @@ module _ {p : Program} {Γ : Context} where
   argument_once : {s : Spot} {v : Argument} {k : NameKind} {e f : Breach} → ArgumentBreaks p Γ s v k e → ArgumentBreaks p Γ s v k f → e ≡ f
   argument_once (argument_refused h) (argument_refused k) = refused_once h k
   argument_once process_for_value process_for_value = refl
+  argument_once process_for_collection process_for_collection = refl
 
   breaks_unfit : {s : Spot} {v : Argument} (vs : List Argument) {x : Name} {k : NameKind} {qs : Bindings} {r : Breach} → ArgumentBreaks p Γ s v k r → ArgumentsFit Γ (arguments_of p (v ∷ vs)) ((x, k) ∷ qs) → ⊥
   breaks_unfit vs (argument_refused {e = e} h) (value_fits {t = t} k rest) = refused_untyped h (subst (λ i. HasType (names_of_values Γ) i t) (sym (expression_in p e)) k)
   breaks_unfit vs process_for_value fit = elim fit [ ]
+  breaks_unfit vs process_for_collection fit = elim fit [ ]
 
   -- a call that breaks a rule of its own takes no inputs
   pub call_untyped : {s : Spot} {vs : List Argument} {a : Kind} {g : Signature} {o : Option Signature} {r : Breach} → CallBreaks p Γ s vs a o r → o ≡ Some g → ArgumentsFit Γ (arguments_of p vs) g.parameters → a ≢ g.input

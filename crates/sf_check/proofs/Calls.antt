@@ -23,7 +23,7 @@ use Rattle.sf_term.specs.declared.program.Program.{Program}
 use Rattle.sf_term.specs.Parameters.{PlacedParameter, binding_of, parameters_of}
 use Rattle.sf_term.specs.Arena.{tree, term_node_at, term_spot_at, expressions_of, arguments_under, arguments_of}
 use Rattle.sf_term.proofs.Kept.{expression_in}
-use Rattle.sf_mean.specs.Contexts.{NameKind, value, process, Bindings, Signature, signature_named, Context, names_of_values}
+use Rattle.sf_mean.specs.Contexts.{NameKind, value, process, collection, Bindings, Signature, signature_named, Context, names_of_values}
 use Rattle.sf_mean.specs.Typing.{Takes, FormTakes, call_takes, ArgumentsFit, no_argument_fits, value_fits, process_fits}
 use Rattle.sf_check.specs.Breaking.{name_in, ArgumentKeeps, value_keeps, process_keeps, ArgumentsLeft, all_left, ArgumentBreaks, argument_refused, process_for_value, CallBreaks, no_template, other_number, argument_breaks, call_differs, call_breaks, Reaches, call_argument, TermBreaks, within}
 use Rattle.sf_check.specs.Answering.{ArgumentFits, ArgumentStops, stops_itself, stops_within, AnswersArgument}
@@ -57,6 +57,7 @@ module _ (p : Program) (Γ : Context) (s : Spot) (v : Argument) (k : NameKind) w
       each : (k : NameKind) → IsTrue fits ↔ (k ≡ value t) → IsTrue fits ↔ ArgumentFits p Γ (arguments.Value i) k
       each (value u) same = (λ z. subst (ArgumentFits p Γ (arguments.Value i)) (sym (same.0 z)) h, λ other. same.1 (ap value (expression_one other h)))
       each (process a b) same = (λ z. let e = same.0 z in absurd cc, λ none. absurd none)
+      each (collection c a b) same = (λ z. let e = same.0 z in absurd cc, λ none. absurd none)
 
   module _ (t : TermId) (is : v ≡ arguments.Process t) where
     pub misplaced : (u : Kind) → k ≡ value u → (e : Refusal) → e ≡ broken Mismatch s → OrMemory (ArgumentStops p Γ s v k) e
@@ -87,14 +88,18 @@ module _ (p : Program) {Γ : Context} where
   fits_before : (v : Argument) (x : Name) (k : NameKind) (ws : List Argument) {rs : Bindings} → ArgumentFits p Γ v k → ArgumentsFit Γ (arguments_of p ws) rs → ArgumentsFit Γ (arguments_of p (v ∷ ws)) ((x, k) ∷ rs)
   fits_before (arguments.Value i) x (value t) ws h rest = value_fits (subst (λ e. HasType (names_of_values Γ) e t) (expression_in p i) h) rest
   fits_before (arguments.Value i) x (process a b) ws h rest = absurd h
+  fits_before (arguments.Value i) x (collection k a b) ws h rest = absurd h
   fits_before (arguments.Process u) x (value t) ws h rest = absurd h
   fits_before (arguments.Process u) x (process a b) ws h rest = process_fits h rest
+  fits_before (arguments.Process u) x (collection k a b) ws h rest = absurd h
 
   first_fits : (v : Argument) (x : Name) (k : NameKind) (ws : List Argument) {rs : Bindings} → ArgumentsFit Γ (arguments_of p (v ∷ ws)) ((x, k) ∷ rs) → ArgumentFits p Γ v k
   first_fits (arguments.Value i) x (value t) ws (value_fits h rest) = subst (λ e. HasType (names_of_values Γ) e t) (sym (expression_in p i)) h
   first_fits (arguments.Value i) x (process a b) ws fit = elim fit [ ]
+  first_fits (arguments.Value i) x (collection k a b) ws fit = elim fit [ ]
   first_fits (arguments.Process u) x (value t) ws fit = elim fit [ ]
   first_fits (arguments.Process u) x (process a b) ws (process_fits h rest) = h
+  first_fits (arguments.Process u) x (collection k a b) ws fit = elim fit [ ]
 
 module _ {p : Program} {Γ : Context} where
   pub first_so : {vs : List Argument} {qs : Bindings} → length vs ≡ length qs → ArgumentsSo p Γ vs qs vs qs true

@@ -24,7 +24,7 @@ use Rattle.sf_expr.specs.Typing.{Names, only_functions, typed_name, untyped_name
 use Rattle.sf_expr.proofs.Bound.{binds_with, bound_within}
 use Rattle.sf_term.specs.Parameters.{PlacedParameter, binding_of, parameters_of}
 use Rattle.sf_term.specs.Trees.{Templates}
-use Rattle.sf_mean.specs.Contexts.{NameKind, value, process, types_of_process, process_named, Bindings, parameters_inside, context_with, values_in, bindings_inside, inside_pattern, inside_process}
+use Rattle.sf_mean.specs.Contexts.{NameKind, value, process, collection, types_of_process, process_named, Bindings, parameters_inside, context_with, values_in, bindings_inside, inside_pattern, inside_process}
 use Rattle.sf_mean.specs.Typing.{ParameterFits}
 use Rattle.sf_check.specs.Standing.{kind_meant, bindings_from, inside_names}
 use Rattle.sf_check.specs.Breaking.{kind_named, ProcessRefused, BindsInside}
@@ -149,6 +149,7 @@ is_process x bs {a} {b} h = each (kind_named x bs) refl (sym (found_process x bs
     each None e h = absurd cc
     each (Some (value t)) e h = absurd cc
     each (Some (process c d)) e h = ap (λ (k : Kind × Kind). Some (process k.0 k.1)) (same_Some (c, d) (a, b) h)
+    each (Some (collection k c d)) e h = absurd cc
 
 -- ## Parameters
 

@@ -10,7 +10,7 @@ use Rattle.sf_expr.specs.Inference.{NamesFit}
 use Rattle.sf_term.specs.declared.program.Program.{Program}
 use Rattle.sf_term.specs.Trees.{Template, Templates}
 use Rattle.sf_term.specs.Arena.{templates_of}
-use Rattle.sf_mean.specs.Contexts.{NameKind, value, process, Bindings, Signature, signature_of, signature_named, process_named, values_in, parameters_inside, context_of}
+use Rattle.sf_mean.specs.Contexts.{NameKind, value, process, collection, Bindings, Signature, signature_of, signature_named, process_named, values_in, parameters_inside, context_of}
 use Rattle.sf_mean.specs.Typing.{ParameterFits}
 use Rattle.sf_check.specs.Laws.{SignatureFits, HeadersFit, ContextFits}
 
@@ -25,26 +25,28 @@ module _ (fs : TypesByName) where
   none_bound : BindingsFit []
   none_bound = (λ x t e. absurd (none-some t e), λ x a b e. absurd (none-some (a, b) e))
 
+  -- a name that stands for no value, or for no process, before others
+  no_value : (bs : Bindings) → BindingsFit bs → (x : Name) (t : Kind) (s : Bool) → cond s None (type_of_name x (values_in fs bs)) ≡ Some t → Fits t
+  no_value bs around x t true h = absurd (none-some t h)
+  no_value bs around x t false h = around.0 x t h
+
+  no_process : (bs : Bindings) → BindingsFit bs → (x : Name) (a b : Kind) (s : Bool) → cond s None (process_named x bs) ≡ Some (a, b) → Fits b
+  no_process bs around x a b true h = absurd (none-some (a, b) h)
+  no_process bs around x a b false h = around.1 x a b h
+
   -- so they do with one more name
   one_bound : (y : Name) (k : NameKind) (bs : Bindings) → ParameterFits k → BindingsFit bs → BindingsFit ((y, k) ∷ bs)
-  one_bound y (value u) bs fits around = (λ x t. value_test x t (bytes_eq x y), λ x a b. process_test x a b (bytes_eq x y))
+  one_bound y (value u) bs fits around = (λ x t. value_test x t (bytes_eq x y), λ x a b. no_process bs around x a b (bytes_eq x y))
     where
       value_test : (x : Name) (t : Kind) (s : Bool) → cond s (Some u) (type_of_name x (values_in fs bs)) ≡ Some t → Fits t
       value_test x t true h = subst Fits (same_Some _ _ h) fits
       value_test x t false h = around.0 x t h
-
-      process_test : (x : Name) (a b : Kind) (s : Bool) → cond s None (process_named x bs) ≡ Some (a, b) → Fits b
-      process_test x a b true h = absurd (none-some (a, b) h)
-      process_test x a b false h = around.1 x a b h
-  one_bound y (process c d) bs fits around = (λ x t. value_test x t (bytes_eq x y), λ x a b. process_test x a b (bytes_eq x y))
+  one_bound y (process c d) bs fits around = (λ x t. no_value bs around x t (bytes_eq x y), λ x a b. process_test x a b (bytes_eq x y))
     where
-      value_test : (x : Name) (t : Kind) (s : Bool) → cond s None (type_of_name x (values_in fs bs)) ≡ Some t → Fits t
-      value_test x t true h = absurd (none-some t h)
-      value_test x t false h = around.0 x t h
-
       process_test : (x : Name) (a b : Kind) (s : Bool) → cond s (Some (c, d)) (process_named x bs) ≡ Some (a, b) → Fits b
       process_test x a b true h = subst (λ (k : Kind × Kind). Fits k.1) (same_Some (c, d) (a, b) h) fits.1
       process_test x a b false h = around.1 x a b h
+  one_bound y (collection k c d) bs fits around = (λ x t. no_value bs around x t (bytes_eq x y), λ x a b. no_process bs around x a b (bytes_eq x y))
 
   all_bound : (qs bs : Bindings) → All FitsIn qs → BindingsFit bs → BindingsFit (parameters_inside qs bs)
   all_bound [] bs fit around = around

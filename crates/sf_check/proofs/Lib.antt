@@ -4,6 +4,7 @@ pub mod Made
 pub mod Arguments
 pub mod Broken
 pub mod Terms
+pub mod Apart
 pub mod Calls
 pub mod Templates
 pub mod Naming

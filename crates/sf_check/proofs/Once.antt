@@ -30,7 +30,7 @@ use Rattle.sf_term.specs.declared.form.Bare.{Bare}
 use Rattle.sf_term.specs.declared.form.Bare.TheVariants.{Pre}
 use Rattle.sf_term.specs.declared.form.Timing.{Timing}
 use Rattle.sf_term.specs.declared.form.Accumulation.{Accumulation}
-use Rattle.sf_mean.specs.Contexts.{NameKind, value, process, Context, names_of_values, inside_pattern}
+use Rattle.sf_mean.specs.Contexts.{NameKind, value, process, collection, Context, names_of_values, inside_pattern}
 use Rattle.sf_mean.specs.Typing.{bare_kind, value_kind, takes_input, timed_kind, accumulated_kind, Takes}
 use Rattle.sf_value.specs.Values.{Name}
 use Rattle.sf_reach.proofs.Lawful.{endless_once, endless_somewhere}
@@ -114,6 +114,7 @@ no_process_once : (o : Option NameKind) (s : Spot) (e f : Breach) → ProcessRef
 no_process_once None s e f h k = h ∙ sym k
 no_process_once (Some (value t)) s e f h k = h ∙ sym k
 no_process_once (Some (process a b)) s e f h k = absurd h
+no_process_once (Some (collection k a b)) s e f h l = h ∙ sym l
 
 module _ {p : Program} {Γ : Context} where
   -- an argument whose term breaks a rule on the inputs of its parameter doesn't keep its rules

@@ -9,7 +9,7 @@ use Rattle.sf_value.specs.contracts.ty.Ty as ty
 use Rattle.sf_func.specs.Registries.{TypesByName}
 use Rattle.sf_expr.specs.Typing.{Fits}
 use Rattle.sf_term.specs.Trees.{Term, Template, Templates}
-use Rattle.sf_mean.specs.Contexts.{NameKind, value, process, Context, context_of}
+use Rattle.sf_mean.specs.Contexts.{NameKind, value, process, collection, Context, context_of}
 use Rattle.sf_mean.specs.Typing.{Takes, ParameterFits, IsTyped}
 use Rattle.sf_mean.proofs.Inferred.{takes_found, output_found}
 
@@ -33,6 +33,7 @@ settled_fits t h = elim (cases_lt 256 (nodes_of t)) [ inl big ↦ absurd (∥∥
 settled_parameter : (k : NameKind) → ∥ ParameterFits k ∥₁ → ParameterFits k
 settled_parameter (value t) h = settled_fits t h
 settled_parameter (process a b) h = (settled_fits a (∥∥₁_map h (λ h. h.0)), settled_fits b (∥∥₁_map h (λ h. h.1)))
+settled_parameter (collection k a b) h = (settled_fits a (∥∥₁_map h (λ h. h.0)), settled_fits b (∥∥₁_map h (λ h. h.1)))
 
 -- a template is typed, where it is known that it is
 pub settled_typed : (fs : TypesByName) (ts : Templates) (t : Template) → ∥ IsTyped fs ts t ∥₁ → IsTyped fs ts t

@@ -22,7 +22,7 @@ use Rattle.sf_term.specs.declared.program.Program.{Program}
 use Rattle.sf_term.specs.Trees.{Primitive, bare, never, with_value, timed, selected, arrow, accumulated}
 use Rattle.sf_term.specs.Entries.{absent_payload}
 use Rattle.sf_term.specs.Arena.{tree, expressions_of}
-use Rattle.sf_mean.specs.Contexts.{NameKind, value, process, Context, names_of_values, inside_pattern}
+use Rattle.sf_mean.specs.Contexts.{NameKind, value, process, collection, Context, names_of_values, inside_pattern}
 use Rattle.sf_mean.specs.Typing.{bare_kind, PrimitiveTakes, Takes}
 use Rattle.sf_check.specs.Breaking.{pattern_in, BindsInside, PrimitiveBreaks, ArgumentKeeps, ArgumentBreaks, BodyBreaks, TermBreaks}
 
@@ -61,8 +61,10 @@ AnswersBody p Δ s q u a b c (Err e) = OrMemory (λ r. BodyBreaks p Δ s q u a b
 abbrev pub ArgumentFits : Program → Context → Argument → NameKind → Type 0
 ArgumentFits p Γ (arguments.Value e) (value t) = HasType (names_of_values Γ) (expression (expressions_of p) e) t
 ArgumentFits p Γ (arguments.Value e) (process a b) = ⊥
+ArgumentFits p Γ (arguments.Value e) (collection k a b) = ⊥
 ArgumentFits p Γ (arguments.Process t) (value u) = ⊥
 ArgumentFits p Γ (arguments.Process t) (process a b) = Takes Γ (tree p t) a b
+ArgumentFits p Γ (arguments.Process t) (collection k a b) = ⊥
 
 -- An argument of a call at a spot, for a parameter of a kind, breaks a rule of the call, or its term breaks one within.
 pub data ArgumentStops (p : Program) (Γ : Context) (s : Spot) : Argument → NameKind → Breach → Type 0 where

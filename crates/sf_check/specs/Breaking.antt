@@ -1,6 +1,6 @@
 -- Where rules of types are broken, under a context.
 use Rattle.std.specs.Prelude.{◌≡◌, ◌≢◌, ◌<◌, ℕ, ℤ, false, cond, IsTrue, List, [], ◌∷◌, length, Option, Some, None, bytes_eq, slice_get}
-use Rattle.sf_value.specs.Values.{Name, Kind, pair_kind, event_kind, nodes as nodes_of, IsNoPair}
+use Rattle.sf_value.specs.Values.{Name, KeyKind, Kind, pair_kind, event_kind, nodes as nodes_of, IsNoPair}
 use Rattle.sf_refusal.specs.declared.spot.Spot.{Spot}
 use Rattle.sf_refusal.specs.declared.rule.Rule.TheVariants.{UnknownName, Arity, Mismatch, BarePre, BadConstant, TypeTooLarge}
 use Rattle.sf_refusal.specs.declared.refusal.Breach.{Breach}
@@ -48,7 +48,7 @@ use Rattle.sf_term.specs.Headers.{Header}
 use Rattle.sf_term.specs.Parameters.{parameters_of}
 use Rattle.sf_term.specs.Trees.{Template}
 use Rattle.sf_term.specs.Arena.{tree, term_node_at, term_spot_at, expressions_of, arguments_under, arguments_of, headers_of, templates_of}
-use Rattle.sf_mean.specs.Contexts.{NameKind, value, process, Bindings, Signature, signature_named, Context, names_of_values, context_of, inside_pattern, inside_process}
+use Rattle.sf_mean.specs.Contexts.{NameKind, value, process, collection, Bindings, Signature, signature_named, Context, names_of_values, context_of, inside_pattern, inside_process}
 use Rattle.sf_mean.specs.Typing.{bare_kind, value_kind, takes_input, takes_time, timed_kind, takes_number, selected_kind, accumulated_argument, accumulated_kind, Takes, ArgumentsFit, IsTyped}
 
 -- a type is none of pairs with this second part
@@ -85,11 +85,12 @@ abbrev pub kind_named : Name → Bindings → Option NameKind
 kind_named x [] = None
 kind_named x (b ∷ bs) = cond (bytes_eq x b.0) (Some b.1) (kind_named x bs)
 
--- why a name is that of no process, at its place: it isn't bound, or stands for a value
+-- why a name is that of no process, at its place: it isn't bound, or stands for a value or a collection
 abbrev pub ProcessRefused : Option NameKind → Spot → Breach → Type 0
 ProcessRefused None at r = r ≡ breach_of UnknownName at
 ProcessRefused (Some (value t)) at r = r ≡ breach_of Mismatch at
 ProcessRefused (Some (process a b)) at r = ⊥
+ProcessRefused (Some (collection k a b)) at r = r ≡ breach_of Mismatch at
 
 -- Why a primitive without constants takes no inputs of a type, at a place: `pre` stands alone, or there is no type.
 abbrev pub BareRefused : Bare → Kind → Spot → Breach → Type 0
@@ -166,10 +167,11 @@ pub data ArgumentsLeft (p : Program) (Γ : Context) : List Argument → Bindings
   after_one : {v : Argument} {x : Name} {k : NameKind} {vs ws : List Argument} {qs rs : Bindings} → ArgumentKeeps p Γ v k → ArgumentsLeft p Γ vs qs ws rs → ArgumentsLeft p Γ (v ∷ vs) ((x, k) ∷ qs) ws rs
 
 -- An argument of a call at a spot, for a parameter of a kind, breaks a rule of the call, at a place: an expression has its
--- own place, and a term stands for no value.
+-- own place, and a term stands for no value and no collection.
 pub data ArgumentBreaks (p : Program) (Γ : Context) (s : Spot) : Argument → NameKind → Breach → Type 0 where
   argument_refused : {e : ExprId} {k : NameKind} {r : Breach} → Refused (expressions_of p) (names_of_values Γ) e r → ArgumentBreaks p Γ s (arguments.Value e) k r
   process_for_value : {t : TermId} {u : Kind} → ArgumentBreaks p Γ s (arguments.Process t) (value u) (breach_of Mismatch s)
+  process_for_collection : {t : TermId} {k : KeyKind} {a b : Kind} → ArgumentBreaks p Γ s (arguments.Process t) (collection k a b) (breach_of Mismatch s)
 
 -- On inputs of a type, a call at a spot on these arguments breaks a rule of its own, at a place, where its template has this
 -- signature: that they fit its parameters, and the inputs its header, is looked at last.

@@ -6,4 +6,5 @@ pub mod Contexts
 pub mod Breaking
 pub mod Answering
 pub mod Refusing
+pub mod Differing
 pub mod Laws

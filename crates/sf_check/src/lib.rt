@@ -5,6 +5,7 @@ mod calling;
 mod checked;
 mod checker;
 mod context;
+mod differing;
 mod laws;
 mod names;
 mod parameters;
@@ -13,5 +14,7 @@ mod typing;
 
 pub use checked::Checked;
 pub use checker::check;
+pub use differing::difference;
 pub use laws::{accepted_or_refused, one_refusal, some_answer};
+pub use sf_differ::{Difference, Wanted};
 pub use sf_refusal::{Breach, Refusal, Rule, Spot};

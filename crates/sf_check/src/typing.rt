@@ -40,7 +40,7 @@ use sf_value::{Ty, same_type};
 use std::alloc::Global;
 
 /// The two parts of a type of pairs; another type is refused with `Mismatch` at the spot.
-fn parts(ty: &Ty, spot: Spot) -> Result<(&Ty, &Ty), Refusal>
+pub(crate) fn parts(ty: &Ty, spot: Spot) -> Result<(&Ty, &Ty), Refusal>
     ensures ok { IfOk result (λ parts. ty.now ≡ pair_kind parts.0.now parts.1.now) }
     ensures fits { IfOk result (λ parts. Fits parts.0.now × Fits parts.1.now) }
     ensures err { IfErr result (λ r. (r ≡ broken Mismatch spot) × IsNoPair ty.now) }
@@ -53,7 +53,7 @@ fn parts(ty: &Ty, spot: Spot) -> Result<(&Ty, &Ty), Refusal>
 
 /// The type of a value and that of the payload of the event beside it, of a type of pairs of both; another type is refused
 /// with `Mismatch` at the spot.
-fn value_and_payload(ty: &Ty, spot: Spot) -> Result<(&Ty, &Ty), Refusal>
+pub(crate) fn value_and_payload(ty: &Ty, spot: Spot) -> Result<(&Ty, &Ty), Refusal>
     ensures ok { IfOk result (λ types. ty.now ≡ pair_kind types.0.now (event_kind types.1.now)) }
     ensures fits { IfOk result (λ types. Fits types.0.now) }
     ensures err { IfErr result (λ r. (r ≡ broken Mismatch spot) × IsNoEventBeside ty.now) }
@@ -288,7 +288,7 @@ fn answer_type(
 
 /// The type of what the function of an accumulation takes, with a value of a type, on inputs of a type. Refused at the spot
 /// with `Mismatch` where it is none on such inputs, then with `TypeTooLarge`, and with `Memory`.
-fn accumulated_argument_type(
+pub(crate) fn accumulated_argument_type(
     alloc: Global,
     kind: Accumulation,
     given: &Ty,
@@ -860,7 +860,7 @@ fn call_output(
 
 /// The type of a term's outputs on inputs of a type, or the first rule that a form in it breaks.
 #[cycle(output)]
-fn output_of(
+pub(crate) fn output_of(
     alloc: Global,
     context: &TypingContext,
     term: TermId,
@@ -918,7 +918,7 @@ fn template_output(
 
 /// Whether a template's term takes its header's input to its header's output, inside its parameters. The names are those of
 /// all templates, in order.
-fn check_template(
+pub(crate) fn check_template(
     alloc: Global,
     program: &Program,
     names: &IndexSet<String>,

@@ -9,18 +9,21 @@ use Rattle.sf_expr.specs.Evaluation.{functions_in, value_of, nonsense}
 use Rattle.sf_term.specs.declared.form.Start.{Start}
 use Rattle.sf_term.specs.declared.form.Start.TheVariants.{Run, Fresh}
 use Rattle.sf_term.specs.Trees.{Term}
-use Rattle.sf_mean.specs.Lives.{Life, Process, closure, resumed, Environment, empty, known, running, passing, process_of, base, process_started, scope_around, bind, frozen}
+use Rattle.sf_mean.specs.Lives.{Life, Process, closure, resumed, Environment, empty, known, running, collected, Members, no_members, member, members_of, passing, process_of, base, process_started, scope_around, bind, frozen, each_frozen}
 use Rattle.sf_coincidence.specs.Mentions.{BindsOthers, Mentions}
-use Rattle.sf_coincidence.specs.Alike.{Alike, of_closures, of_frozen, AlikeAt, alike_at, all_but, restricted}
+use Rattle.sf_coincidence.specs.Alike.{Alike, of_closures, of_frozen, AlikeMembers, none_alike, member_alike, AlikeAt, alike_at, all_but, restricted}
 use Rattle.sf_coincidence.proofs.Worth.{Agrees, values_by_test, differs}
 
 -- ## The parts of what is alike
 
 values_alike : {x : Name} {e d : Environment} → AlikeAt x e d → (φ : AnswersByName) → value_of x (scope_around φ e) ≡ value_of x (scope_around φ d)
-values_alike (alike_at V R) = V
+values_alike (alike_at V R M) = V
 
 pub process_alike : {x : Name} {e d : Environment} → AlikeAt x e d → Alike (process_of x e) (process_of x d)
-process_alike (alike_at V R) = R
+process_alike (alike_at V R M) = R
+
+pub members_alike : {x : Name} {e d : Environment} → AlikeAt x e d → AlikeMembers (members_of x e) (members_of x d)
+members_alike (alike_at V R M) = M
 
 -- these names stand for alike
 abbrev pub AlikeFor : (Name → Type 0) → Environment → Environment → Type 0
@@ -30,6 +33,7 @@ functions_around : (φ : AnswersByName) (e : Environment) → functions_in (scop
 functions_around φ empty = refl
 functions_around φ (known x v e) = functions_around φ e
 functions_around φ (running x P e) = functions_around φ e
+functions_around φ (collected x ms e) = functions_around φ e
 
 pub scopes_agree : {M : Name → Type 0} {e d : Environment} (φ : AnswersByName) → AlikeFor M e d → Agrees M (scope_around φ e) (scope_around φ d)
 scopes_agree {e = e} {d = d} φ E = record {
@@ -43,18 +47,37 @@ pub alike_passing : Alike passing passing
 alike_passing = of_closures (λ x h. absurd h)
 
 pub at_empty : (x : Name) → AlikeAt x empty empty
-at_empty x = alike_at (λ φ. refl) alike_passing
+at_empty x = alike_at (λ φ. refl) alike_passing none_alike
 
 alike_by_test : {P P' Q Q' : Process} (b : Bool) → Alike P P' → (b ≡ false → Alike Q Q') → Alike (cond b P Q) (cond b P' Q')
 alike_by_test true A B = A
 alike_by_test false A B = B refl
 
+pub members_by_test : {ms qs rs ts : Members} (b : Bool) → AlikeMembers ms qs → (b ≡ false → AlikeMembers rs ts) → AlikeMembers (cond b ms rs) (cond b qs ts)
+members_by_test true A B = A
+members_by_test false A B = B refl
+
 -- inside one name more, another name stands for alike where it did so around
 pub at_known : {x : Name} {e d : Environment} (y : Name) (v : Data) → (bytes_eq x y ≡ false → AlikeAt x e d) → AlikeAt x (known y v e) (known y v d)
-at_known {x} y v E = alike_at (λ φ. values_by_test (bytes_eq x y) v (λ h. values_alike (E h) φ)) (alike_by_test (bytes_eq x y) alike_passing (λ h. process_alike (E h)))
+at_known {x} y v E =
+    alike_at
+    (λ φ. values_by_test (bytes_eq x y) v (λ h. values_alike (E h) φ))
+    (alike_by_test (bytes_eq x y) alike_passing (λ h. process_alike (E h)))
+    (members_by_test (bytes_eq x y) none_alike (λ h. members_alike (E h)))
 
 pub at_running : {x : Name} {e d : Environment} {P Q : Process} (y : Name) → Alike P Q → (bytes_eq x y ≡ false → AlikeAt x e d) → AlikeAt x (running y P e) (running y Q d)
-at_running {x} y A E = alike_at (λ φ. values_by_test (bytes_eq x y) nonsense (λ h. values_alike (E h) φ)) (alike_by_test (bytes_eq x y) A (λ h. process_alike (E h)))
+at_running {x} y A E =
+    alike_at
+    (λ φ. values_by_test (bytes_eq x y) nonsense (λ h. values_alike (E h) φ))
+    (alike_by_test (bytes_eq x y) A (λ h. process_alike (E h)))
+    (members_by_test (bytes_eq x y) none_alike (λ h. members_alike (E h)))
+
+pub at_collected : {x : Name} {e d : Environment} {ms qs : Members} (y : Name) → AlikeMembers ms qs → (bytes_eq x y ≡ false → AlikeAt x e d) → AlikeAt x (collected y ms e) (collected y qs d)
+at_collected {x} y A E =
+    alike_at
+    (λ φ. values_by_test (bytes_eq x y) nonsense (λ h. values_alike (E h) φ))
+    (alike_by_test (bytes_eq x y) alike_passing (λ h. process_alike (E h)))
+    (members_by_test (bytes_eq x y) A (λ h. members_alike (E h)))
 
 pub at_bound : {x : Name} {e d : Environment} (p : Pattern) (v : Data) → (BindsOthers p x → AlikeAt x e d) → AlikeAt x (bind p v e) (bind p v d)
 at_bound unnamed v E = E tt
@@ -75,6 +98,10 @@ pub alike_frozen : {P Q : Process} (h : Life) (w : ℕ) → Alike P Q → Alike 
 alike_frozen [] w A = A
 alike_frozen (s ∷ h) w A = of_frozen A
 
+pub each_alike_frozen : {ms qs : Members} (h : Life) (w : ℕ) → AlikeMembers ms qs → AlikeMembers (each_frozen ms h w) (each_frozen qs h w)
+each_alike_frozen h w none_alike = none_alike
+each_alike_frozen h w (member_alike A M) = member_alike (alike_frozen h w A) (each_alike_frozen h w M)
+
 -- ## Each process is like itself, and like what is like it
 
 mutual
@@ -86,6 +113,11 @@ mutual
   at_itself x empty = at_empty x
   at_itself x (known y v e) = at_known y v (λ h. at_itself x e)
   at_itself x (running y P e) = at_running y (alike_itself P) (λ h. at_itself x e)
+  at_itself x (collected y ms e) = at_collected y (members_themselves ms) (λ h. at_itself x e)
+
+  pub members_themselves : (ms : Members) → AlikeMembers ms ms
+  members_themselves no_members = none_alike
+  members_themselves (member k P ms) = member_alike (alike_itself P) (members_themselves ms)
 
 mutual
   pub alike_back : {P Q : Process} → Alike P Q → Alike Q P
@@ -93,7 +125,11 @@ mutual
   alike_back (of_frozen A) = of_frozen (alike_back A)
 
   at_back : {x : Name} {e d : Environment} → AlikeAt x e d → AlikeAt x d e
-  at_back (alike_at V R) = alike_at (λ φ. sym (V φ)) (alike_back R)
+  at_back (alike_at V R M) = alike_at (λ φ. sym (V φ)) (alike_back R) (members_back M)
+
+  members_back : {ms qs : Members} → AlikeMembers ms qs → AlikeMembers qs ms
+  members_back none_alike = none_alike
+  members_back (member_alike A M) = member_alike (alike_back A) (members_back M)
 
 mutual
   pub alike_through : {P Q R : Process} → Alike P Q → Alike Q R → Alike P R
@@ -101,22 +137,37 @@ mutual
   alike_through (of_frozen A) (of_frozen B) = of_frozen (alike_through A B)
 
   at_through : {x : Name} {c d e : Environment} → AlikeAt x c d → AlikeAt x d e → AlikeAt x c e
-  at_through (alike_at V A) (alike_at W B) = alike_at (λ φ. V φ ∙ W φ) (alike_through A B)
+  at_through (alike_at V A M) (alike_at W B O) = alike_at (λ φ. V φ ∙ W φ) (alike_through A B) (members_through M O)
+
+  members_through : {ms qs rs : Members} → AlikeMembers ms qs → AlikeMembers qs rs → AlikeMembers ms rs
+  members_through none_alike none_alike = none_alike
+  members_through (member_alike A M) (member_alike B O) = member_alike (alike_through A B) (members_through M O)
 
 -- ## Only some names
 
 module _ (x : Name) where
+  -- behind another name stand the members that stood there
+  no_members_between : {ms qs : Members} (y : Name) → bytes_eq x y ≡ false → AlikeMembers ms qs → AlikeMembers ms (cond (bytes_eq x y) no_members qs)
+  no_members_between {ms} {qs} y h M = let N : Bool → Type 0 = λ b. AlikeMembers ms (cond b no_members qs) in subst N (sym h) M
+
   pub at_other_value : {e d : Environment} (y : Name) (v : Data) → bytes_eq x y ≡ false → AlikeAt x d e → AlikeAt x d (known y v e)
-  at_other_value {e} {d} y v h (alike_at V R) =
+  at_other_value {e} {d} y v h (alike_at V R M) =
       let C : Bool → Type 0 = λ b. (φ : AnswersByName) → value_of x (scope_around φ d) ≡ cond b v (value_of x (scope_around φ e)) in
       let D : Bool → Type 0 = λ b. Alike (process_of x d) (cond b passing (process_of x e)) in
-      alike_at (subst C (sym h) V) (subst D (sym h) R)
+      alike_at (subst C (sym h) V) (subst D (sym h) R) (no_members_between y h M)
 
   pub at_other_process : {e d : Environment} (y : Name) (P : Process) → bytes_eq x y ≡ false → AlikeAt x d e → AlikeAt x d (running y P e)
-  at_other_process {e} {d} y P h (alike_at V R) =
+  at_other_process {e} {d} y P h (alike_at V R M) =
       let C : Bool → Type 0 = λ b. (φ : AnswersByName) → value_of x (scope_around φ d) ≡ cond b nonsense (value_of x (scope_around φ e)) in
       let D : Bool → Type 0 = λ b. Alike (process_of x d) (cond b P (process_of x e)) in
-      alike_at (subst C (sym h) V) (subst D (sym h) R)
+      alike_at (subst C (sym h) V) (subst D (sym h) R) (no_members_between y h M)
+
+  pub at_other_members : {e d : Environment} (y : Name) (ms : Members) → bytes_eq x y ≡ false → AlikeAt x d e → AlikeAt x d (collected y ms e)
+  at_other_members {e} {d} y ms h (alike_at V R M) =
+      let C : Bool → Type 0 = λ b. (φ : AnswersByName) → value_of x (scope_around φ d) ≡ cond b nonsense (value_of x (scope_around φ e)) in
+      let D : Bool → Type 0 = λ b. Alike (process_of x d) (cond b passing (process_of x e)) in
+      let N : Bool → Type 0 = λ b. AlikeMembers (members_of x d) (cond b ms (members_of x e)) in
+      alike_at (subst C (sym h) V) (subst D (sym h) R) (subst N (sym h) M)
 
   module _ (wanted : Name → Bool) (is_wanted : IsTrue (wanted x)) (y : Name) where
     -- a name that isn't wanted is another one
@@ -145,6 +196,12 @@ module _ (x : Name) where
           → AlikeAt x (cond b (running y P (restricted (all_but y wanted) e)) (restricted wanted e)) (running y P e)
       by true h E F = at_running y (alike_itself P) E
       by false h E F = at_other_process y P (another wanted w y h) F
+  at_restricted (collected y ms e) wanted w = by (wanted y) refl (λ h. at_restricted e (all_but y wanted) (still_wanted wanted w y h)) (at_restricted e wanted w)
+    where
+      by : (b : Bool) → wanted y ≡ b → (bytes_eq x y ≡ false → AlikeAt x (restricted (all_but y wanted) e) e) → AlikeAt x (restricted wanted e) e
+          → AlikeAt x (cond b (collected y ms (restricted (all_but y wanted) e)) (restricted wanted e)) (collected y ms e)
+      by true h E F = at_collected y (members_themselves ms) E
+      by false h E F = at_other_members y ms (another wanted w y h) F
 
 pub alike_restricted : (t : Term) (e : Environment) (wanted : Name → Bool) → ((x : Name) → Mentions t x → IsTrue (wanted x)) → Alike (closure t (restricted wanted e)) (closure t e)
 alike_restricted t e wanted h = of_closures (λ x m. at_restricted x e wanted (h x m))

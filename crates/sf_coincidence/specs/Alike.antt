@@ -1,10 +1,10 @@
 -- Processes that differ in names alone which their terms do not mention.
 use Rattle.std.specs.Prelude.{◌≡◌, ℕ, Bool, false, cond, bytes_eq}
-use Rattle.sf_value.specs.Values.{Name}
+use Rattle.sf_value.specs.Values.{Name, KeyData}
 use Rattle.sf_func.specs.Registries.{AnswersByName}
 use Rattle.sf_expr.specs.Evaluation.{value_of}
 use Rattle.sf_term.specs.Trees.{Term}
-use Rattle.sf_mean.specs.Lives.{Life, Process, closure, resumed, Environment, empty, known, running, scope_around, process_of}
+use Rattle.sf_mean.specs.Lives.{Life, Process, closure, resumed, Environment, empty, known, running, collected, Members, no_members, member, members_of, scope_around, process_of}
 use Rattle.sf_coincidence.specs.Mentions.{Mentions}
 
 mutual
@@ -14,11 +14,17 @@ mutual
     of_closures : {t : Term} {e d : Environment} → ((x : Name) → Mentions t x → AlikeAt x e d) → Alike (closure t e) (closure t d)
     of_frozen : {P Q : Process} {h : Life} {d : ℕ} → Alike P Q → Alike (resumed P h d) (resumed Q h d)
 
-  -- A name stands for alike in two environments: in expressions for the same value, where none is what makes no sense, and for
-  -- processes that are alike.
+  -- Members are alike: the same keys in the same order, under which stand processes that are alike.
+  pub data AlikeMembers : Members → Members → Type 0 where
+    none_alike : AlikeMembers no_members no_members
+    member_alike : {k : KeyData} {P Q : Process} {ms qs : Members} → Alike P Q → AlikeMembers ms qs → AlikeMembers (member k P ms) (member k Q qs)
+
+  -- A name stands for alike in two environments: in expressions for the same value, where none is what makes no sense, for
+  -- processes that are alike, and for members that are alike.
   pub data AlikeAt : Name → Environment → Environment → Type 0 where
     alike_at : {x : Name} {e d : Environment}
-        → ((φ : AnswersByName) → value_of x (scope_around φ e) ≡ value_of x (scope_around φ d)) → Alike (process_of x e) (process_of x d) → AlikeAt x e d
+        → ((φ : AnswersByName) → value_of x (scope_around φ e) ≡ value_of x (scope_around φ d)) → Alike (process_of x e) (process_of x d)
+        → AlikeMembers (members_of x e) (members_of x d) → AlikeAt x e d
 
 -- the names that are wanted, but for one
 abbrev pub all_but : Name → (Name → Bool) → Name → Bool
@@ -29,3 +35,4 @@ abbrev pub restricted : (Name → Bool) → Environment → Environment
 restricted wanted empty = empty
 restricted wanted (known x v e) = cond (wanted x) (known x v (restricted (all_but x wanted) e)) (restricted wanted e)
 restricted wanted (running x P e) = cond (wanted x) (running x P (restricted (all_but x wanted) e)) (restricted wanted e)
+restricted wanted (collected x ms e) = cond (wanted x) (collected x ms (restricted (all_but x wanted) e)) (restricted wanted e)

@@ -3,7 +3,7 @@
 use Rattle.std.specs.Prelude.{◌≡◌, ◌≢◌, ◌⊎◌, ⊤}
 use Rattle.sf_value.specs.Values.{Name}
 use Rattle.sf_expr.specs.Expressions.{Pattern, unnamed, named, both, Expression, variable, literal, paired, applied, operation, conditional, mapped, folded, called, Function, function}
-use Rattle.sf_term.specs.Trees.{Chain, lone, chained, on_side, on_both, fanned, Primitive, bare, probe, never, with_value, timed, selected, arrow, accumulated, fused, Term, primitive, Reference, reference, started, call, Arguments, no_arguments, value_argument, process_argument, closed_argument, joined, sided, headed, transformed, switching, keeping, staged}
+use Rattle.sf_term.specs.Trees.{Chain, lone, chained, on_side, on_both, fanned, Primitive, bare, probe, never, with_value, timed, selected, arrow, accumulated, fused, Term, primitive, Reference, reference, started, call, Arguments, no_arguments, value_argument, process_argument, collection_argument, closed_argument, joined, sided, headed, transformed, switching, keeping, gathered, releasing, editing, staged, Collection, without_members, used, added, dropped, kept, chosen}
 
 -- a pattern binds other names than this one
 abbrev pub BindsOthers : Pattern → Name → Type 0
@@ -48,7 +48,8 @@ PrimitiveMentions (accumulated k i f) x = ExpressionMentions i x ⊎ FunctionMen
 PrimitiveMentions (fused f) x = ChainMentions f x
 
 abbrev mutual
-  -- A term mentions a name, in the body of a switch where neither its pattern nor the name of what it keeps is this one.
+  -- A term mentions a name, in the body of a switch and in an edit where neither the pattern nor the name of what is kept is
+  -- this one.
   pub Mentions : Term → Name → Type 0
   Mentions (primitive p) x = PrimitiveMentions p x
   Mentions (reference r) x = ReferenceMentions r x
@@ -58,7 +59,19 @@ abbrev mutual
   Mentions (transformed f t) x = FunctionMentions f x ⊎ Mentions t x
   Mentions (switching w t p u) x = Mentions t x ⊎ (Mentions u x × BindsOthers p x)
   Mentions (keeping w t q k p u) x = Mentions t x ⊎ (Mentions q x ⊎ (Mentions u x × BindsOthers p x × k ≢ x))
+  Mentions (gathered i) x = CollectionMentions i x
+  Mentions (releasing w i q k p u) x = CollectionMentions i x ⊎ (Mentions q x ⊎ (Mentions u x × BindsOthers p x × k ≢ x))
+  Mentions (editing w i k p u) x = CollectionMentions i x ⊎ (CollectionMentions u x × BindsOthers p x × k ≢ x)
   Mentions (staged e f g) x = Mentions f x ⊎ Mentions g x
+
+  -- a collection mentions the name whose members it takes, and what its keys, its conditions, its functions and its terms do
+  pub CollectionMentions : Collection → Name → Type 0
+  CollectionMentions (without_members k t) x = ⊥
+  CollectionMentions (used y) x = y ≡ x
+  CollectionMentions (added i j t) x = CollectionMentions i x ⊎ (ExpressionMentions j x ⊎ Mentions t x)
+  CollectionMentions (dropped i j) x = CollectionMentions i x ⊎ ExpressionMentions j x
+  CollectionMentions (kept i f) x = CollectionMentions i x ⊎ FunctionMentions f x
+  CollectionMentions (chosen j a b) x = ExpressionMentions j x ⊎ (CollectionMentions a x ⊎ CollectionMentions b x)
 
   -- `run k` and `fresh k` mention k; a call mentions what its arguments mention, since the template has names of its own
   pub ReferenceMentions : Reference → Name → Type 0
@@ -69,4 +82,5 @@ abbrev mutual
   ArgumentsMention no_arguments x = ⊥
   ArgumentsMention (value_argument i vs) x = ExpressionMentions i x ⊎ ArgumentsMention vs x
   ArgumentsMention (process_argument t vs) x = Mentions t x ⊎ ArgumentsMention vs x
+  ArgumentsMention (collection_argument i vs) x = CollectionMentions i x ⊎ ArgumentsMention vs x
   ArgumentsMention (closed_argument t vs) x = Mentions t x ⊎ ArgumentsMention vs x

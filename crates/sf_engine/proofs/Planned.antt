@@ -12,7 +12,7 @@ use Rattle.sf_check.specs.declared.checked.Checked.{Checked}
 use Rattle.sf_check.specs.Accepting.{program_of, checked_main}
 use Rattle.sf_law.specs.declared.plan.Plan.{Plan}
 use Rattle.sf_law.specs.Arena.{plan_tree, plan_main, network_of_plan}
-use Rattle.sf_law.specs.Plans.{IsPlainPlan}
+use Rattle.sf_optimise.specs.Plans.{IsPlainPlan}
 use Rattle.sf_rewrite.specs.Plans.{of_closure, of_nothing}
 use Rattle.sf_rewrite.proofs.Theorem.{plan_gives, plan_no_more}
 use Rattle.sf_optimise.specs.Optimised.{IsOptimisedPlan}

@@ -5,7 +5,7 @@ ghost use Rattle.sf_value.specs.declared.fault.Fault.{Fault};
 ghost use Rattle.sf_func.specs.Registries.{AnswersByName};
 ghost use Rattle.sf_check.specs.declared.checked.Checked.{Checked};
 ghost use Rattle.sf_law.specs.declared.plan.Plan.{Plan};
-ghost use Rattle.sf_law.specs.Plans.{IsPlainPlan};
+ghost use Rattle.sf_optimise.specs.Plans.{IsPlainPlan};
 ghost use Rattle.sf_mean.specs.Lives.{Life};
 ghost use Rattle.sf_optimise.specs.Optimised.{IsOptimisedPlan};
 ghost use Rattle.sf_parts.specs.declared.meter.Meter.{Meter};

@@ -41,8 +41,12 @@ module _ {K X Y : Type 0} (bytes : K → List ℕ) (seen : X → Y) (name : List
   pub is_new : (es : List (K × X)) (b : Bool) → b ≡ is_some (lookup (λ k. bytes_eq name (bytes k)) es) → b ≡ false → lookup (bytes_eq name) (map (λ e. (bytes e.0, seen e.1)) es) ≡ None
   is_new es b is absent = lookup_seen es ∙ ap (option_map seen) (none_found (lookup (λ k. bytes_eq name (bytes k)) es) (sym is ∙ absent))
 
-pub is_absent : {X : Type 0} (o : Option X) (b : Bool) → b ≡ is_some o → b ≡ false → o ≡ None
-is_absent o b is absent = none_found o (sym is ∙ absent)
+  -- what is not found as it is seen is not there
+  pub none_seen : (es : List (K × X)) → lookup (bytes_eq name) (map (λ e. (bytes e.0, seen e.1)) es) ≡ None → lookup (λ k. bytes_eq name (bytes k)) es ≡ None
+  none_seen es h = unseen (lookup (λ k. bytes_eq name (bytes k)) es) (sym (lookup_seen es) ∙ h) where
+    unseen : (o : Option X) → option_map seen o ≡ None → o ≡ None
+    unseen None e = refl
+    unseen (Some x) e = absurd (true≢false (ap is_some e))
 
 module _ {K X : Type 0} (test : K → Bool) where
   -- a last entry of another key changes nothing of what is found

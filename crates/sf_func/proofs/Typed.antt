@@ -40,6 +40,10 @@ module _ (ts new : TypesByName) (old answers : AnswersByName) (name : Name) (t :
         | false ↦ λ other. elsewhere n (λ same. absurd (true≢false (sym ((bytes_eq-Decides n name).1 same) ∙ other))) u found
       ]) refl
 
+-- a function keeps types that are the ones that it keeps
+pub keeps_as : {from to f t : Kind} (answers : Data → Option Data) → from ≡ f → to ≡ t → KeepsTypes f t answers → KeepsTypes from to answers
+keeps_as {to = to} {f = f} answers from_is to_is keeps = subst (λ (k : Kind). KeepsTypes k to answers) (sym from_is) (subst (λ (k : Kind). KeepsTypes f k answers) (sym to_is) keeps)
+
 -- What is boxed keeps its types where each value of its type does. At a call of `add` whose function was boxed before: `boxed_keeps (λ v.
 -- (own-1.entry v).1.answers) c.into_dyn_box.ensures.0 ..`, with `own-1` of the caller's `OwnLists`.
 pub boxed_keeps : {V : Type 0} {H : V → Type 0} (answers : (v : V) → H v → Data → Option Data) {v w : V} → v ≡ w → (x : H v) {from to f t : Kind} → from ≡ f → to ≡ t → ((y : H w) → KeepsTypes f t (answers w y)) → KeepsTypes from to (answers v x)

@@ -6,6 +6,7 @@ use Rattle.std.specs.Str.{bytes_eq}
 use Rattle.sf_value.specs.Values.{Name, Kind, Data, HasKind}
 use Rattle.sf_func.specs.declared.registry.Entry.{Entry}
 use Rattle.sf_func.specs.declared.registry.Registry.{Registry}
+use Rattle.sf_func.specs.declared.stored.Stored.{Stored}
 use Rattle.sf_func.specs.declared.registry.AddRefusal.{AddRefusal}
 use Rattle.sf_func.specs.declared.registry.AddRefusal.TheVariants.{DuplicateName, Full, Memory}
 
@@ -37,18 +38,18 @@ KeepsTypes from to answers = (d a : Data) → HasKind d from → answers d ≡ S
 abbrev pub KeepTheirTypes : TypesByName → AnswersByName → Type 0
 KeepTheirTypes ts answers = (name : Name) (t : FunctionTypes) → types_named name ts ≡ Some t → KeepsTypes t.from t.to (answers name)
 
-module _ {A : Type 0} {F : A → Type 0} where
+module _ {A B C : Type 0} {F : A → Type 0} {G : B → Type 0} {H : C → Type 0} where
   -- the types of an entry
-  abbrev pub types_of : Entry A F → FunctionTypes
+  abbrev pub types_of : Entry A B C F G H → FunctionTypes
   types_of e = types_shown e.from e.to
 
   -- the types of the functions of a registry
-  abbrev pub types_in : Registry A F → TypesByName
+  abbrev pub types_in : Registry A B C F G H → TypesByName
   types_in r = map (λ e. (string_bytes e.0, types_of e.1)) r.entries.entries
 
-  -- what the functions of a registry answer, where this is what each entry answers
-  abbrev pub answers_in : (Entry A F → Data → Option Data) → Registry A F → AnswersByName
-  answers_in answers r name d = option_and_then (λ e. answers e d) (lookup (λ k. bytes_eq name (string_bytes k)) r.entries.entries)
+  -- what the functions of a registry answer, where this is what each stored one answers
+  abbrev pub answers_in : (Stored A B C F G H → Data → Option Data) → Registry A B C F G H → AnswersByName
+  answers_in answers r name d = option_and_then (λ e. answers e.function d) (lookup (λ k. bytes_eq name (string_bytes k)) r.entries.entries)
 
 -- a function of this name may be added
 abbrev pub HasRoomFor : Name → TypesByName → Type 0

@@ -3,7 +3,7 @@ ghost use Rattle.std.specs.Prelude.{◌≡◌, ℤ, Option};
 ghost use Rattle.sf_func.specs.Numbers.{on_number, on_numbers};
 
 use crate::function::{Function, FunctionFault};
-use crate::numbers::{number_of, numbers_of};
+use crate::numbers::{answered, number_of, numbers_of};
 use sf_value::Value;
 use std::alloc::Global;
 
@@ -44,11 +44,8 @@ impl<N: OnNumber> Function for Int1<N> {
     ghost answers = { λ i. on_number (N.answer i.function) };
 
     fn apply(&self, _alloc: Global, value: &Value) -> Result<Value, FunctionFault> {
-        let Some(n) = number_of(value) else {
-            return Err(FunctionFault::Refused);
-        };
-        match self.function.answer(n) {
-            Some(answer) => Ok(Value::int(answer)),
+        match number_of(value) {
+            Some(n) => answered(self.function.answer(n)),
             None => Err(FunctionFault::Refused),
         }
     }
@@ -73,11 +70,8 @@ impl<N: OnNumbers> Function for Int2<N> {
     ghost answers = { λ i. on_numbers (N.answer i.function) };
 
     fn apply(&self, _alloc: Global, value: &Value) -> Result<Value, FunctionFault> {
-        let Some((n, m)) = numbers_of(value) else {
-            return Err(FunctionFault::Refused);
-        };
-        match self.function.answer(n, m) {
-            Some(answer) => Ok(Value::int(answer)),
+        match numbers_of(value) {
+            Some((n, m)) => answered(self.function.answer(n, m)),
             None => Err(FunctionFault::Refused),
         }
     }

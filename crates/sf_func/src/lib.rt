@@ -7,9 +7,11 @@ mod function;
 mod numbers;
 mod registry;
 mod signatures;
+mod stored;
 
 pub use adapter::{Int1, Int2, OnNumber, OnNumbers};
 pub use arithmetic::{Absolute, Greatest, Least, Sign};
 pub use function::{Function, FunctionFault};
-pub use registry::{AddRefusal, Answers, Entry, HasFunctionTypes, Holds, Registry};
+pub use registry::{AddRefusal, Entry, HasFunctionTypes, Holds, Registry};
 pub use signatures::{Signature, Signatures};
+pub use stored::Answers;

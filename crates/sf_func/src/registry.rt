@@ -1,13 +1,17 @@
 //! Functions by name.
-ghost use Rattle.std.specs.Prelude.{◌≡◌, ◌≢◌, Option, OnOk, IfOk, IfErr, [], ◌∷◌, ◌++◌};
+ghost use Rattle.std.specs.Prelude.{◌≡◌, ◌≢◌, Option, OnOk, IfOk, IfErr, IfSome, IfNone, [], ◌∷◌, ◌++◌};
 ghost use Rattle.sf_func.specs.Signatures.{named_types, signatures_in};
+ghost use Rattle.sf_func.specs.Storing.{stored_answers};
 ghost use Rattle.std.specs.Option.{option_map, option_and_then};
-ghost use Rattle.sf_value.specs.Values.{Name, Data};
+ghost use Rattle.sf_value.specs.Values.{Name, Data, int_kind, pair_kind};
 ghost use Rattle.sf_func.specs.Meaning.{Applied};
+ghost use Rattle.sf_func.specs.Numbers.{on_number, on_numbers};
 ghost use Rattle.sf_func.specs.Registries.{FunctionTypes, TypesByName, AnswersByName, KeepsTypes, KeepTheirTypes, types_shown, types_of, types_in, answers_in, types_named, HasRoomFor, IsCause};
 
+use crate::adapter::{OnNumber, OnNumbers};
 use crate::function::{Function, FunctionFault};
 use crate::signatures::{Signature, Signatures};
+use crate::stored::{Answers, Stored};
 use indexmap::IndexMap;
 use sf_value::{Ty, Value};
 use std::alloc::{AllocError, Global};
@@ -17,7 +21,7 @@ use thiserror::Error;
 pub struct Entry {
     from: Ty,
     to: Ty,
-    function: Box<dyn Function>,
+    function: Stored,
 }
 
 impl Drop for Entry {
@@ -64,14 +68,8 @@ impl HasFunctionTypes for Entry {
     ghost types = { types_of };
 }
 
-/// What is applied to values.
-pub trait Answers {
-    // what it answers to an argument: a value, or none where it refuses it
-    ghost answers: { Self → Data → Option Data };
-}
-
 impl Answers for Entry {
-    ghost answers = { λ e. (Function-box e.function).answers e.function.value };
+    ghost answers = { λ e. stored_answers (λ f. (Function-box f).answers f.value) (λ f. (OnNumber-box f).answer f.value) (λ f. (OnNumbers-box f).answer f.value) e.function };
 }
 
 /// What holds functions by name.
@@ -92,7 +90,7 @@ pub trait Holds {
 impl Holds for Registry {
     ghost types = { types_in };
 
-    ghost answers = { answers_in (λ e. (Function-box e.function).answers e.function.value) };
+    ghost answers = { answers_in (stored_answers (λ f. (Function-box f).answers f.value) (λ f. (OnNumber-box f).answer f.value) (λ f. (OnNumbers-box f).answer f.value)) };
 
     fn types_of<'r>(&'r self, name: &str) -> Option<(&'r Ty, &'r Ty)> {
         match self.find(name) {
@@ -135,7 +133,7 @@ impl Entry {
     }
 
     // The function, without its types.
-    fn into_function(self) -> Box<dyn Function>
+    fn into_stored(self) -> Stored
         ensures { result ≡ self.function }
     {
         let Entry { from, to, function } = self;
@@ -182,6 +180,43 @@ impl Registry {
         Ok(Signatures { entries })
     }
 
+    // Why no function of that name may be added, if not for want of memory.
+    fn refusal(&self, name: &str) -> Option<AddRefusal>
+        ensures refused { IfSome result (λ r. IsCause r name.now (⟦<Registry as Holds>⟧.types self.now)) }
+        ensures room { IfNone result (HasRoomFor name.now (⟦<Registry as Holds>⟧.types self.now)) }
+    {
+        if self.entries.contains_key(name) {
+            Some(AddRefusal::DuplicateName)
+        } else if self.entries.len() >= 256 {
+            Some(AddRefusal::Full)
+        } else {
+            None
+        }
+    }
+
+    // Adds an entry that there is room for. Want of memory hands it back and changes nothing.
+    fn insert(&mut self, alloc: Global, name: &str, entry: Entry) -> Result<(), Entry>
+        requires room { HasRoomFor name.now (⟦<Registry as Holds>⟧.types self.old) }
+        requires keeps { KeepsTypes entry.from entry.to (⟦<Entry as Answers>⟧.answers entry) }
+        ensures types { OnOk result (⟦<Registry as Holds>⟧.types self.new ≡ ⟦<Registry as Holds>⟧.types self.old ++ (name.now, types_of entry) ∷ []) }
+        ensures answers { OnOk result ((d : Data) → ⟦<Registry as Holds>⟧.answers self.new name.now d ≡ ⟦<Entry as Answers>⟧.answers entry d) }
+        ensures others { (n : Name) (d : Data) → n ≢ name.now → ⟦<Registry as Holds>⟧.answers self.new n d ≡ ⟦<Registry as Holds>⟧.answers self.old n d }
+        ensures typed { KeepTheirTypes (⟦<Registry as Holds>⟧.types self.old) (⟦<Registry as Holds>⟧.answers self.old) → KeepTheirTypes (⟦<Registry as Holds>⟧.types self.new) (⟦<Registry as Holds>⟧.answers self.new) }
+        ensures refused { IfErr result (λ e. e ≡ entry) }
+        ensures unchanged { IfErr result (λ e. (⟦<Registry as Holds>⟧.types self.new ≡ ⟦<Registry as Holds>⟧.types self.old) × ((n : Name) (d : Data) → ⟦<Registry as Holds>⟧.answers self.new n d ≡ ⟦<Registry as Holds>⟧.answers self.old n d)) }
+    {
+        let Ok(key) = String::from_str(alloc, name) else {
+            return Err(entry);
+        };
+        match self.entries.insert(key, entry) {
+            Ok(_) => Ok(()),
+            Err(failed) => {
+                let (_name, entry) = failed.value;
+                Err(entry)
+            }
+        }
+    }
+
     /// Adds a function that takes values of one type to values of another, or refuses them. A refused call hands it
     /// back and changes nothing. The refusals, in this order: `DuplicateName`, `Full`, `Memory`.
     pub fn add(
@@ -201,21 +236,76 @@ impl Registry {
         ensures refused { IfErr result (λ e. (e.1 ≡ function) × IsCause e.0 name.now (⟦<Registry as Holds>⟧.types self.old)) }
         ensures unchanged { IfErr result (λ e. (⟦<Registry as Holds>⟧.types self.new ≡ ⟦<Registry as Holds>⟧.types self.old) × ((n : Name) (d : Data) → ⟦<Registry as Holds>⟧.answers self.new n d ≡ ⟦<Registry as Holds>⟧.answers self.old n d)) }
     {
-        if self.entries.contains_key(name) {
-            return Err((AddRefusal::DuplicateName, function));
+        if let Some(refusal) = self.refusal(name) {
+            return Err((refusal, function));
         }
-        if self.entries.len() >= 256 {
-            return Err((AddRefusal::Full, function));
+        let function = Stored::OfValues(function);
+        match self.insert(alloc, name, Entry { from, to, function }) {
+            Ok(()) => Ok(()),
+            Err(entry) => Err((AddRefusal::Memory, entry.into_stored().into_function())),
         }
-        let Ok(key) = String::from_str(alloc, name) else {
+    }
+
+    /// Adds a function that takes a number to a number, or refuses it. A refused call hands it back and changes
+    /// nothing. The refusals, in this order: `DuplicateName`, `Full`, `Memory`.
+    pub fn add_on_number(
+        &mut self,
+        alloc: Global,
+        name: &str,
+        function: Box<dyn OnNumber>,
+    ) -> Result<(), (AddRefusal, Box<dyn OnNumber>)>
+        ensures room { OnOk result (HasRoomFor name.now (⟦<Registry as Holds>⟧.types self.old)) }
+        ensures types { OnOk result (⟦<Registry as Holds>⟧.types self.new ≡ ⟦<Registry as Holds>⟧.types self.old ++ (name.now, types_shown int_kind int_kind) ∷ []) }
+        ensures answers { OnOk result ((d : Data) → ⟦<Registry as Holds>⟧.answers self.new name.now d ≡ on_number ((OnNumber-box function).answer function.value) d) }
+        ensures others { (n : Name) (d : Data) → n ≢ name.now → ⟦<Registry as Holds>⟧.answers self.new n d ≡ ⟦<Registry as Holds>⟧.answers self.old n d }
+        ensures typed { KeepTheirTypes (⟦<Registry as Holds>⟧.types self.old) (⟦<Registry as Holds>⟧.answers self.old) → KeepTheirTypes (⟦<Registry as Holds>⟧.types self.new) (⟦<Registry as Holds>⟧.answers self.new) }
+        ensures refused { IfErr result (λ e. (e.1 ≡ function) × IsCause e.0 name.now (⟦<Registry as Holds>⟧.types self.old)) }
+        ensures unchanged { IfErr result (λ e. (⟦<Registry as Holds>⟧.types self.new ≡ ⟦<Registry as Holds>⟧.types self.old) × ((n : Name) (d : Data) → ⟦<Registry as Holds>⟧.answers self.new n d ≡ ⟦<Registry as Holds>⟧.answers self.old n d)) }
+    {
+        if let Some(refusal) = self.refusal(name) {
+            return Err((refusal, function));
+        }
+        let entry = Entry {
+            from: Ty::int(),
+            to: Ty::int(),
+            function: Stored::OfNumber(function),
+        };
+        match self.insert(alloc, name, entry) {
+            Ok(()) => Ok(()),
+            Err(entry) => Err((AddRefusal::Memory, entry.into_stored().into_on_number())),
+        }
+    }
+
+    /// Adds a function that takes two numbers, as a pair, to a number, or refuses them. A refused call hands it back
+    /// and changes nothing. The refusals, in this order: `DuplicateName`, `Full`, `Memory`.
+    pub fn add_on_numbers(
+        &mut self,
+        alloc: Global,
+        name: &str,
+        function: Box<dyn OnNumbers>,
+    ) -> Result<(), (AddRefusal, Box<dyn OnNumbers>)>
+        ensures room { OnOk result (HasRoomFor name.now (⟦<Registry as Holds>⟧.types self.old)) }
+        ensures types { OnOk result (⟦<Registry as Holds>⟧.types self.new ≡ ⟦<Registry as Holds>⟧.types self.old ++ (name.now, types_shown (pair_kind int_kind int_kind) int_kind) ∷ []) }
+        ensures answers { OnOk result ((d : Data) → ⟦<Registry as Holds>⟧.answers self.new name.now d ≡ on_numbers ((OnNumbers-box function).answer function.value) d) }
+        ensures others { (n : Name) (d : Data) → n ≢ name.now → ⟦<Registry as Holds>⟧.answers self.new n d ≡ ⟦<Registry as Holds>⟧.answers self.old n d }
+        ensures typed { KeepTheirTypes (⟦<Registry as Holds>⟧.types self.old) (⟦<Registry as Holds>⟧.answers self.old) → KeepTheirTypes (⟦<Registry as Holds>⟧.types self.new) (⟦<Registry as Holds>⟧.answers self.new) }
+        ensures refused { IfErr result (λ e. (e.1 ≡ function) × IsCause e.0 name.now (⟦<Registry as Holds>⟧.types self.old)) }
+        ensures unchanged { IfErr result (λ e. (⟦<Registry as Holds>⟧.types self.new ≡ ⟦<Registry as Holds>⟧.types self.old) × ((n : Name) (d : Data) → ⟦<Registry as Holds>⟧.answers self.new n d ≡ ⟦<Registry as Holds>⟧.answers self.old n d)) }
+    {
+        if let Some(refusal) = self.refusal(name) {
+            return Err((refusal, function));
+        }
+        let Ok(from) = Ty::pair(alloc, Ty::int(), Ty::int()) else {
             return Err((AddRefusal::Memory, function));
         };
-        match self.entries.insert(key, Entry { from, to, function }) {
-            Ok(_) => Ok(()),
-            Err(failed) => {
-                let (_name, entry) = failed.value;
-                Err((AddRefusal::Memory, entry.into_function()))
-            }
+        let entry = Entry {
+            from,
+            to: Ty::int(),
+            function: Stored::OfNumbers(function),
+        };
+        match self.insert(alloc, name, entry) {
+            Ok(()) => Ok(()),
+            Err(entry) => Err((AddRefusal::Memory, entry.into_stored().into_on_numbers())),
         }
     }
 }

@@ -16,8 +16,8 @@ use Rattle.sf_term.specs.declared.form.WithValue.TheVariants as values
 use Rattle.sf_term.specs.declared.form.Heading.TheVariants as headings
 use Rattle.sf_term.specs.declared.form.Naming.{Naming}
 use Rattle.sf_term.specs.declared.form.Naming.TheVariants as namings
-use Rattle.sf_term.specs.Parameters.{NameKind, value as value_kind, process as process_kind, Bindings}
-use Rattle.sf_term.specs.Trees.{terms_with_value, bare, probe, never, with_value, timed, selected, arrow, accumulated, fused, Term, primitive, reference, joined, sided, headed, transformed, switching, keeping, staged, started, call, named_term, Arguments, no_arguments, value_argument, process_argument, closed_argument, Template, term_depth, arguments_depth, terms_in, terms_in_arguments, expressions_in, expressions_in_arguments}
+use Rattle.sf_term.specs.Parameters.{NameKind, value as value_kind, process as process_kind, collection as collection_kind, Bindings}
+use Rattle.sf_term.specs.Trees.{terms_with_value, bare, probe, never, with_value, timed, selected, arrow, accumulated, fused, Term, primitive, reference, joined, sided, headed, transformed, switching, keeping, gathered, releasing, editing, staged, started, call, named_term, Arguments, no_arguments, value_argument, process_argument, collection_argument, closed_argument, Template, term_depth, arguments_depth, terms_in, terms_in_arguments, expressions_in, expressions_in_arguments}
 use Rattle.sf_lex.specs.declared.word.Keyword.TheVariants as words
 use Rattle.sf_lex.specs.declared.symbol.Symbol.TheVariants as symbols
 use Rattle.sf_lex.specs.Tokens.{Tok, keyword, name, number, text, symbol}
@@ -359,6 +359,12 @@ mutual
   term_again v (primitive (accumulated k e f)) zero c rest small deep few_terms few_expressions known = absurd (omega arith)
   term_again v (primitive (fused f)) d c rest small deep few_terms few_expressions known = absurd (omega (arith, small, deep))
   term_again v (staged x f g) d c rest small deep few_terms few_expressions known = absurd (omega (arith, small, deep))
+  term_again v (gathered i) zero c rest small deep few_terms few_expressions known = absurd (omega arith)
+  term_again v (releasing w i q k p u) zero c rest small deep few_terms few_expressions known = absurd (omega arith)
+  term_again v (editing w i k p u) zero c rest small deep few_terms few_expressions known = absurd (omega arith)
+  term_again v (gathered i) (suc d) c rest small deep few_terms few_expressions known = absurd known
+  term_again v (releasing w i q k p u) (suc d) c rest small deep few_terms few_expressions known = absurd known
+  term_again v (editing w i k p u) (suc d) c rest small deep few_terms few_expressions known = absurd known
   term_again v (joined j f g) zero c rest small deep few_terms few_expressions known = absurd (omega arith)
   term_again v (sided s f) zero c rest small deep few_terms few_expressions known = absurd (omega arith)
   term_again v (headed h e f) zero c rest small deep few_terms few_expressions known = absurd (omega arith)
@@ -471,6 +477,7 @@ mutual
   listed_arguments_again : (v : Version) (vs : Arguments) (d : ℕ) (c : Counts) (rest : List Tok) → d ≤ 63 → arguments_depth vs ≤ d → c.terms + terms_in_arguments vs ≤ 100000 → c.expressions + expressions_in_arguments vs ≤ 100000 → WritesArguments v d vs
       → parse_listed no_arguments (λ tokens. parse_arguments (suc (length tokens)) d v (parse_term d v) c tokens) (spell_listed (spell_arguments v vs) ++ rest) ≡ got vs rest
   listed_arguments_again v no_arguments d c rest small deep few_terms few_expressions known = refl
+  listed_arguments_again v (collection_argument i vs) d c rest small deep few_terms few_expressions known = absurd known
   listed_arguments_again v (closed_argument t vs) d c rest small deep few_terms few_expressions known = absurd (omega (arith, small, deep))
   listed_arguments_again v (value_argument e vs) d c rest small deep few_terms few_expressions known =
       let further : List Tok = spell_further (spell_arguments v vs) in
@@ -488,6 +495,7 @@ mutual
   further_arguments_again : (v : Version) (vs : Arguments) (d n : ℕ) (c : Counts) (rest : List Tok) → d ≤ 63 → length (spell_arguments v vs) ≤ n → arguments_depth vs ≤ d → c.terms + terms_in_arguments vs ≤ 100000 → c.expressions + expressions_in_arguments vs ≤ 100000 → WritesArguments v d vs
       → parse_further no_arguments (parse_arguments n d v (parse_term d v) c) (spell_further (spell_arguments v vs) ++ rest) ≡ got vs rest
   further_arguments_again v no_arguments d n c rest small enough deep few_terms few_expressions known = refl
+  further_arguments_again v (collection_argument i vs) d n c rest small enough deep few_terms few_expressions known = absurd known
   further_arguments_again v (closed_argument t vs) d n c rest small enough deep few_terms few_expressions known = absurd (omega (arith, small, deep))
   further_arguments_again v (value_argument e vs) d zero c rest small enough deep few_terms few_expressions known = absurd (omega arith)
   further_arguments_again v (process_argument t vs) d zero c rest small enough deep few_terms few_expressions known = absurd (omega arith)
@@ -504,6 +512,7 @@ mutual
 parameter_again : (v : Version) (q : Name × NameKind) (rest : List Tok) → behind_leads rest ≡ None → WritesNameKind v q.1 → parse_parameter v (spell_parameter v q ++ rest) ≡ got q rest
 unfolding parse_parameter parse_name_kind
 parameter_again v (x, value_kind t) rest next known = rw (inner_type_again v t 64 (spell_type v t ++ rest) 0 rest known.shallow (omega (arith, known.few)) known.known, next) refl
+parameter_again v (x, collection_kind k t u) rest next known = absurd known
 parameter_again v (x, process_kind t u) rest next known =
     let behind : List Tok = symbol symbols.Leads ∷ (spell_type v u ++ rest) in
     rw (

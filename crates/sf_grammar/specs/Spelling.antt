@@ -40,8 +40,8 @@ use Rattle.sf_term.specs.declared.form.Start.{Start}
 use Rattle.sf_term.specs.declared.form.Start.TheVariants as starts
 use Rattle.sf_term.specs.declared.form.Naming.{Naming}
 use Rattle.sf_term.specs.declared.form.Naming.TheVariants as namings
-use Rattle.sf_term.specs.Parameters.{NameKind, value as value_kind, process as process_kind}
-use Rattle.sf_term.specs.Trees.{bare, probe, never, with_value, timed, selected, arrow, accumulated, fused, Term, primitive, reference, joined, sided, headed, transformed, switching, keeping, staged, Reference, started, call, Arguments, no_arguments, value_argument, process_argument, closed_argument, Template, Templates, term_depth, terms_in, expressions_in}
+use Rattle.sf_term.specs.Parameters.{NameKind, value as value_kind, process as process_kind, collection as collection_kind}
+use Rattle.sf_term.specs.Trees.{bare, probe, never, with_value, timed, selected, arrow, accumulated, fused, Term, primitive, reference, joined, sided, headed, transformed, switching, keeping, gathered, releasing, editing, staged, Reference, started, call, Arguments, no_arguments, value_argument, process_argument, collection_argument, closed_argument, Template, Templates, term_depth, terms_in, expressions_in}
 use Rattle.sf_lex.specs.declared.word.Keyword.{Keyword}
 use Rattle.sf_lex.specs.declared.word.Keyword.TheVariants as words
 use Rattle.sf_lex.specs.declared.symbol.Symbol.{Symbol}
@@ -315,7 +315,7 @@ spell_value false word value = keyword word ∷ value
 spell_value true word value = symbol symbols.Initially ∷ in_brackets value (symbol symbols.Comma) (keyword word ∷ [])
 
 abbrev mutual
-  -- the forms of plans stand in no text
+  -- the forms of plans and those of collections stand in no text
   pub spell_term : Version → Term → List Tok
   spell_term v (primitive (bare k)) = keyword (bare_word k) ∷ []
   spell_term v (primitive (probe k)) = naming_token namings.Probe ∷ name k ∷ []
@@ -333,6 +333,9 @@ abbrev mutual
   spell_term v (transformed h f) = symbol symbols.MapsFirstInput ∷ in_brackets (spell_function v h) (symbol symbols.Comma) (spell_term v f)
   spell_term v (switching w f p g) = keyword (switching_word w) ∷ in_brackets (spell_term v f) (symbol symbols.Comma) (spell_mapping (spell_pattern p) (spell_term v g))
   spell_term v (keeping w f g k p u) = spell_keeping w (spell_term v f) (spell_term v g) k (spell_pattern p) (spell_term v u)
+  spell_term v (gathered i) = []
+  spell_term v (releasing w i q k p u) = []
+  spell_term v (editing w i k p u) = []
   spell_term v (staged x f g) = []
 
   -- the name of a process behind where it begins, or that of a template with arguments in brackets
@@ -345,12 +348,14 @@ abbrev mutual
   spell_arguments v no_arguments = []
   spell_arguments v (value_argument e vs) = spell_expression v e ∷ spell_arguments v vs
   spell_arguments v (process_argument t vs) = (keyword words.SignalFunction ∷ spell_term v t) ∷ spell_arguments v vs
+  spell_arguments v (collection_argument i vs) = [] ∷ spell_arguments v vs
   spell_arguments v (closed_argument t vs) = [] ∷ spell_arguments v vs
 
 -- what a name stands for: the type of a value, or both types of a process
 abbrev pub spell_name_kind : Version → NameKind → List Tok
 spell_name_kind v (value_kind t) = spell_type v t
 spell_name_kind v (process_kind t u) = spell_type v t ++ (symbol symbols.Leads ∷ spell_type v u)
+spell_name_kind v (collection_kind k t u) = []
 
 -- a parameter of a template
 abbrev pub spell_parameter : Version → Name × NameKind → List Tok
@@ -456,6 +461,9 @@ abbrev mutual
   WritesTerm v (suc d) (transformed h f) = WritesFunction v d h × WritesTerm v d f
   WritesTerm v (suc d) (switching w f p g) = WritesTerm v d f × WritesTerm v d g
   WritesTerm v (suc d) (keeping w f g k p u) = WritesTerm v d f × WritesTerm v d g × WritesTerm v d u
+  WritesTerm v (suc d) (gathered i) = ⊥
+  WritesTerm v (suc d) (releasing w i q k p u) = ⊥
+  WritesTerm v (suc d) (editing w i k p u) = ⊥
   WritesTerm v d t = ⊤
 
   -- the same of what stands within a reference
@@ -468,12 +476,14 @@ abbrev mutual
   WritesArguments v d no_arguments = ⊤
   WritesArguments v d (value_argument e vs) = WritesExpression v d e × WritesArguments v d vs
   WritesArguments v d (process_argument t vs) = WritesTerm v d t × WritesArguments v d vs
+  WritesArguments v d (collection_argument i vs) = ⊥
   WritesArguments v d (closed_argument t vs) = WritesArguments v d vs
 
 -- a text of the version has the types of what a name stands for
 abbrev pub WritesNameKind : Version → NameKind → Type 0
 WritesNameKind v (value_kind t) = IsWrittenType v 64 t
 WritesNameKind v (process_kind t u) = IsWrittenType v 64 t × IsWrittenType v 64 u
+WritesNameKind v (collection_kind k t u) = ⊥
 
 -- a text of the version has the types of a template
 pub record HasWrittenTypes (v : Version) (t : Template) : Type 0 where

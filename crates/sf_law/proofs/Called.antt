@@ -4,7 +4,7 @@ use Rattle.sf_value.specs.Values.{Name}
 use Rattle.sf_func.specs.Registries.{AnswersByName}
 use Rattle.sf_expr.specs.Evaluation.{answer}
 use Rattle.sf_term.specs.Parameters.{NameKind, Bindings}
-use Rattle.sf_term.specs.Trees.{Term, primitive, reference, started, call, Arguments, joined, sided, headed, transformed, switching, keeping, staged, Template, template_named}
+use Rattle.sf_term.specs.Trees.{Term, primitive, reference, started, call, Arguments, joined, sided, headed, transformed, switching, keeping, gathered, releasing, editing, staged, Template, template_named}
 use Rattle.sf_term.specs.Entries.{identity_term}
 use Rattle.sf_mean.specs.Lives.{Environment, empty, running, closure}
 use Rattle.sf_mean.specs.Meaning.{argued, process_called}
@@ -25,6 +25,9 @@ argued_closed φ q qs (headed h i t) vs e d = refl
 argued_closed φ q qs (transformed f t) vs e d = refl
 argued_closed φ q qs (switching w t p u) vs e d = refl
 argued_closed φ q qs (keeping w t r k p u) vs e d = refl
+argued_closed φ q qs (gathered i) vs e d = refl
+argued_closed φ q qs (releasing w i r k p u) vs e d = refl
+argued_closed φ q qs (editing w i k p u) vs e d = refl
 argued_closed φ q qs (staged x f g) vs e d = refl
 
 -- the body of what stands for a template that isn't there passes its inputs on

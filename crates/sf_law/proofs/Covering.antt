@@ -10,6 +10,7 @@ use Rattle.std.specs.declared.alloc.Global.{Global}
 use Rattle.sf_expr.specs.declared.exprs.ExprId.{ExprId}
 use Rattle.sf_expr.specs.declared.exprs.FunctionId.{FunctionId}
 use Rattle.sf_expr.specs.declared.exprs.PatternId.{PatternId}
+use Rattle.sf_expr.specs.Expressions.{Pattern, named, both as both_patterns}
 use Rattle.sf_expr.specs.Patterns.{pattern_of}
 use Rattle.sf_term.specs.declared.form.Start.{Start}
 use Rattle.sf_term.specs.declared.form.Join.{Join}
@@ -29,17 +30,20 @@ use Rattle.sf_expr.specs.declared.exprs.Exprs.{Exprs}
 use Rattle.sf_expr.specs.declared.exprs.NameId.{NameId}
 use Rattle.sf_expr.specs.Arena.{function_at, name_at, placed_at}
 use Rattle.sf_term.specs.Entries.{identity_term}
-use Rattle.sf_term.specs.Trees.{Term, primitive, reference, started, call, joined, sided, headed, transformed, switching, keeping, staged, whole, rest}
-use Rattle.sf_coincidence.specs.Mentions.{BindsOthers, ExpressionMentions, FunctionMentions, PrimitiveMentions, Mentions, ArgumentsMention}
+use Rattle.sf_term.specs.Trees.{Term, primitive, reference, started, call, joined, sided, headed, transformed, switching, keeping, gathered, releasing, editing, staged, whole, rest}
+use Rattle.sf_coincidence.specs.Mentions.{BindsOthers, ExpressionMentions, FunctionMentions, PrimitiveMentions, Mentions, CollectionMentions, ArgumentsMention}
 use Rattle.sf_law.specs.declared.node.PlanId.{PlanId}
 use Rattle.sf_law.specs.declared.node.PlanArgument.{PlanArgument}
 use Rattle.sf_law.specs.declared.node.PlanArgument.TheVariants as arguments
+use Rattle.sf_law.specs.declared.node.PlanCollection.{PlanCollection}
+use Rattle.sf_law.specs.declared.node.PlanReleasing.{PlanReleasing}
+use Rattle.sf_law.specs.declared.node.PlanEditing.{PlanEditing}
 use Rattle.sf_law.specs.declared.node.PlanNode.{PlanNode}
 use Rattle.sf_law.specs.declared.mentioned.Mentioned.{Mentioned}
 use Rattle.sf_law.specs.declared.mentioned.Mentioned.TheVariants.{Any}
 use Rattle.sf_law.specs.declared.plan.Plan.{Plan}
-use Rattle.sf_law.specs.Entries.{IsCodedPrimitive, IsCodedArgument, primitive_over, plan_over, plan_term, stages, pipeline, closed_before}
-use Rattle.sf_law.specs.Arena.{plan_tree, plan_expressions, plan_expression_at, plan_arguments, trees_at, BuildsPlan, builds_primitive, builds_started, builds_probe, builds_call, builds_joined, builds_sided, builds_headed, builds_transformed, builds_switching, builds_keeping, builds_pipeline}
+use Rattle.sf_law.specs.Entries.{IsCodedPrimitive, IsCodedArgument, IsCodedCollection, primitive_over, plan_over, plan_term, stages, pipeline, closed_before}
+use Rattle.sf_law.specs.Arena.{plan_tree, plan_expressions, plan_expression_at, plan_arguments, plan_collection, trees_at, BuildsPlan, builds_primitive, builds_started, builds_probe, builds_call, builds_joined, builds_sided, builds_headed, builds_transformed, builds_switching, builds_keeping, builds_gathered, builds_releasing, builds_editing, builds_pipeline}
 use Rattle.sf_law.specs.Mentioned.{is_mentioned, HasAll, Covers, mentioned_at, AreCovered}
 use Rattle.sf_law.specs.Mentioning.{ArgumentMentions}
 
@@ -114,12 +118,16 @@ module _ (p : Plan) where
   closed_mention (transformed f t) vs x h = h
   closed_mention (switching w t q u) vs x h = h
   closed_mention (keeping w t q k r u) vs x h = h
+  closed_mention (gathered i) vs x h = h
+  closed_mention (releasing w i q k r u) vs x h = h
+  closed_mention (editing w i k r u) vs x h = h
   closed_mention (staged e f g) vs x h = h
 
   pub argument_mention : (v : PlanArgument) (vs : List PlanArgument) (x : Name) → ArgumentsMention (plan_arguments p (v ∷ vs)) x → ArgumentMentions p v x ⊎ ArgumentsMention (plan_arguments p vs) x
   argument_mention (arguments.Value e c) vs x h = h
   argument_mention (arguments.Started w k) vs x h = h
   argument_mention (arguments.Closed a) vs x h = closed_mention (plan_tree p a) (plan_arguments p vs) x h
+  argument_mention (arguments.Collected r) vs x h = h
 
 pub no_arguments_left : (p : Plan) (vs : List PlanArgument) (x : Name) → length vs < 1 → ArgumentsMention (plan_arguments p vs) x → ⊥
 no_arguments_left p [] x l h = h
@@ -140,6 +148,14 @@ covered_at p a m h e = subst (λ k. Covers k (plan_term p.expressions p.nodes.it
 -- ## Nodes
 
 module _ (p : Plan) where
+  -- what binds names inside a name and a pattern
+  abbrev pub inside : NameId → PatternId → Pattern
+  inside k q = both_patterns (named (name_at (plan_expressions p) k)) (pattern_of (placed_at (plan_expressions p) q))
+
+  -- all that a collection mentions is in a list, where its code is that of the collection
+  abbrev pub CoversCollection : Mentioned → PlanCollection → Type 0
+  CoversCollection m i = IsCodedCollection (plan_expressions p) i → (x : Name) → CollectionMentions (plan_collection p i) x → IsTrue (is_mentioned m x)
+
   pub covers_primitive : {T E : Type 0} (r : Result T E) (m : Mentioned) {q : PlanPrimitive} {t : Term} → BuildsPlan p (nodes.Primitive q) t
       → ((x : Exprs) → IsCodedPrimitive x q → OnOk r ((y : Name) → PrimitiveMentions (primitive_over x q) y → IsTrue (is_mentioned m y))) → OnOk r (Covers m t)
   covers_primitive r m (builds_primitive k) h = h (plan_expressions p) k
@@ -189,13 +205,39 @@ module _ (p : Plan) where
       both x (inr h) = B x h.0 h.1
 
   pub covers_keeping : (m : Mentioned) {w : Observation} {a o b : PlanId} {k : NameId} {q : PatternId} {t : Term} → BuildsPlan p (nodes.Keeping w a o k q b) t → Covers m (plan_tree p a) → Covers m (plan_tree p o)
-      → ((x : Name) → Mentions (plan_tree p b) x → BindsOthers (pattern_of (placed_at (plan_expressions p) q)) x → name_at (plan_expressions p) k ≢ x → IsTrue (is_mentioned m x)) → Covers m t
+      → ((x : Name) → Mentions (plan_tree p b) x → BindsOthers (inside k q) x → IsTrue (is_mentioned m x)) → Covers m t
   covers_keeping m {a = a} {o = o} {b = b} {k = k} {q = q} builds_keeping A O B = all
     where
       all : (x : Name) → Mentions (plan_tree p a) x ⊎ (Mentions (plan_tree p o) x ⊎ (Mentions (plan_tree p b) x × BindsOthers (pattern_of (placed_at (plan_expressions p) q)) x × name_at (plan_expressions p) k ≢ x)) → IsTrue (is_mentioned m x)
       all x (inl h) = A x h
       all x (inr (inl h)) = O x h
-      all x (inr (inr h)) = B x h.0 h.1 h.2
+      all x (inr (inr h)) = B x h.0 (h.2, h.1)
+
+  pub covers_gathered : {T E : Type 0} (a : Result T E) (m : Mentioned) {r : Rc PlanCollection Global} {t : Term} → BuildsPlan p (nodes.Gathered r) t
+      → (IsCodedCollection (plan_expressions p) r.value → OnOk a ((x : Name) → CollectionMentions (plan_collection p r.value) x → IsTrue (is_mentioned m x))) → OnOk a (Covers m t)
+  covers_gathered a m (builds_gathered k) h = h k
+
+  pub covers_releasing : (m : Mentioned) {s : PlanReleasing} {t : Term} → BuildsPlan p (nodes.Releasing s) t → CoversCollection m s.members.value → Covers m (plan_tree p s.observer)
+      → ((x : Name) → Mentions (plan_tree p s.body) x → BindsOthers (inside s.name s.pattern) x → IsTrue (is_mentioned m x)) → Covers m t
+  covers_releasing m {s = s} (builds_releasing k) I O B = all
+    where
+      all : (x : Name) → CollectionMentions (plan_collection p s.members.value) x
+          ⊎ (Mentions (plan_tree p s.observer) x ⊎ (Mentions (plan_tree p s.body) x × BindsOthers (pattern_of (placed_at (plan_expressions p) s.pattern)) x × name_at (plan_expressions p) s.name ≢ x))
+          → IsTrue (is_mentioned m x)
+      all x (inl h) = I k x h
+      all x (inr (inl h)) = O x h
+      all x (inr (inr h)) = B x h.0 (h.2, h.1)
+
+  pub covers_editing : (m : Mentioned) {s : PlanEditing} {t : Term} → BuildsPlan p (nodes.Editing s) t → CoversCollection m s.members.value
+      → (IsCodedCollection (plan_expressions p) s.edit.value → (x : Name) → CollectionMentions (plan_collection p s.edit.value) x → BindsOthers (inside s.name s.pattern) x → IsTrue (is_mentioned m x))
+      → Covers m t
+  covers_editing m {s = s} (builds_editing k) I B = both
+    where
+      both : (x : Name) → CollectionMentions (plan_collection p s.members.value) x
+          ⊎ (CollectionMentions (plan_collection p s.edit.value) x × BindsOthers (pattern_of (placed_at (plan_expressions p) s.pattern)) x × name_at (plan_expressions p) s.name ≢ x)
+          → IsTrue (is_mentioned m x)
+      both x (inl h) = I k.0 x h
+      both x (inr h) = B k.1 x h.0 (h.2, h.1)
 
   pub covers_pipeline : (m : Mentioned) {v : Vec PlanId Global} {t : Term} → BuildsPlan p (nodes.Pipeline v) t → Covers m (pipeline (trees_at p v.items)) → Covers m t
   covers_pipeline m (builds_pipeline w) h = h

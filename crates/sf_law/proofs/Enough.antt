@@ -34,6 +34,7 @@ any_of_arguments x (q ∷ qs) (arguments.Value e c ∷ vs) = any_of_arguments x 
 any_of_arguments x (q ∷ qs) (arguments.Started Run k ∷ vs) = any_of_arguments x qs vs
 any_of_arguments x (q ∷ qs) (arguments.Started Fresh k ∷ vs) = any_of_arguments x qs vs
 any_of_arguments x (q ∷ qs) (arguments.Closed a ∷ vs) = any_of_arguments x qs vs
+any_of_arguments x (q ∷ qs) (arguments.Collected r ∷ vs) = any_of_arguments x qs vs
 
 -- where any name is asked for, that is enough
 pub any_asked : (x : Exprs) (hs : List PlanHeader) (n : PlanNode) → IsTrue (is_asked x hs (is_mentioned Any) n)
@@ -48,6 +49,9 @@ any_asked x hs (nodes.Headed h e c a) = refl
 any_asked x hs (nodes.Transformed f c a) = refl
 any_asked x hs (nodes.Switching w a q b) = refl
 any_asked x hs (nodes.Keeping w a o k q b) = refl
+any_asked x hs (nodes.Gathered r) = refl
+any_asked x hs (nodes.Releasing s) = refl
+any_asked x hs (nodes.Editing s) = refl
 any_asked x hs (nodes.Pipeline v) = refl
 
 -- ## Arguments

@@ -17,7 +17,7 @@ use Rattle.sf_law.specs.declared.plan.Plan.{Plan}
 use Rattle.sf_law.specs.declared.node.TemplateId.{TemplateId}
 use Rattle.sf_law.specs.Headers.{PlanHeader, place_named, no_header}
 use Rattle.sf_law.specs.Entries.{IsCoded, plan_over, parts_end, is_whole, calls_first, identity_node, node_among, plan_terms, plan_term}
-use Rattle.sf_law.specs.Arena.{node_count, plan_asks, plan_node_at, plan_tree, BuildsPlan, plan_expressions, plan_headers, plan_template, header_at, IsCalled, builds_primitive, builds_started, builds_probe, builds_call, builds_joined, builds_sided, builds_headed, builds_transformed, builds_switching, builds_keeping, builds_pipeline, KeepsPlan, AddsNode}
+use Rattle.sf_law.specs.Arena.{node_count, plan_asks, plan_node_at, plan_tree, BuildsPlan, plan_expressions, plan_headers, plan_template, header_at, IsCalled, builds_primitive, builds_started, builds_probe, builds_call, builds_joined, builds_sided, builds_headed, builds_transformed, builds_switching, builds_keeping, builds_gathered, builds_releasing, builds_editing, builds_pipeline, KeepsPlan, AddsNode}
 use Rattle.sf_law.specs.Asking.{is_asked}
 use Rattle.sf_law.proofs.Placed.{term-built}
 
@@ -53,6 +53,9 @@ made p (nodes.Headed h e c a) w k f = builds_headed k
 made p (nodes.Transformed g c a) w k f = builds_transformed k
 made p (nodes.Switching s a q b) w k f = builds_switching
 made p (nodes.Keeping s a o i q b) w k f = builds_keeping
+made p (nodes.Gathered r) w k f = builds_gathered k
+made p (nodes.Releasing s) w k f = builds_releasing k
+made p (nodes.Editing s) w k f = builds_editing k
 made p (nodes.Pipeline v) w k f = builds_pipeline w
 
 -- a node stands for the term at its id

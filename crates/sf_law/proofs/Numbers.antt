@@ -13,6 +13,11 @@ use Rattle.sf_func.proofs.Lookups.{last_of, last_found, found_still}
 use Rattle.sf_value.specs.Values.{Name}
 use Rattle.sf_law.specs.Headers.{PlanHeader, no_header, place_named}
 
+-- what is not there is not found
+pub is_absent : {X : Type 0} (o : Option X) (b : Bool) → b ≡ is_some o → b ≡ false → o ≡ None
+is_absent None b is absent = refl
+is_absent (Some x) b is absent = absurd (true≢false (sym is ∙ absent))
+
 module _ (hs : List PlanHeader) (x : Name) where
   -- whether the template at a place has the name
   abbrev is_of : ℕ → Bool

@@ -7,15 +7,17 @@ use Rattle.sf_arena.proofs.Grown.{each_item, tree_made}
 use Rattle.sf_expr.specs.declared.exprs.Exprs.{Exprs}
 use Rattle.sf_expr.specs.Patterns.{pattern_of}
 use Rattle.sf_expr.specs.Arena.{expression, function_at, name_at, placed_at}
-use Rattle.sf_term.specs.Trees.{Term, reference, call, value_argument, process_argument, started, joined, sided, headed, transformed, switching, keeping}
+use Rattle.sf_term.specs.Trees.{Term, reference, call, value_argument, process_argument, collection_argument, started, joined, sided, headed, transformed, switching, keeping, gathered, releasing, editing, added, dropped, kept, chosen}
 use Rattle.sf_term.specs.Entries.{identity_term, term_among}
 use Rattle.sf_law.specs.declared.node.PlanId.{PlanId}
 use Rattle.sf_law.specs.declared.node.PlanArgument.{PlanArgument}
 use Rattle.sf_law.specs.declared.node.PlanArgument.TheVariants as arguments
+use Rattle.sf_law.specs.declared.node.PlanCollection.{PlanCollection}
+use Rattle.sf_law.specs.declared.node.PlanCollection.TheVariants as collections
 use Rattle.sf_law.specs.declared.node.PlanNode.{PlanNode}
 use Rattle.sf_law.specs.declared.node.PlanNode.TheVariants as nodes
 use Rattle.sf_law.specs.Headers.{PlanHeader}
-use Rattle.sf_law.specs.Entries.{closed_before, arguments_with, pipeline, IsCoded, plan_over, ids_end, arguments_end, parts_end, is_whole, calls_first, identity_node, node_among, plan_terms, plan_term, ArePlanNodes}
+use Rattle.sf_law.specs.Entries.{closed_before, arguments_with, collection_with, collection_over, pipeline, IsCoded, plan_over, ids_end, collection_end, arguments_end, parts_end, is_whole, calls_first, identity_node, node_among, plan_terms, plan_term, ArePlanNodes}
 
 part : (ts more : List Term) (i : ℕ) → suc i ≤ length ts → term_among (ts ++ more) i ≡ term_among ts i
 part ts more i h = get_or_append_left ts more identity_term i (omega arith)
@@ -24,12 +26,25 @@ all-parts : (ts more : List Term) (ids : List PlanId) → ids_end ids ≤ length
 all-parts ts more [] h = refl
 all-parts ts more (a ∷ ids) h = ap₂ (λ t us. t ∷ us) (part ts more a.0 (omega arith)) (all-parts ts more ids (omega arith))
 
+-- a collection depends on the terms below its end alone
+pub same_collection : (x : Exprs) (t u : PlanId → Term) (i : PlanCollection) → ((a : PlanId) → a.0 < collection_end i → t a ≡ u a) → collection_with x t i ≡ collection_with x u i
+same_collection x t u (collections.Empty k s) h = refl
+same_collection x t u (collections.Used k) h = refl
+same_collection x t u (collections.Added' r i e c a) h = ap₂ (λ j f. added j (expression x e) f) (same_collection x t u i (λ b l. h b (omega arith))) (h a (omega arith))
+same_collection x t u (collections.Dropped' r i e c) h = ap (λ j. dropped j (expression x e)) (same_collection x t u i h)
+same_collection x t u (collections.Kept' r i f c) h = ap (λ j. kept j (function_at x f)) (same_collection x t u i h)
+same_collection x t u (collections.Chosen' e c r i s j) h = ap₂ (λ a b. chosen (expression x e) a b) (same_collection x t u i (λ b l. h b (omega arith))) (same_collection x t u j (λ b l. h b (omega arith)))
+
 -- arguments depend on the terms below their end alone
 pub same_arguments : (x : Exprs) (t u : PlanId → Term) (vs : List PlanArgument) → ((a : PlanId) → a.0 < arguments_end vs → t a ≡ u a) → arguments_with x t vs ≡ arguments_with x u vs
 same_arguments x t u [] h = refl
 same_arguments x t u (arguments.Value e c ∷ vs) h = ap (λ ws. value_argument (expression x e) ws) (same_arguments x t u vs h)
 same_arguments x t u (arguments.Started w k ∷ vs) h = ap (λ ws. process_argument (reference (started w (name_at x k))) ws) (same_arguments x t u vs h)
 same_arguments x t u (arguments.Closed a ∷ vs) h = ap₂ (λ f ws. closed_before f ws) (h a (omega arith)) (same_arguments x t u vs (λ b l. h b (omega arith)))
+same_arguments x t u (arguments.Collected r ∷ vs) h = ap₂ (λ i ws. collection_argument i ws) (same_collection x t u r.value (λ b l. h b (omega arith))) (same_arguments x t u vs (λ b l. h b (omega arith)))
+
+members : (x : Exprs) (ts more : List Term) (i : PlanCollection) → collection_end i ≤ length ts → collection_over x (ts ++ more) i ≡ collection_over x ts i
+members x ts more i h = same_collection x (λ (a : PlanId). term_among (ts ++ more) a.0) (λ (a : PlanId). term_among ts a.0) i (λ a l. part ts more a.0 (omega arith))
 
 -- a node's term depends on its parts alone
 local : (x : Exprs) (ts more : List Term) (n : PlanNode) → parts_end n ≤ length ts → plan_over x (ts ++ more) n ≡ plan_over x ts n
@@ -47,6 +62,16 @@ local x ts more (nodes.Keeping w a o k q b) h =
     let pattern = pattern_of (placed_at x q) in
     ap₂ (λ s r. keeping w s r name pattern (term_among (ts ++ more) b.0)) (part ts more a.0 (omega arith)) (part ts more o.0 (omega arith))
     ∙ ap (λ t. keeping w (term_among ts a.0) (term_among ts o.0) name pattern t) (part ts more b.0 (omega arith))
+local x ts more (nodes.Gathered r) h = ap gathered (members x ts more r.value h)
+local x ts more (nodes.Releasing s) h =
+    let name = name_at x s.name in
+    let pattern = pattern_of (placed_at x s.pattern) in
+    ap₂ (λ i q. releasing s.shown i q name pattern (term_among (ts ++ more) s.body.0)) (members x ts more s.members.value (omega arith)) (part ts more s.observer.0 (omega arith))
+    ∙ ap (λ u. releasing s.shown (collection_over x ts s.members.value) (term_among ts s.observer.0) name pattern u) (part ts more s.body.0 (omega arith))
+local x ts more (nodes.Editing s) h =
+    let name = name_at x s.name in
+    let pattern = pattern_of (placed_at x s.pattern) in
+    ap₂ (λ i u. editing s.shown i name pattern u) (members x ts more s.members.value (omega arith)) (members x ts more s.edit.value (omega arith))
 local x ts more (nodes.Pipeline v) h = ap pipeline (all-parts ts more v.items h)
 
 -- nothing is an arena

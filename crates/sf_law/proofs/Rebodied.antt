@@ -34,6 +34,9 @@ module _ (ids : List PlanId) (n : ℕ) where
   calls_kept x hs (nodes.Transformed f c a) = refl
   calls_kept x hs (nodes.Switching w a q b) = refl
   calls_kept x hs (nodes.Keeping w a o k q b) = refl
+  calls_kept x hs (nodes.Gathered r) = refl
+  calls_kept x hs (nodes.Releasing s) = refl
+  calls_kept x hs (nodes.Editing s) = refl
   calls_kept x hs (nodes.Pipeline v) = refl
 
   pub arena_kept : (x : Exprs) (hs : List PlanHeader) (ns : List PlanNode) → ArePlanNodes x hs ns → ArePlanNodes x (map (rebodied ids n) hs) ns
@@ -61,6 +64,9 @@ module _ (ids : List PlanId) (n : ℕ) where
   asked_kept x hs asks (nodes.Transformed f c a) = refl
   asked_kept x hs asks (nodes.Switching w a q b) = refl
   asked_kept x hs asks (nodes.Keeping w a o k q b) = refl
+  asked_kept x hs asks (nodes.Gathered r) = refl
+  asked_kept x hs asks (nodes.Releasing s) = refl
+  asked_kept x hs asks (nodes.Editing s) = refl
   asked_kept x hs asks (nodes.Pipeline v) = refl
 
   -- nodes ask for what they asked for

@@ -20,12 +20,15 @@ use Rattle.sf_term.specs.declared.form.Observation.{Observation}
 use Rattle.sf_term.specs.declared.form.Switching.{Switching}
 use Rattle.sf_code.specs.declared.open.OpenCode.{OpenCode}
 use Rattle.sf_code.specs.Worth.{IsCodeOf, IsCodeOfFunction}
-use Rattle.sf_term.specs.Trees.{Term, primitive, probe, reference, started, call, Arguments, joined, sided, headed, transformed, switching, keeping, Template, Templates, template_named}
+use Rattle.sf_term.specs.Trees.{Term, primitive, probe, reference, started, call, Arguments, joined, sided, headed, transformed, switching, keeping, gathered, releasing, editing, Collection, Template, Templates, template_named}
 use Rattle.sf_term.specs.Parameters.{NameKind}
 use Rattle.sf_mean.specs.Meaning.{Network}
 use Rattle.sf_law.specs.declared.node.PlanId.{PlanId}
 use Rattle.sf_law.specs.declared.node.TemplateId.{TemplateId}
 use Rattle.sf_law.specs.declared.node.PlanArgument.{PlanArgument}
+use Rattle.sf_law.specs.declared.node.PlanCollection.{PlanCollection}
+use Rattle.sf_law.specs.declared.node.PlanReleasing.{PlanReleasing}
+use Rattle.sf_law.specs.declared.node.PlanEditing.{PlanEditing}
 use Rattle.sf_law.specs.declared.node.PlanNode.{PlanNode}
 use Rattle.sf_law.specs.declared.node.PlanPrimitive.{PlanPrimitive}
 use Rattle.sf_law.specs.declared.node.PlanNode.TheVariants as nodes
@@ -35,7 +38,7 @@ use Rattle.sf_law.specs.declared.mentioned.Mentioned.TheVariants.{Names, Any}
 use Rattle.sf_law.specs.Mentioned.{has_name, is_mentioned}
 use Rattle.sf_law.specs.Asking.{is_asked}
 use Rattle.sf_law.specs.Headers.{ParameterHeader, PlanHeader, no_header}
-use Rattle.sf_law.specs.Entries.{primitive_over, IsCodedPrimitive, IsCodedArgument, arguments_with, pipeline, node_among, plan_term}
+use Rattle.sf_law.specs.Entries.{primitive_over, IsCodedPrimitive, IsCodedArgument, IsCodedCollection, arguments_with, collection_with, pipeline, node_among, plan_term}
 
 -- the number of an id
 abbrev pub plan_number : PlanId → ℕ
@@ -118,6 +121,10 @@ IsCalled p x h = plan_template p h ≡ unwrap_or (template_named x (plan_templat
 abbrev pub plan_arguments : Plan → List PlanArgument → Arguments
 plan_arguments p vs = arguments_with (plan_expressions p) (plan_tree p) vs
 
+-- a collection, with the trees of its terms
+abbrev pub plan_collection : Plan → PlanCollection → Collection
+plan_collection p i = collection_with (plan_expressions p) (plan_tree p) i
+
 -- the network of a plan, where stored functions answer this
 abbrev pub network_of_plan : AnswersByName → Plan → Network
 network_of_plan f p = record { templates = plan_templates p; functions = f }
@@ -126,7 +133,7 @@ network_of_plan f p = record { templates = plan_templates p; functions = f }
 abbrev pub plan_main : Plan → PlanId
 plan_main p = p.main
 
--- A node with the ids of its parts stands for a term with their trees; the code that it has is that of its expressions or its function.
+-- A node with the ids of its parts stands for a term with their trees; the code that it has is that of its expressions, its function or its collections.
 pub data BuildsPlan (p : Plan) : PlanNode → Term → Type 0 where
   builds_primitive : {q : PlanPrimitive} → IsCodedPrimitive (plan_expressions p) q → BuildsPlan p (nodes.Primitive q) (primitive (primitive_over (plan_expressions p) q))
   builds_started : {w : Start} {k : NameId} → BuildsPlan p (nodes.Started w k) (reference (started w (name_at (plan_expressions p) k)))
@@ -139,6 +146,11 @@ pub data BuildsPlan (p : Plan) : PlanNode → Term → Type 0 where
   builds_transformed : {f : FunctionId} {c : OpenCode} {a : PlanId} → IsCodeOfFunction (function_at (plan_expressions p) f) c → BuildsPlan p (nodes.Transformed f c a) (transformed (function_at (plan_expressions p) f) (plan_tree p a))
   builds_switching : {w : Switching} {a b : PlanId} {q : PatternId} → BuildsPlan p (nodes.Switching w a q b) (switching w (plan_tree p a) (pattern_of (placed_at (plan_expressions p) q)) (plan_tree p b))
   builds_keeping : {w : Observation} {a o b : PlanId} {k : NameId} {q : PatternId} → BuildsPlan p (nodes.Keeping w a o k q b) (keeping w (plan_tree p a) (plan_tree p o) (name_at (plan_expressions p) k) (pattern_of (placed_at (plan_expressions p) q)) (plan_tree p b))
+  builds_gathered : {r : Rc PlanCollection Global} → IsCodedCollection (plan_expressions p) r.value → BuildsPlan p (nodes.Gathered r) (gathered (plan_collection p r.value))
+  builds_releasing : {s : PlanReleasing} → IsCodedCollection (plan_expressions p) s.members.value
+      → BuildsPlan p (nodes.Releasing s) (releasing s.shown (plan_collection p s.members.value) (plan_tree p s.observer) (name_at (plan_expressions p) s.name) (pattern_of (placed_at (plan_expressions p) s.pattern)) (plan_tree p s.body))
+  builds_editing : {s : PlanEditing} → IsCodedCollection (plan_expressions p) s.members.value × IsCodedCollection (plan_expressions p) s.edit.value
+      → BuildsPlan p (nodes.Editing s) (editing s.shown (plan_collection p s.members.value) (name_at (plan_expressions p) s.name) (pattern_of (placed_at (plan_expressions p) s.pattern)) (plan_collection p s.edit.value))
   builds_pipeline : {v : Vec PlanId Global} → IsTrue (nat_le 2 (length v.items)) → BuildsPlan p (nodes.Pipeline v) (pipeline (trees_at p v.items))
 
 -- Terms that a plan held are there as they were, over the same expressions.

@@ -20,11 +20,12 @@ abbrev pub start_asked : Bool → Bool → Start → Bool
 start_asked handed own Run = not handed || own
 start_asked handed own Fresh = own
 
--- the same of an argument for a parameter of this name
+-- The same of an argument for a parameter of this name. No form asks what a member of a collection began as.
 abbrev pub argument_asked : Exprs → (Name → Bool) → Name → PlanArgument → Bool
 argument_asked x asks y (arguments.Value e c) = true
 argument_asked x asks y (arguments.Started w k) = start_asked (asks y) (asks (name_at x k)) w
 argument_asked x asks y (arguments.Closed a) = true
+argument_asked x asks y (arguments.Collected r) = true
 
 -- the same of arguments, each for the parameter at its place
 abbrev pub arguments_asked : Exprs → (Name → Bool) → List ParameterHeader → List PlanArgument → Bool
@@ -44,6 +45,9 @@ is_asked x hs asks (nodes.Headed h e c a) = true
 is_asked x hs asks (nodes.Transformed f c a) = true
 is_asked x hs asks (nodes.Switching w a q c) = true
 is_asked x hs asks (nodes.Keeping w a o k q c) = true
+is_asked x hs asks (nodes.Gathered r) = true
+is_asked x hs asks (nodes.Releasing s) = true
+is_asked x hs asks (nodes.Editing s) = true
 is_asked x hs asks (nodes.Pipeline v) = true
 
 -- all names that nodes ask for are among these

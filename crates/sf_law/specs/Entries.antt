@@ -1,5 +1,6 @@
 -- The nodes of an arena of plans.
 use Rattle.std.specs.Prelude.{◌≡◌, ℕ, suc, ◌≤◌, max, Bool, true, nat_le, nat_eq, IsTrue, ⊤, List, [], ◌∷◌, length, map, slice_index_or, All, string_bytes}
+use Rattle.sf_value.specs.KindView.{key_kind_of}
 use Rattle.sf_expr.specs.declared.exprs.ExprId.{ExprId}
 use Rattle.sf_expr.specs.declared.exprs.Exprs.{Exprs}
 use Rattle.sf_expr.specs.Expressions.{named}
@@ -10,12 +11,14 @@ use Rattle.sf_term.specs.declared.form.Bare.TheVariants.{Identity}
 use Rattle.sf_code.specs.declared.open.OpenCode.{OpenCode}
 use Rattle.sf_code.specs.Worth.{IsCodeOf, IsCodeOfFunction}
 use Rattle.sf_term.specs.Entries.{identity_term, absent_payload, term_among}
-use Rattle.sf_term.specs.Trees.{Chain, lone, chained, on_side, on_both, fanned, fused, Extent, whole, rest, Primitive, Term, primitive, reference, started, call, probe, Arguments, no_arguments, value_argument, process_argument, closed_argument, joined, sided, headed, transformed, switching, keeping, staged, bare, never, with_value, timed, selected, arrow, accumulated}
+use Rattle.sf_term.specs.Trees.{Chain, lone, chained, on_side, on_both, fanned, fused, Extent, whole, rest, Primitive, Term, primitive, reference, started, call, probe, Arguments, no_arguments, value_argument, process_argument, closed_argument, collection_argument, joined, sided, headed, transformed, switching, keeping, gathered, releasing, editing, staged, Collection, without_members, used, added, dropped, kept, chosen, bare, never, with_value, timed, selected, arrow, accumulated}
 use Rattle.sf_law.specs.declared.node.PlanId.{PlanId}
 use Rattle.sf_law.specs.declared.node.PlanArgument.{PlanArgument}
 use Rattle.sf_law.specs.declared.node.PlanArgument.TheVariants as arguments
 use Rattle.sf_law.specs.declared.node.PlanChain.{PlanChain}
 use Rattle.sf_law.specs.declared.node.PlanChain.TheVariants as chains
+use Rattle.sf_law.specs.declared.node.PlanCollection.{PlanCollection}
+use Rattle.sf_law.specs.declared.node.PlanCollection.TheVariants as collections
 use Rattle.sf_law.specs.declared.node.PlanNode.{PlanNode}
 use Rattle.sf_law.specs.declared.node.PlanNode.TheVariants as nodes
 use Rattle.sf_law.specs.declared.node.PlanPrimitive.{PlanPrimitive}
@@ -74,13 +77,23 @@ IsCodedPrimitive x (primitives.Accumulated k e d f c) = IsCodeOf (expression x e
 abbrev pub IsCodedExpression : Exprs → ExprId → OpenCode → Type 0
 IsCodedExpression x e c = IsCodeOf (expression x e) c
 
--- the code that an argument has is that of its expression
+-- the code that a collection has is that of its expressions and functions
+abbrev pub IsCodedCollection : Exprs → PlanCollection → Type 0
+IsCodedCollection x (collections.Empty k t) = ⊤
+IsCodedCollection x (collections.Used k) = ⊤
+IsCodedCollection x (collections.Added' r i e c a) = IsCodedCollection x i × IsCodeOf (expression x e) c
+IsCodedCollection x (collections.Dropped' r i e c) = IsCodedCollection x i × IsCodeOf (expression x e) c
+IsCodedCollection x (collections.Kept' r i f c) = IsCodedCollection x i × IsCodeOfFunction (function_at x f) c
+IsCodedCollection x (collections.Chosen' e c r i s j) = IsCodeOf (expression x e) c × IsCodedCollection x i × IsCodedCollection x j
+
+-- the code that an argument has is that of its expression or its collection
 abbrev pub IsCodedArgument : Exprs → PlanArgument → Type 0
 IsCodedArgument x (arguments.Value e c) = IsCodeOf (expression x e) c
 IsCodedArgument x (arguments.Started w k) = ⊤
 IsCodedArgument x (arguments.Closed a) = ⊤
+IsCodedArgument x (arguments.Collected r) = IsCodedCollection x r.value
 
--- the code that a node has is that of its expressions or its function
+-- the code that a node has is that of its expressions, its function or its collections
 abbrev pub IsCoded : Exprs → PlanNode → Type 0
 IsCoded x (nodes.Primitive q) = IsCodedPrimitive x q
 IsCoded x (nodes.Started w k) = ⊤
@@ -92,6 +105,9 @@ IsCoded x (nodes.Headed h e c a) = IsCodeOf (expression x e) c
 IsCoded x (nodes.Transformed f c a) = IsCodeOfFunction (function_at x f) c
 IsCoded x (nodes.Switching w a q b) = ⊤
 IsCoded x (nodes.Keeping w a o k q b) = ⊤
+IsCoded x (nodes.Gathered r) = IsCodedCollection x r.value
+IsCoded x (nodes.Releasing s) = IsCodedCollection x s.members.value
+IsCoded x (nodes.Editing s) = IsCodedCollection x s.members.value × IsCodedCollection x s.edit.value
 IsCoded x (nodes.Pipeline v) = ⊤
 
 -- Arguments with a term that is closed before them. Such a term is written as it is in a network, but for a named process: as an
@@ -106,7 +122,19 @@ closed_before (headed h i t) vs = process_argument (headed h i t) vs
 closed_before (transformed f t) vs = process_argument (transformed f t) vs
 closed_before (switching w t p u) vs = process_argument (switching w t p u) vs
 closed_before (keeping w t q k p u) vs = process_argument (keeping w t q k p u) vs
+closed_before (gathered i) vs = process_argument (gathered i) vs
+closed_before (releasing w i q k p u) vs = process_argument (releasing w i q k p u) vs
+closed_before (editing w i k p u) vs = process_argument (editing w i k p u) vs
 closed_before (staged e f g) vs = process_argument (staged e f g) vs
+
+-- a collection, with these terms at its ids
+abbrev pub collection_with : Exprs → (PlanId → Term) → PlanCollection → Collection
+collection_with x t (collections.Empty k s) = without_members (key_kind_of k) s
+collection_with x t (collections.Used k) = used (name_at x k)
+collection_with x t (collections.Added' r i e c a) = added (collection_with x t i) (expression x e) (t a)
+collection_with x t (collections.Dropped' r i e c) = dropped (collection_with x t i) (expression x e)
+collection_with x t (collections.Kept' r i f c) = kept (collection_with x t i) (function_at x f)
+collection_with x t (collections.Chosen' e c r i s j) = chosen (expression x e) (collection_with x t i) (collection_with x t j)
 
 -- arguments, with these terms at their ids
 abbrev pub arguments_with : Exprs → (PlanId → Term) → List PlanArgument → Arguments
@@ -114,6 +142,11 @@ arguments_with x t [] = no_arguments
 arguments_with x t (arguments.Value e c ∷ vs) = value_argument (expression x e) (arguments_with x t vs)
 arguments_with x t (arguments.Started w k ∷ vs) = process_argument (reference (started w (name_at x k))) (arguments_with x t vs)
 arguments_with x t (arguments.Closed a ∷ vs) = closed_before (t a) (arguments_with x t vs)
+arguments_with x t (arguments.Collected r ∷ vs) = collection_argument (collection_with x t r.value) (arguments_with x t vs)
+
+-- the same over the terms before it
+abbrev pub collection_over : Exprs → List Term → PlanCollection → Collection
+collection_over x ts i = collection_with x (λ (a : PlanId). term_among ts a.0) i
 
 -- the term of a node, over the terms before it
 abbrev pub plan_over : Exprs → List Term → PlanNode → Term
@@ -127,6 +160,9 @@ plan_over x ts (nodes.Headed h e c a) = headed h (expression x e) (term_among ts
 plan_over x ts (nodes.Transformed f c a) = transformed (function_at x f) (term_among ts a.0)
 plan_over x ts (nodes.Switching w a q b) = switching w (term_among ts a.0) (pattern_of (placed_at x q)) (term_among ts b.0)
 plan_over x ts (nodes.Keeping w a o k q b) = keeping w (term_among ts a.0) (term_among ts o.0) (name_at x k) (pattern_of (placed_at x q)) (term_among ts b.0)
+plan_over x ts (nodes.Gathered r) = gathered (collection_over x ts r.value)
+plan_over x ts (nodes.Releasing s) = releasing s.shown (collection_over x ts s.members.value) (term_among ts s.observer.0) (name_at x s.name) (pattern_of (placed_at x s.pattern)) (term_among ts s.body.0)
+plan_over x ts (nodes.Editing s) = editing s.shown (collection_over x ts s.members.value) (name_at x s.name) (pattern_of (placed_at x s.pattern)) (collection_over x ts s.edit.value)
 plan_over x ts (nodes.Pipeline v) = pipeline (map (λ (a : PlanId). term_among ts a.0) v.items)
 
 -- the least number above ids
@@ -134,12 +170,22 @@ abbrev pub ids_end : List PlanId → ℕ
 ids_end [] = 0
 ids_end (a ∷ bs) = max (suc a.0) (ids_end bs)
 
+-- the least number above the ids of a collection
+abbrev pub collection_end : PlanCollection → ℕ
+collection_end (collections.Empty k t) = 0
+collection_end (collections.Used k) = 0
+collection_end (collections.Added' r i e c a) = max (suc a.0) (collection_end i)
+collection_end (collections.Dropped' r i e c) = collection_end i
+collection_end (collections.Kept' r i f c) = collection_end i
+collection_end (collections.Chosen' e c r i s j) = max (collection_end i) (collection_end j)
+
 -- the least number above the ids of arguments
 abbrev pub arguments_end : List PlanArgument → ℕ
 arguments_end [] = 0
 arguments_end (arguments.Value e c ∷ vs) = arguments_end vs
 arguments_end (arguments.Started w k ∷ vs) = arguments_end vs
 arguments_end (arguments.Closed a ∷ vs) = max (suc a.0) (arguments_end vs)
+arguments_end (arguments.Collected r ∷ vs) = max (collection_end r.value) (arguments_end vs)
 
 -- the least number above the ids of a node's parts
 abbrev pub parts_end : PlanNode → ℕ
@@ -153,6 +199,9 @@ parts_end (nodes.Headed h e c a) = suc a.0
 parts_end (nodes.Transformed f c a) = suc a.0
 parts_end (nodes.Switching w a q b) = suc (max a.0 b.0)
 parts_end (nodes.Keeping w a o k q b) = suc (max (max a.0 o.0) b.0)
+parts_end (nodes.Gathered r) = collection_end r.value
+parts_end (nodes.Releasing s) = max (collection_end s.members.value) (suc (max s.observer.0 s.body.0))
+parts_end (nodes.Editing s) = max (collection_end s.members.value) (collection_end s.edit.value)
 parts_end (nodes.Pipeline v) = ids_end v.items
 
 -- a pipeline has two stages or more
@@ -167,6 +216,9 @@ is_whole (nodes.Headed h e c a) = true
 is_whole (nodes.Transformed f c a) = true
 is_whole (nodes.Switching w a q b) = true
 is_whole (nodes.Keeping w a o k q b) = true
+is_whole (nodes.Gathered r) = true
+is_whole (nodes.Releasing s) = true
+is_whole (nodes.Editing s) = true
 is_whole (nodes.Pipeline v) = nat_le 2 (length v.items)
 
 -- a call is of the first template of its name
@@ -181,6 +233,9 @@ calls_first x hs (nodes.Headed h e c a) = true
 calls_first x hs (nodes.Transformed f c a) = true
 calls_first x hs (nodes.Switching w a q b) = true
 calls_first x hs (nodes.Keeping w a o k q b) = true
+calls_first x hs (nodes.Gathered r) = true
+calls_first x hs (nodes.Releasing s) = true
+calls_first x hs (nodes.Editing s) = true
 calls_first x hs (nodes.Pipeline v) = true
 
 -- the identity

@@ -13,7 +13,7 @@ use Rattle.sf_law.specs.declared.node.PlanNode.{PlanNode}
 use Rattle.sf_law.specs.declared.mentioned.Mentioned.{Mentioned}
 use Rattle.sf_law.specs.declared.mentioned.Mentioned.TheVariants.{Names, Any}
 use Rattle.sf_law.specs.declared.mentioned.Binder.{Binder}
-use Rattle.sf_law.specs.declared.mentioned.Binder.TheVariants.{Pattern as OfPattern, Name as OfName}
+use Rattle.sf_law.specs.declared.mentioned.Binder.TheVariants.{Pattern as OfPattern, Name as OfName, Both as OfBoth}
 use Rattle.sf_law.specs.Entries.{plan_term}
 
 -- whether a name is among names
@@ -35,6 +35,7 @@ binds_name (both p q) x = binds_name p x || binds_name q x
 abbrev pub bound_pattern : Binder → Pattern
 bound_pattern (OfPattern p) = pattern_of p.now
 bound_pattern (OfName x) = named x.now
+bound_pattern (OfBoth x p) = both (named x.now) (pattern_of p.now)
 
 -- the names of a list are in another
 abbrev pub HasAll : Mentioned → Mentioned → Type 0

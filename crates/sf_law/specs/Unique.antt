@@ -25,13 +25,15 @@ use Rattle.sf_law.specs.declared.node.PlanArgument.{PlanArgument}
 use Rattle.sf_law.specs.declared.node.PlanArgument.TheVariants as arguments
 use Rattle.sf_law.specs.declared.node.PlanChain.{PlanChain}
 use Rattle.sf_law.specs.declared.node.PlanChain.TheVariants as chains
+use Rattle.sf_law.specs.declared.node.PlanCollection.{PlanCollection}
+use Rattle.sf_law.specs.declared.node.PlanCollection.TheVariants as collections
 use Rattle.sf_law.specs.declared.node.PlanNode.{PlanNode}
 use Rattle.sf_law.specs.declared.node.PlanNode.TheVariants as nodes
 use Rattle.sf_law.specs.declared.node.PlanPrimitive.{PlanPrimitive}
 use Rattle.sf_law.specs.declared.node.PlanPrimitive.TheVariants as primitives
 use Rattle.sf_law.specs.Headers.{ParameterHeader, PlanHeader}
 use Rattle.sf_law.specs.Places.{names_of_parameters, last_parameter, ArePlaces}
-use Rattle.sf_law.specs.Entries.{IsCodedChain, IsCodedPrimitive, IsCodedArgument, IsCoded, BindsNames}
+use Rattle.sf_law.specs.Entries.{IsCodedChain, IsCodedPrimitive, IsCodedCollection, IsCodedArgument, IsCoded, BindsNames}
 
 -- an evaluation as a result, and back
 abbrev result_in : Evaluated Data → Result Data ValueFault
@@ -92,10 +94,19 @@ IsCodedPrimitive-prop x (primitives.Arrow f c) = IsCodeOfFunction-prop (function
 IsCodedPrimitive-prop x (primitives.Fused r) = IsCodedChain-prop x r.value
 IsCodedPrimitive-prop x (primitives.Accumulated k e d f c) = λ a b i. (IsCodeOf-prop (expression x e) d a.0 b.0 i, IsCodeOfFunction-prop (function_at x f) c.value a.1 b.1 i)
 
+IsCodedCollection-prop : (x : Exprs) (q : PlanCollection) → IsProp (IsCodedCollection x q)
+IsCodedCollection-prop x (collections.Empty k t) = Unit-prop
+IsCodedCollection-prop x (collections.Used k) = Unit-prop
+IsCodedCollection-prop x (collections.Added' r q e c a) = λ k l i. (IsCodedCollection-prop x q k.0 l.0 i, IsCodeOf-prop (expression x e) c k.1 l.1 i)
+IsCodedCollection-prop x (collections.Dropped' r q e c) = λ k l i. (IsCodedCollection-prop x q k.0 l.0 i, IsCodeOf-prop (expression x e) c k.1 l.1 i)
+IsCodedCollection-prop x (collections.Kept' r q f c) = λ k l i. (IsCodedCollection-prop x q k.0 l.0 i, IsCodeOfFunction-prop (function_at x f) c k.1 l.1 i)
+IsCodedCollection-prop x (collections.Chosen' e c r q s o) = λ k l i. (IsCodeOf-prop (expression x e) c k.0 l.0 i, IsCodedCollection-prop x q k.1 l.1 i, IsCodedCollection-prop x o k.2 l.2 i)
+
 IsCodedArgument-prop : (x : Exprs) (v : PlanArgument) → IsProp (IsCodedArgument x v)
 IsCodedArgument-prop x (arguments.Value e c) = IsCodeOf-prop (expression x e) c
 IsCodedArgument-prop x (arguments.Started w k) = Unit-prop
 IsCodedArgument-prop x (arguments.Closed a) = Unit-prop
+IsCodedArgument-prop x (arguments.Collected r) = IsCodedCollection-prop x r.value
 
 pub IsCoded-prop : (x : Exprs) (n : PlanNode) → IsProp (IsCoded x n)
 IsCoded-prop x (nodes.Primitive q) = IsCodedPrimitive-prop x q
@@ -108,6 +119,9 @@ IsCoded-prop x (nodes.Headed h e c a) = IsCodeOf-prop (expression x e) c
 IsCoded-prop x (nodes.Transformed f c a) = IsCodeOfFunction-prop (function_at x f) c
 IsCoded-prop x (nodes.Switching w a q b) = Unit-prop
 IsCoded-prop x (nodes.Keeping w a o k q b) = Unit-prop
+IsCoded-prop x (nodes.Gathered r) = IsCodedCollection-prop x r.value
+IsCoded-prop x (nodes.Releasing s) = IsCodedCollection-prop x s.members.value
+IsCoded-prop x (nodes.Editing s) = λ a b i. (IsCodedCollection-prop x s.members.value a.0 b.0 i, IsCodedCollection-prop x s.edit.value a.1 b.1 i)
 IsCoded-prop x (nodes.Pipeline v) = Unit-prop
 
 place-set : (a b : Option ℕ) → IsProp (a ≡ b)

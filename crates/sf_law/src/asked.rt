@@ -89,7 +89,9 @@ impl Mentioned {
                 let handed = self.has(exprs.name_of(parameter.name()));
                 self.lack_of_start(exprs, handed, *start, *name)
             }
-            PlanArgument::Value(_, _) | PlanArgument::Closed(_) => None,
+            PlanArgument::Value(_, _) | PlanArgument::Closed(_) | PlanArgument::Collected(_) => {
+                None
+            }
         }
     }
 

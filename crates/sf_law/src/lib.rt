@@ -7,13 +7,16 @@ mod mentioned;
 mod mentions;
 mod node;
 mod places;
-mod plain_plan;
+mod plain;
 mod plan;
 mod template;
 
 pub use laws::asks_for_none;
 pub use mentioned::{Binder, Mentioned};
-pub use node::{PlanArgument, PlanChain, PlanId, PlanNode, PlanPrimitive, TemplateId};
-pub use plain_plan::{empty_plan, plain, plan_named, plan_primitive, started};
+pub use node::{
+    PlanArgument, PlanChain, PlanCollection, PlanEditing, PlanId, PlanNode, PlanPrimitive,
+    PlanReleasing, TemplateId,
+};
+pub use plain::{empty_plan, plain_plan, plan_named, plan_primitive, started};
 pub use plan::Plan;
 pub use template::{PlanParameter, PlanTemplate};

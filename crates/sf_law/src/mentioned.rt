@@ -26,8 +26,10 @@ pub enum Mentioned {
 pub enum Binder<'a> {
     /// A pattern.
     Pattern(&'a Pat),
-    /// A name of a process.
+    /// A name of a process or of a collection.
     Name(&'a str),
+    /// A name and a pattern.
+    Both(&'a str, &'a Pat),
 }
 
 /// So many names are listed.
@@ -196,6 +198,7 @@ impl<'a> Binder<'a> {
         match self {
             Binder::Pattern(pattern) => binds(pattern, name),
             Binder::Name(own) => name == own,
+            Binder::Both(own, pattern) => name == own || binds(pattern, name),
         }
     }
 }

@@ -3,16 +3,20 @@ ghost use Rattle.std.specs.Prelude.{◌≤◌, length, All, IfOk, OnOk, IsTrue};
 ghost use Rattle.sf_value.specs.Values.{Name as NameOf};
 ghost use Rattle.sf_expr.specs.Arena.{name_at};
 ghost use Rattle.sf_term.specs.Trees.{Term};
-ghost use Rattle.sf_coincidence.specs.Mentions.{BindsOthers, PrimitiveMentions, ChainMentions, ArgumentsMention, Mentions};
+ghost use Rattle.sf_coincidence.specs.Mentions.{BindsOthers, PrimitiveMentions, ChainMentions, ArgumentsMention, CollectionMentions};
 ghost use Rattle.sf_law.specs.declared.node.PlanId.{PlanId as PlanIdOf};
-ghost use Rattle.sf_law.specs.Arena.{plan_tree, plan_expressions, plan_arguments, trees_at, node_count, BuildsPlan};
-ghost use Rattle.sf_law.specs.Entries.{IsCodedChain, IsCodedPrimitive, IsCodedArgument, chain_over, primitive_over, pipeline};
+ghost use Rattle.sf_law.specs.declared.node.PlanNode.TheVariants.{Releasing as releasing_node, Editing as editing_node};
+ghost use Rattle.sf_law.specs.Arena.{plan_tree, plan_expressions, plan_arguments, plan_collection, trees_at, node_count, BuildsPlan};
+ghost use Rattle.sf_law.specs.Entries.{IsCodedChain, IsCodedPrimitive, IsCodedArgument, IsCodedCollection, chain_over, primitive_over, pipeline};
 ghost use Rattle.sf_expr.specs.declared.exprs.Exprs.{Exprs};
 ghost use Rattle.sf_law.specs.Mentioning.{ArgumentMentions};
 ghost use Rattle.sf_law.specs.Mentioned.{is_mentioned, bound_pattern, mentioned_at, HasAll, Covers};
 
 use crate::mentioned::{Binder, Mentioned};
-use crate::node::{PlanArgument, PlanChain, PlanId, PlanNode, PlanPrimitive};
+use crate::node::{
+    PlanArgument, PlanChain, PlanCollection, PlanEditing, PlanId, PlanNode, PlanPrimitive,
+    PlanReleasing,
+};
 use crate::plan::Plan;
 use std::alloc::{AllocError, Global};
 
@@ -63,17 +67,117 @@ impl Mentioned {
             }
             PlanNode::Switching(_, first, pattern, body) => {
                 self.add_part(lists, *first)?;
-                let within = inside(alloc, lists, *body, Binder::Pattern(exprs.placed(*pattern)))?;
-                self.add_all(&within)
+                self.add_body(alloc, lists, *body, Binder::Pattern(exprs.placed(*pattern)))
             }
             PlanNode::Keeping(_, first, observer, name, pattern, body) => {
                 self.add_part(lists, *first)?;
                 self.add_part(lists, *observer)?;
-                let within = inside(alloc, lists, *body, Binder::Pattern(exprs.placed(*pattern)))?;
-                let left = within.outside(alloc, Binder::Name(exprs.name_of(*name)))?;
+                let binder = Binder::Both(exprs.name_of(*name), exprs.placed(*pattern));
+                self.add_body(alloc, lists, *body, binder)
+            }
+            PlanNode::Gathered(members) => self.add_collection(alloc, plan, lists, members),
+            PlanNode::Releasing(releasing) => self.add_releasing(alloc, plan, lists, releasing),
+            PlanNode::Editing(editing) => self.add_editing(alloc, plan, lists, editing),
+            PlanNode::Pipeline(stages) => self.add_parts(plan, lists, stages),
+        }
+    }
+
+    // Adds what members, their observer and the body that takes over mention.
+    fn add_releasing(
+        &mut self,
+        alloc: Global,
+        plan: &Plan,
+        lists: &[Mentioned],
+        releasing: &PlanReleasing,
+    ) -> Result<(), AllocError>
+        requires { (a : PlanIdOf) → Covers (mentioned_at lists.now a.0) (plan_tree plan.now a) }
+        ensures { (t : Term) → BuildsPlan plan.now (releasing_node releasing.now) t → OnOk result (Covers self.new t) }
+    {
+        let exprs = plan.expressions();
+        let name = exprs.name_of(releasing.name);
+        let binder = Binder::Both(name, exprs.placed(releasing.pattern));
+        self.add_collection(alloc, plan, lists, &releasing.members)?;
+        self.add_part(lists, releasing.observer)?;
+        self.add_body(alloc, lists, releasing.body, binder)
+    }
+
+    // Adds what members and what they become mention.
+    fn add_editing(
+        &mut self,
+        alloc: Global,
+        plan: &Plan,
+        lists: &[Mentioned],
+        editing: &PlanEditing,
+    ) -> Result<(), AllocError>
+        requires { (a : PlanIdOf) → Covers (mentioned_at lists.now a.0) (plan_tree plan.now a) }
+        ensures { (t : Term) → BuildsPlan plan.now (editing_node editing.now) t → OnOk result (Covers self.new t) }
+    {
+        let exprs = plan.expressions();
+        let name = exprs.name_of(editing.name);
+        let binder = Binder::Both(name, exprs.placed(editing.pattern));
+        self.add_collection(alloc, plan, lists, &editing.members)?;
+        let mut within = Mentioned::nothing(alloc);
+        within.add_collection(alloc, plan, lists, &editing.edit)?;
+        let left = within.outside(alloc, binder)?;
+        self.add_all(&left)
+    }
+
+    // Adds what a collection mentions.
+    fn add_collection(
+        &mut self,
+        alloc: Global,
+        plan: &Plan,
+        lists: &[Mentioned],
+        collection: &PlanCollection,
+    ) -> Result<(), AllocError>
+        requires { (a : PlanIdOf) → Covers (mentioned_at lists.now a.0) (plan_tree plan.now a) }
+        ensures kept { OnOk result (HasAll self.old self.new) }
+        ensures added { IsCodedCollection (plan_expressions plan.now) collection.now → OnOk result ((x : NameOf) → CollectionMentions (plan_collection plan.now collection.now) x → IsTrue (is_mentioned self.new x)) }
+    {
+        match collection {
+            PlanCollection::Empty(_, _) => Ok(()),
+            PlanCollection::Used(name) => self.add_text(alloc, plan.expressions().name_of(*name)),
+            PlanCollection::Added(members, _, code, term) => {
+                self.add_collection(alloc, plan, lists, members)?;
+                self.add_code(alloc, code)?;
+                self.add_part(lists, *term)
+            }
+            PlanCollection::Dropped(members, _, code) => {
+                self.add_collection(alloc, plan, lists, members)?;
+                self.add_code(alloc, code)
+            }
+            PlanCollection::Kept(members, _, code) => {
+                self.add_collection(alloc, plan, lists, members)?;
+                self.add_code(alloc, code)
+            }
+            PlanCollection::Chosen(_, code, first, second) => {
+                self.add_code(alloc, code)?;
+                self.add_collection(alloc, plan, lists, first)?;
+                self.add_collection(alloc, plan, lists, second)
+            }
+        }
+    }
+
+    // Adds what a body mentions that isn't bound there.
+    fn add_body(
+        &mut self,
+        alloc: Global,
+        lists: &[Mentioned],
+        body: PlanId,
+        binder: Binder,
+    ) -> Result<(), AllocError>
+        ensures kept { OnOk result (HasAll self.old self.new) }
+        ensures added { OnOk result ((x : NameOf) → IsTrue (is_mentioned (mentioned_at lists.now body.0) x) → BindsOthers (bound_pattern binder.entry) x → IsTrue (is_mentioned self.new x)) }
+    {
+        match lists.get(body.0) {
+            Some(mentioned) => {
+                let left = mentioned.outside(alloc, binder)?;
                 self.add_all(&left)
             }
-            PlanNode::Pipeline(stages) => self.add_parts(plan, lists, stages),
+            None => {
+                *self = Mentioned::Any;
+                Ok(())
+            }
         }
     }
 
@@ -146,6 +250,7 @@ impl Mentioned {
                 self.add_text(alloc, plan.expressions().name_of(*name))
             }
             PlanArgument::Closed(term) => self.add_part(lists, *term),
+            PlanArgument::Collected(members) => self.add_collection(alloc, plan, lists, members),
         }
     }
 
@@ -183,20 +288,5 @@ impl Mentioned {
                 self.add_chain(alloc, second)
             }
         }
-    }
-}
-
-// What a body mentions that isn't bound there.
-fn inside(
-    alloc: Global,
-    lists: &[Mentioned],
-    body: PlanId,
-    binder: Binder,
-) -> Result<Mentioned, AllocError>
-    ensures { IfOk result (λ left. (x : NameOf) → IsTrue (is_mentioned (mentioned_at lists.now body.0) x) → BindsOthers (bound_pattern binder.entry) x → IsTrue (is_mentioned left x)) }
-{
-    match lists.get(body.0) {
-        Some(mentioned) => mentioned.outside(alloc, binder),
-        None => Ok(Mentioned::Any),
     }
 }

@@ -6,6 +6,7 @@ use sf_term::{
     Accumulation, Bare, Heading, Join, Observation, Selection, Side, Start, Switching, Timing,
     WithValue,
 };
+use sf_value::{KeyType, Ty};
 use std::rc::Rc;
 
 /// A term in its plan.
@@ -25,6 +26,52 @@ pub enum PlanArgument {
     Started(Start, NameId),
     /// A term, which is closed in the names around the call.
     Closed(PlanId),
+    /// A collection, which is made where the call is.
+    Collected(Rc<PlanCollection>),
+}
+
+/// A collection, with the code that is run for its keys, its conditions and its functions.
+#[cycle(collection)]
+pub enum PlanCollection {
+    /// One without members, with the type of its keys and the type of its members' outputs.
+    Empty(KeyType, Ty),
+    /// That of a name.
+    Used(NameId),
+    /// One with a term added under a key.
+    Added(Rc<PlanCollection>, ExprId, OpenCode, PlanId),
+    /// One without what stands under a key.
+    Dropped(Rc<PlanCollection>, ExprId, OpenCode),
+    /// One with those whose keys a function keeps.
+    Kept(Rc<PlanCollection>, FunctionId, OpenCode),
+    /// One of two, by a condition.
+    Chosen(ExprId, OpenCode, Rc<PlanCollection>, Rc<PlanCollection>),
+}
+
+impl Drop for PlanCollection {
+    #[cycle(collection)]
+    fn drop(self) {
+        match self {
+            PlanCollection::Empty(_, output) => drop(output),
+            PlanCollection::Used(_) => {}
+            PlanCollection::Added(members, _, code, _) => {
+                drop(members);
+                drop(code);
+            }
+            PlanCollection::Dropped(members, _, code) => {
+                drop(members);
+                drop(code);
+            }
+            PlanCollection::Kept(members, _, code) => {
+                drop(members);
+                drop(code);
+            }
+            PlanCollection::Chosen(_, code, first, second) => {
+                drop(code);
+                drop(first);
+                drop(second);
+            }
+        }
+    }
 }
 
 /// Functions that are made into one, each with the code that is run for it. Whatever lives by them shares their code.
@@ -108,6 +155,44 @@ pub enum PlanNode {
     Switching(Switching, PlanId, PatternId, PlanId),
     /// A term and its observer, and the body that takes over inside a name and a pattern.
     Keeping(Observation, PlanId, PlanId, NameId, PatternId, PlanId),
+    /// The members of a collection.
+    Gathered(Rc<PlanCollection>),
+    /// Members and their observer, and the body that takes over.
+    Releasing(PlanReleasing),
+    /// Members, and what edits them.
+    Editing(PlanEditing),
     /// Two or more stages, each before the others.
     Pipeline(Vec<PlanId>),
+}
+
+/// Members and their observer, and the body that takes over inside a name and a pattern.
+#[derive(Drop)]
+pub struct PlanReleasing {
+    /// Which output is shown at the event.
+    pub shown: Observation,
+    /// The collection of the members.
+    pub members: Rc<PlanCollection>,
+    /// The term that observes them.
+    pub observer: PlanId,
+    /// The name of the members in the body.
+    pub name: NameId,
+    /// The pattern of the event in the body.
+    pub pattern: PatternId,
+    /// The term that takes over.
+    pub body: PlanId,
+}
+
+/// Members, and the collection that they become at an event, inside a name and a pattern.
+#[derive(Drop)]
+pub struct PlanEditing {
+    /// Which output is shown at the event.
+    pub shown: Observation,
+    /// The collection of the members.
+    pub members: Rc<PlanCollection>,
+    /// The name of the members in the edit.
+    pub name: NameId,
+    /// The pattern of the event in the edit.
+    pub pattern: PatternId,
+    /// What they become.
+    pub edit: Rc<PlanCollection>,
 }

@@ -2,8 +2,8 @@
 use Rattle.std.proofs.Common.{ℤ, ◌≡◌, arith, Bool, true, false, ◌&&◌, cond, [], ◌∷◌, Some, None, refl, sym, ap, subst, ◌∙◌}
 use Rattle.std.specs.Prelude.{Option, nat_le}
 use mathlib.Core.Path.{ap₂, subst₂}
-use Rattle.sf_value.specs.Values.{Name, Kind, unit_kind, bool_kind, int_kind, text_kind, pair_kind, event_kind, table_kind, nodes, IsNoPair}
-use Rattle.sf_operator.specs.Kinds.{same_kind, only, parts_of, payload_of}
+use Rattle.sf_value.specs.Values.{Name, KeyKind, Kind, unit_kind, bool_kind, int_kind, text_kind, pair_kind, event_kind, table_kind, nodes, IsNoPair}
+use Rattle.sf_operator.specs.Kinds.{same_kind, only, parts_of, payload_of, kind_of_keys}
 use Rattle.sf_operator.proofs.SameKinds.{same_is, is_same, found_is, only_is, parts_is, payload_is}
 use Rattle.sf_func.specs.Registries.{TypesByName}
 use Rattle.sf_expr.specs.Expressions.{Pattern, Expression, Function}
@@ -17,14 +17,14 @@ use Rattle.sf_term.specs.declared.form.Join.TheVariants.{InSequence, InParallel,
 use Rattle.sf_term.specs.declared.form.Side.{Side}
 use Rattle.sf_term.specs.declared.form.Side.TheVariants.{First, Second}
 use Rattle.sf_term.specs.declared.form.Heading.TheVariants.{LoopPre, Initialized, Replaced, Followed}
-use Rattle.sf_term.specs.Trees.{Chain, lone, chained, on_side, on_both, fanned, Primitive, bare, probe, never, with_value, timed, selected, arrow, accumulated, fused, Extent, Term, primitive, Reference, reference, started, call, Arguments, no_arguments, value_argument, process_argument, closed_argument, joined, sided, headed, transformed, switching, keeping, staged}
-use Rattle.sf_term.specs.Parameters.{NameKind, value, process, Bindings}
+use Rattle.sf_term.specs.Trees.{Chain, lone, chained, on_side, on_both, fanned, Primitive, bare, probe, never, with_value, timed, selected, arrow, accumulated, fused, Extent, Term, primitive, Reference, reference, started, call, Arguments, no_arguments, value_argument, process_argument, collection_argument, closed_argument, joined, sided, headed, transformed, switching, keeping, gathered, releasing, editing, staged, Collection, without_members, used, added, dropped, kept as kept_members, chosen}
+use Rattle.sf_term.specs.Parameters.{NameKind, value, process, collection, Bindings}
 use Rattle.sf_term.specs.declared.form.Observation.{Observation}
 use Rattle.sf_term.specs.declared.form.Start.{Start}
 use Rattle.sf_term.specs.declared.form.Switching.TheVariants.{Basic, Recurring}
-use Rattle.sf_mean.specs.Contexts.{Signature, signature_named, values_in, bindings_inside, Context, names_of_values, inside_pattern, inside_process, process_named}
-use Rattle.sf_mean.specs.Typing.{ChainTakes, lone_takes, chained_takes, on_first_takes, on_second_takes, on_both_takes, fanned_takes, bare_kind, value_kind, accumulated_argument, accumulated_kind, takes_input, takes_time, timed_kind, takes_number, selected_kind, PrimitiveTakes, bare_takes, probe_takes, never_takes, value_takes, timed_takes, selected_takes, accumulated_takes, arrow_takes, fused_takes, Takes, takes, FormTakes, primitive_takes, started_takes, call_takes, ArgumentsFit, no_argument_fits, value_fits, process_fits, closed_fits, sequence_takes, parallel_takes, fan_takes, first_takes, second_takes, loop_takes, initialized_takes, replaced_takes, followed_takes, transformed_takes, switch_takes, keeping_takes, recurring_takes, stages_take}
-use Rattle.sf_mean.specs.Inference.{Finds, both_outputs, join_output, side_output, first_beside, heading_output, transformed_output, body_output, switch_output, keeping_output, process_output, chain_output, primitive_output, with_fitting, is_found, value_is_argument, process_is_argument, call_output, form_output, reference_output, arguments_fit, term_output}
+use Rattle.sf_mean.specs.Contexts.{Signature, signature_named, values_in, bindings_inside, Context, names_of_values, inside_pattern, inside_process, inside_collection, process_named, collection_named}
+use Rattle.sf_mean.specs.Typing.{ChainTakes, lone_takes, chained_takes, on_first_takes, on_second_takes, on_both_takes, fanned_takes, bare_kind, value_kind, accumulated_argument, accumulated_kind, takes_input, takes_time, timed_kind, takes_number, selected_kind, PrimitiveTakes, bare_takes, probe_takes, never_takes, value_takes, timed_takes, selected_takes, accumulated_takes, arrow_takes, fused_takes, Takes, takes, FormTakes, primitive_takes, started_takes, call_takes, Collects, collects_none, collects_used, collects_added, collects_dropped, collects_kept, collects_chosen, ArgumentsFit, no_argument_fits, value_fits, process_fits, closed_fits, sequence_takes, parallel_takes, fan_takes, first_takes, second_takes, loop_takes, initialized_takes, replaced_takes, followed_takes, transformed_takes, switch_takes, keeping_takes, recurring_takes, stages_take, gathered_takes, releasing_takes, editing_takes, collection_fits}
+use Rattle.sf_mean.specs.Inference.{Finds, both_outputs, join_output, side_output, first_beside, heading_output, transformed_output, body_output, switch_output, keeping_output, process_output, chain_output, primitive_output, with_fitting, is_found, value_is_argument, process_is_argument, call_output, form_output, reference_output, arguments_fit, term_output, used_output, with_key, with_member, with_kept, one_of_both, inside_members, editing_output, collection_is_argument, collection_output}
 
 -- ## Types of pairs
 
@@ -295,18 +295,22 @@ part_fits b c h = omega (arith, h)
 event_part_fits : (c : Kind) → Fits (event_kind c) → Fits c
 event_part_fits c h = omega (arith, h)
 
--- what is known of a switch's body
-bodies : (Γ : Context) (p : Pattern) (u : Term) (c a d b : Kind) → ((Δ : Context) (a b : Kind) → term_output Δ u a ≡ Some b → Takes Δ u a b)
-    → body_output Γ p (λ Δ. term_output Δ u) c a d ≡ Some b → (d ≡ b) × Binds p c (names_of_values Γ) (names_of_values (inside_pattern p c Γ)) × Takes (inside_pattern p c Γ) u a b
-bodies Γ p u c a d b G h =
+-- what is known of a body, and of an edit
+bodies_of : (Γ : Context) (p : Pattern) (u : Context → Finds) (c a d b : Kind) → body_output Γ p u c a d ≡ Some b → (d ≡ b) × Binds p c (names_of_values Γ) (names_of_values (inside_pattern p c Γ)) × (u (inside_pattern p c Γ) a ≡ Some b)
+bodies_of Γ p u c a d b h =
     let R = names_of_values Γ in
-    let under : Names → Option Kind = λ S. found_then (term_output (inside_pattern p c Γ) u a) (λ e. only e d (Some e)) in
+    let under : Names → Option Kind = λ S. found_then (u (inside_pattern p c Γ) a) (λ e. only e d (Some e)) in
     let names = found_is (names_bound p c R) under h in
-    let body = found_is (term_output (inside_pattern p c Γ) u a) (λ e. only e d (Some e)) names.2 in
+    let body = found_is (u (inside_pattern p c Γ) a) (λ e. only e d (Some e)) names.2 in
     let same = only_is body.0 d (Some body.0) body.2 in
     let bound = bound_found p c R names.0 names.1 in
     let is : body.0 ≡ b = same_some same.1 in
-    (sym same.0 ∙ is, subst (Binds p c R) (names_inside Γ.functions Γ.bindings bound.binds.adds refl) bound.binds, G (inside_pattern p c Γ) a b (body.1 ∙ ap Some is))
+    (sym same.0 ∙ is, subst (Binds p c R) (names_inside Γ.functions Γ.bindings bound.binds.adds refl) bound.binds, body.1 ∙ ap Some is)
+
+-- what is known of a switch's body
+bodies : (Γ : Context) (p : Pattern) (u : Term) (c a d b : Kind) → ((Δ : Context) (a b : Kind) → term_output Δ u a ≡ Some b → Takes Δ u a b)
+    → body_output Γ p (λ Δ. term_output Δ u) c a d ≡ Some b → (d ≡ b) × Binds p c (names_of_values Γ) (names_of_values (inside_pattern p c Γ)) × Takes (inside_pattern p c Γ) u a b
+bodies Γ p u c a d b G h = let body = bodies_of Γ p (λ Δ. term_output Δ u) c a d b h in (body.0, body.1, G (inside_pattern p c Γ) a b body.2)
 
 switches : (Γ : Context) (w : Observation) (t : Term) (p : Pattern) (u : Term) → ((a b : Kind) → term_output Γ t a ≡ Some b → Takes Γ t a b) → ((Δ : Context) (a b : Kind) → term_output Δ u a ≡ Some b → Takes Δ u a b)
     → (a b : Kind) → switch_output Γ (Basic w) p (term_output Γ t) (λ Δ. term_output Δ u) a ≡ Some b → FormTakes Γ (switching (Basic w) t p u) a b
@@ -356,6 +360,100 @@ keepings Γ w t q k p u F H G a b h =
         let T : Kind → Type 0 = λ d. Takes (inside_pattern p c (inside_process k a d Γ)) u a b in
         keeping_takes (F a b (subst S same h)) (H (pair_kind a b) (event_kind c) (subst Q same i)) (subst B same binds) (subst T same body)
 
+-- ## Collections
+
+-- tables of this type are what a collection gives, whose members take inputs of a type
+data Collected (Γ : Context) (i : Collection) (a : Kind) : Kind → Type 0 where
+  collected_as : {k : KeyKind} {b : Kind} → Collects Γ i k a b → Collected Γ i a (table_kind k b)
+
+used_found : (Γ : Context) (x : Name) (a t : Kind) → used_output (collection_named x Γ.bindings) a ≡ Some t → Collected Γ (used x) a t
+used_found Γ x a t h =
+    let named = found_is (collection_named x Γ.bindings) (λ c. only a c.1 (Some (table_kind c.0 c.2))) h in
+    let c = named.0 in
+    let same = only_is a c.1 (Some (table_kind c.0 c.2)) named.2 in
+    subst (Collected Γ (used x) a) (same_some same.1) (collected_as (collects_used (subst (λ d. collection_named x Γ.bindings ≡ Some (c.0, d, c.2)) (sym same.0) named.1)))
+
+with_added : {Γ : Context} {i : Collection} (j : Expression) (u : Term) {a s t : Kind} → ((a b : Kind) → term_output Γ u a ≡ Some b → Takes Γ u a b) → Collected Γ i a s
+    → with_member (expression_type (names_of_values Γ) j) (term_output Γ u a) s ≡ Some t → Collected Γ (added i j u) a t
+with_added {Γ} {i} j u {a} {t = t} G (collected_as {k = k} {b = b} C) h =
+    let R = names_of_values Γ in
+    let all = table_kind k b in
+    let key = found_is (expression_type R j) (λ q. only q (kind_of_keys k) (found_then (term_output Γ u a) (λ d. only d b (Some all)))) h in
+    let of_keys = only_is key.0 (kind_of_keys k) (found_then (term_output Γ u a) (λ d. only d b (Some all))) key.2 in
+    let output = found_is (term_output Γ u a) (λ d. only d b (Some all)) of_keys.1 in
+    let same = only_is output.0 b (Some all) output.2 in
+    subst (Collected Γ (added i j u) a) (same_some same.1) (collected_as (collects_added C (found_typed R j (kind_of_keys k) (key.1 ∙ ap Some of_keys.0)) (G a b (output.1 ∙ ap Some same.0))))
+
+with_dropped : {Γ : Context} {i : Collection} (j : Expression) {a s t : Kind} → Collected Γ i a s → with_key (expression_type (names_of_values Γ) j) s ≡ Some t → Collected Γ (dropped i j) a t
+with_dropped {Γ} {i} j {a} (collected_as {k = k} {b = b} C) h =
+    let R = names_of_values Γ in
+    let key = found_is (expression_type R j) (λ q. only q (kind_of_keys k) (Some (table_kind k b))) h in
+    let same = only_is key.0 (kind_of_keys k) (Some (table_kind k b)) key.2 in
+    subst (Collected Γ (dropped i j) a) (same_some same.1) (collected_as (collects_dropped C (found_typed R j (kind_of_keys k) (key.1 ∙ ap Some same.0))))
+
+with_kept_members : {Γ : Context} {i : Collection} (f : Function) {a s t : Kind} → Collected Γ i a s → with_kept (function_output (names_of_values Γ) f) s ≡ Some t → Collected Γ (kept_members i f) a t
+with_kept_members {Γ} {i} f {a} (collected_as {k = k} {b = b} C) h =
+    let R = names_of_values Γ in
+    let truth = found_is (function_output R f (kind_of_keys k)) (λ q. only q bool_kind (Some (table_kind k b))) h in
+    let same = only_is truth.0 bool_kind (Some (table_kind k b)) truth.2 in
+    subst (Collected Γ (kept_members i f) a) (same_some same.1) (collected_as (collects_kept C (output_takes R f (kind_of_keys k) bool_kind (truth.1 ∙ ap Some same.0))))
+
+both_collected : {Γ : Context} {j : Expression} {i h : Collection} {a t : Kind} → HasType (names_of_values Γ) j bool_kind → Collected Γ i a t → Collected Γ h a t → Collected Γ (chosen j i h) a t
+both_collected I (collected_as C) (collected_as D) = collected_as (collects_chosen I C D)
+
+chosen_found : (Γ : Context) (j : Expression) (i h : Collection) (a t : Kind) → ((t : Kind) → collection_output Γ i a ≡ Some t → Collected Γ i a t) → ((t : Kind) → collection_output Γ h a ≡ Some t → Collected Γ h a t)
+    → one_of_both (expression_type (names_of_values Γ) j) (collection_output Γ i a) (collection_output Γ h a) ≡ Some t → Collected Γ (chosen j i h) a t
+chosen_found Γ j i h a t F G q =
+    let R = names_of_values Γ in
+    let rest = found_then (collection_output Γ i a) (λ t. found_then (collection_output Γ h a) (λ u. only u t (Some t))) in
+    let truth = found_is (expression_type R j) (λ b. only b bool_kind rest) q in
+    let is = only_is truth.0 bool_kind rest truth.2 in
+    let one = found_is (collection_output Γ i a) (λ t. found_then (collection_output Γ h a) (λ u. only u t (Some t))) is.1 in
+    let other = found_is (collection_output Γ h a) (λ u. only u one.0 (Some one.0)) one.2 in
+    let same = only_is other.0 one.0 (Some one.0) other.2 in
+    subst (Collected Γ (chosen j i h) a) (same_some same.1) (both_collected (found_typed R j bool_kind (truth.1 ∙ ap Some is.0)) (F one.0 one.1) (subst (Collected Γ h a) same.0 (G other.0 other.1)))
+
+gathers : {Γ : Context} {i : Collection} {a b : Kind} → Collected Γ i a b → FormTakes Γ (gathered i) a b
+gathers (collected_as C) = gathered_takes C
+
+-- members that give way
+releasings : {Γ : Context} (w : Observation) {i : Collection} (q : Term) (x : Name) (p : Pattern) (u : Term) {a s b : Kind} → ((a b : Kind) → term_output Γ q a ≡ Some b → Takes Γ q a b) → ((Δ : Context) (a b : Kind) → term_output Δ u a ≡ Some b → Takes Δ u a b)
+    → Collected Γ i a s
+    → found_then (term_output Γ q (pair_kind a s)) (λ e. found_then (payload_of e) (λ c. found_then (inside_members x a s Γ) (λ Δ. body_output Δ p (λ Δ. term_output Δ u) c a s))) ≡ Some b → FormTakes Γ (releasing w i q x p u) a b
+releasings {Γ} w {i} q x p u {a} {b = b} H G (collected_as {k = k} {b = d} C) h =
+    let Δ = inside_collection x k a d Γ in
+    let s = table_kind k d in
+    let after : Kind → Option Kind = λ c. body_output Δ p (λ Δ. term_output Δ u) c a s in
+    let seen = found_is (term_output Γ q (pair_kind a s)) (λ e. found_then (payload_of e) after) h in
+    let event = found_is (payload_of seen.0) after seen.2 in
+    let body = bodies Δ p u event.0 a s b G event.2 in
+    subst (FormTakes Γ (releasing w i q x p u) a) body.0
+    (releasing_takes C (H (pair_kind a s) (event_kind event.0) (seen.1 ∙ ap Some (payload_is seen.0 event.1))) body.1 (subst (Takes (inside_pattern p event.0 Δ) u a) (sym body.0) body.2))
+
+-- members that are edited
+edits_to : {Γ : Context} (w : Observation) {i u : Collection} (x : Name) (p : Pattern) {a c s b : Kind} → ((Δ : Context) (t : Kind) → collection_output Δ u a ≡ Some t → Collected Δ u a t) → Collected Γ i a s
+    → found_then (inside_members x a s Γ) (λ Δ. body_output Δ p (λ Δ. collection_output Δ u) c a s) ≡ Some b → FormTakes Γ (editing w i x p u) (pair_kind a (event_kind c)) b
+edits_to {Γ} w {i} {u} x p {a} {c} {b = b} G (collected_as {k = k} {b = d} C) h =
+    let Δ = inside_collection x k a d Γ in
+    let s = table_kind k d in
+    let edit = bodies_of Δ p (λ Δ. collection_output Δ u) c a s b h in
+    subst (FormTakes Γ (editing w i x p u) (pair_kind a (event_kind c))) edit.0 (edited edit.1 (subst (Collected (inside_pattern p c Δ) u a) (sym edit.0) (G (inside_pattern p c Δ) b edit.2)))
+  where
+    edited : Binds p c (names_of_values (inside_collection x k a d Γ)) (names_of_values (inside_pattern p c (inside_collection x k a d Γ))) → Collected (inside_pattern p c (inside_collection x k a d Γ)) u a (table_kind k d)
+        → FormTakes Γ (editing w i x p u) (pair_kind a (event_kind c)) (table_kind k d)
+    edited binds (collected_as D) = editing_takes C binds D
+
+editings : (Γ : Context) (w : Observation) (i u : Collection) (x : Name) (p : Pattern) → ((a t : Kind) → collection_output Γ i a ≡ Some t → Collected Γ i a t) → ((Δ : Context) (a t : Kind) → collection_output Δ u a ≡ Some t → Collected Δ u a t)
+    → (y b : Kind) → editing_output Γ x p (collection_output Γ i) (λ Δ. collection_output Δ u) y ≡ Some b → FormTakes Γ (editing w i x p u) y b
+editings Γ w i u x p F G y b h =
+    let last : Kind → Kind → Kind → Option Kind = λ a c t. found_then (inside_members x a t Γ) (λ Δ. body_output Δ p (λ Δ. collection_output Δ u) c a t) in
+    let members : Kind → Kind → Option Kind = λ a c. found_then (collection_output Γ i a) (last a c) in
+    let parts = found_is (parts_of y) (λ k. found_then (payload_of k.1) (members k.0)) h in
+    let event = found_is (payload_of parts.0.1) (members parts.0.0) parts.2 in
+    let table = found_is (collection_output Γ i parts.0.0) (last parts.0.0 event.0) event.2 in
+    let input : y ≡ pair_kind parts.0.0 (event_kind event.0) = parts_is y parts.1 ∙ ap (pair_kind parts.0.0) (payload_is parts.0.1 event.1) in
+    subst (λ a. FormTakes Γ (editing w i x p u) a b) (sym input) (edits_to w x p (λ Δ t. G Δ parts.0.0 t) (F parts.0.0 table.0 table.1) table.2)
+
 runs : (Γ : Context) (w : Start) (k : Name) (a b : Kind) (o : Option (Kind × Kind)) → process_named k Γ.bindings ≡ o → process_output o a ≡ Some b → FormTakes Γ (reference (started w k)) a b
 runs Γ w k a b (Some s) h e =
     let same = only_is a s.0 (Some s.1) e in
@@ -386,10 +484,20 @@ found_one None t h = absurd cc
 value_found : (Γ : Context) (i : Expression) (vs : Arguments) (x : Name) (k : NameKind) (qs : Bindings) → value_is_argument (expression_type (names_of_values Γ) i) k ≡ true → ArgumentsFit Γ vs qs → ArgumentsFit Γ (value_argument i vs) ((x, k) ∷ qs)
 value_found Γ i vs x (value t) qs h F = value_fits (found_typed (names_of_values Γ) i t (found_one (expression_type (names_of_values Γ) i) t h)) F
 value_found Γ i vs x (process a b) qs h F = absurd cc
+value_found Γ i vs x (collection k a b) qs h F = absurd cc
 
 process_found : (Γ : Context) (t : Term) (vs : Arguments) (x : Name) (k : NameKind) (qs : Bindings) → ((a b : Kind) → term_output Γ t a ≡ Some b → Takes Γ t a b) → process_is_argument (term_output Γ t) k ≡ true → ArgumentsFit Γ vs qs → ArgumentsFit Γ (process_argument t vs) ((x, k) ∷ qs)
 process_found Γ t vs x (value u) qs G h F = absurd cc
 process_found Γ t vs x (process a b) qs G h F = process_fits (G a b (found_one (term_output Γ t a) b h)) F
+process_found Γ t vs x (collection k a b) qs G h F = absurd cc
+
+fits_collection : {Γ : Context} {i : Collection} {vs : Arguments} {x : Name} {k : KeyKind} {a b : Kind} {qs : Bindings} → Collected Γ i a (table_kind k b) → ArgumentsFit Γ vs qs → ArgumentsFit Γ (collection_argument i vs) ((x, collection k a b) ∷ qs)
+fits_collection (collected_as C) F = collection_fits C F
+
+collection_found_fit : (Γ : Context) (i : Collection) (vs : Arguments) (x : Name) (k : NameKind) (qs : Bindings) → ((a t : Kind) → collection_output Γ i a ≡ Some t → Collected Γ i a t) → collection_is_argument (collection_output Γ i) k ≡ true → ArgumentsFit Γ vs qs → ArgumentsFit Γ (collection_argument i vs) ((x, k) ∷ qs)
+collection_found_fit Γ i vs x (value u) qs G h F = absurd cc
+collection_found_fit Γ i vs x (process a b) qs G h F = absurd cc
+collection_found_fit Γ i vs x (collection k a b) qs G h F = fits_collection (G a (table_kind k b) (found_one (collection_output Γ i a) (table_kind k b) h)) F
 
 closed_of : {Γ : Context} {t : Term} {vs : Arguments} {qs : Bindings} → ArgumentsFit Γ (process_argument t vs) qs → ArgumentsFit Γ (closed_argument t vs) qs
 closed_of (process_fits T F) = closed_fits T F
@@ -408,11 +516,30 @@ mutual
   form_found Γ (switching (Basic w) t p u) a b h = switches Γ w t p u (within Γ t (form_found Γ t)) (λ Δ. within Δ u (form_found Δ u)) a b h
   form_found Γ (switching (Recurring w) t p u) a b h = recurs Γ w t p u (within Γ t (form_found Γ t)) (λ Δ. within Δ u (form_found Δ u)) a b h
   form_found Γ (keeping w t q k p u) a b h = keepings Γ w t q k p u (within Γ t (form_found Γ t)) (within Γ q (form_found Γ q)) (λ Δ. within Δ u (form_found Δ u)) a b h
+  form_found Γ (gathered i) a b h = gathers (collection_found Γ i a b h)
+  form_found Γ (releasing w i q k p u) a b h =
+      let given = found_is (collection_output Γ i a) (λ t. found_then (term_output Γ q (pair_kind a t)) (λ e. found_then (payload_of e) (λ c. found_then (inside_members k a t Γ) (λ Δ. body_output Δ p (λ Δ. term_output Δ u) c a t)))) h in
+      releasings w q k p u (within Γ q (form_found Γ q)) (λ Δ. within Δ u (form_found Δ u)) (collection_found Γ i a given.0 given.1) given.2
+  form_found Γ (editing w i k p u) a b h = editings Γ w i u k p (collection_found Γ i) (λ Δ. collection_found Δ u) a b h
   form_found Γ (staged x f g) a b h = stages Γ x f g (within Γ f (form_found Γ f)) (within Γ g (form_found Γ g)) (found_went (term_output Γ f) (term_output Γ g) a b h)
 
   reference_found : (Γ : Context) (r : Reference) → (a b : Kind) → reference_output Γ r a ≡ Some b → FormTakes Γ (reference r) a b
   reference_found Γ (started w k) a b h = runs Γ w k a b (process_named k Γ.bindings) refl h
   reference_found Γ (call g vs) a b h = calls Γ g vs a b (signature_named g Γ.signatures) refl (arguments_found Γ vs) h
+
+  collection_found : (Γ : Context) (i : Collection) → (a t : Kind) → collection_output Γ i a ≡ Some t → Collected Γ i a t
+  collection_found Γ (without_members k b) a t h = subst (Collected Γ (without_members k b) a) (same_some h) (collected_as collects_none)
+  collection_found Γ (used x) a t h = used_found Γ x a t h
+  collection_found Γ (added i j u) a t h =
+      let given = found_is (collection_output Γ i a) (with_member (expression_type (names_of_values Γ) j) (term_output Γ u a)) h in
+      with_added j u (within Γ u (form_found Γ u)) (collection_found Γ i a given.0 given.1) given.2
+  collection_found Γ (dropped i j) a t h =
+      let given = found_is (collection_output Γ i a) (with_key (expression_type (names_of_values Γ) j)) h in
+      with_dropped j (collection_found Γ i a given.0 given.1) given.2
+  collection_found Γ (kept_members i f) a t h =
+      let given = found_is (collection_output Γ i a) (with_kept (function_output (names_of_values Γ) f)) h in
+      with_kept_members f (collection_found Γ i a given.0 given.1) given.2
+  collection_found Γ (chosen j i k) a t h = chosen_found Γ j i k a t (collection_found Γ i a) (collection_found Γ k a) h
 
   arguments_found : (Γ : Context) (vs : Arguments) → (qs : Bindings) → arguments_fit Γ vs qs ≡ true → ArgumentsFit Γ vs qs
   arguments_found Γ no_arguments [] h = no_argument_fits
@@ -425,6 +552,10 @@ mutual
   arguments_found Γ (process_argument t vs) ((x, k) ∷ qs) h =
       let both = both_fit (process_is_argument (term_output Γ t) k) (arguments_fit Γ vs qs) h in
       process_found Γ t vs x k qs (within Γ t (form_found Γ t)) both.0 (arguments_found Γ vs qs both.1)
+  arguments_found Γ (collection_argument i vs) [] h = absurd cc
+  arguments_found Γ (collection_argument i vs) ((x, k) ∷ qs) h =
+      let both = both_fit (collection_is_argument (collection_output Γ i) k) (arguments_fit Γ vs qs) h in
+      collection_found_fit Γ i vs x k qs (collection_found Γ i) both.0 (arguments_found Γ vs qs both.1)
   arguments_found Γ (closed_argument t vs) [] h = absurd cc
   arguments_found Γ (closed_argument t vs) ((x, k) ∷ qs) h =
       let both = both_fit (process_is_argument (term_output Γ t) k) (arguments_fit Γ vs qs) h in
@@ -436,14 +567,26 @@ output_found {Γ} t = within Γ t (form_found Γ t)
 pub output_fits : {Γ : Context} {t : Term} {a b : Kind} → Takes Γ t a b → Fits b
 output_fits (takes f g h) = g
 
--- what is found of a switch's body
-body_found : (Γ : Context) {p : Pattern} (u : Term) (a : Kind) {b c : Kind} → Fits c → Binds p c (names_of_values Γ) (names_of_values (inside_pattern p c Γ)) → term_output (inside_pattern p c Γ) u a ≡ Some b
-    → body_output Γ p (λ Δ. term_output Δ u) c a b ≡ Some b
+-- what is found of a body, and of an edit
+body_found : (Γ : Context) {p : Pattern} (u : Context → Finds) (a : Kind) {b c : Kind} → Fits c → Binds p c (names_of_values Γ) (names_of_values (inside_pattern p c Γ)) → u (inside_pattern p c Γ) a ≡ Some b
+    → body_output Γ p u c a b ≡ Some b
 body_found Γ {p} u a {b} {c} f B g =
-    let under : Names → Option Kind = λ S. found_then (term_output (inside_pattern p c Γ) u a) (λ d. only d b (Some d)) in
+    let under : Names → Option Kind = λ S. found_then (u (inside_pattern p c Γ) a) (λ d. only d b (Some d)) in
     ap (λ o. found_then o under) (found_bound f B)
     ∙ ap (λ o. found_then o (λ d. only d b (Some d))) g
     ∙ ap (λ s. cond s (Some b) None) (is_same b)
+
+key_with : {key : Option Kind} {k : KeyKind} {b : Kind} → key ≡ Some (kind_of_keys k) → with_key key (table_kind k b) ≡ Some (table_kind k b)
+key_with {k = k} {b = b} e = ap (λ q. with_key q (table_kind k b)) e ∙ ap (λ s. cond s (Some (table_kind k b)) None) (is_same (kind_of_keys k))
+
+member_with : {key output : Option Kind} {k : KeyKind} {b : Kind} → key ≡ Some (kind_of_keys k) → output ≡ Some b → with_member key output (table_kind k b) ≡ Some (table_kind k b)
+member_with {key} {output} {k} {b} e f =
+    ap₂ (λ q o. with_member q o (table_kind k b)) e f
+    ∙ ap (λ s. cond s (found_then (Some b) (λ d. only d b (Some (table_kind k b)))) None) (is_same (kind_of_keys k))
+    ∙ ap (λ s. cond s (Some (table_kind k b)) None) (is_same b)
+
+both_with : {truth one other : Option Kind} {t : Kind} → truth ≡ Some bool_kind → one ≡ Some t → other ≡ Some t → one_of_both truth one other ≡ Some t
+both_with {t = t} e f g = rw (e, f, g) (ap (λ s. cond s (Some t) None) (is_same t))
 
 mutual
   pub takes_found : {Γ : Context} {t : Term} {a b : Kind} → Takes Γ t a b → term_output Γ t a ≡ Some b
@@ -471,20 +614,38 @@ mutual
       ap (λ o. transformed_output o (term_output Γ t) a) (takes_output G) ∙ ap (λ s. cond s (term_output Γ t a) None) (is_same a) ∙ takes_found F
   form_is {Γ} f (switch_takes {u = u} {p = p} {a = a} {b = b} {c = c} F B G) =
       ap (λ o. found_then (found_then o parts_of) (λ k. found_then (payload_of k.1) (λ c. body_output Γ p (λ Δ. term_output Δ u) c a k.0))) (takes_found F)
-      ∙ body_found Γ u a (part_fits b c (output_fits F)) B (takes_found G)
+      ∙ body_found Γ (λ Δ. term_output Δ u) a (part_fits b c (output_fits F)) B (takes_found G)
   form_is {Γ} f (recurring_takes {u = u} {p = p} {a = a} {b = b} {c = c} F B G) =
       ap (λ o. found_then o (λ d. body_output Γ p (λ Δ. term_output Δ u) c a d)) (takes_found F)
-      ∙ body_found Γ u a (part_fits a c f) B (takes_found G)
+      ∙ body_found Γ (λ Δ. term_output Δ u) a (part_fits a c f) B (takes_found G)
   form_is {Γ} f (keeping_takes {t = t} {q = q} {u = u} {k = k} {p = p} {a = a} {b = b} {c = c} F H B G) =
       ap (λ o. found_then o (λ d. found_then (term_output Γ q (pair_kind a d)) (λ e. found_then (payload_of e) (λ c. body_output (inside_process k a d Γ) p (λ Δ. term_output Δ u) c a d)))) (takes_found F)
       ∙ ap (λ o. found_then o (λ e. found_then (payload_of e) (λ c. body_output (inside_process k a b Γ) p (λ Δ. term_output Δ u) c a b))) (takes_found H)
-      ∙ body_found (inside_process k a b Γ) u a (event_part_fits c (output_fits H)) B (takes_found G)
+      ∙ body_found (inside_process k a b Γ) (λ Δ. term_output Δ u) a (event_part_fits c (output_fits H)) B (takes_found G)
+  form_is f (gathered_takes C) = collects_found C
+  form_is {Γ} f (releasing_takes {i = i} {q = q} {u = u} {x = x} {p = p} {k = k} {a = a} {b = b} {c = c} C H B G) =
+      ap (λ o. found_then o (λ t. found_then (term_output Γ q (pair_kind a t)) (λ e. found_then (payload_of e) (λ c. found_then (inside_members x a t Γ) (λ Δ. body_output Δ p (λ Δ. term_output Δ u) c a t))))) (collects_found C)
+      ∙ ap (λ o. found_then o (λ e. found_then (payload_of e) (λ c. body_output (inside_collection x k a b Γ) p (λ Δ. term_output Δ u) c a (table_kind k b)))) (takes_found H)
+      ∙ body_found (inside_collection x k a b Γ) (λ Δ. term_output Δ u) a (event_part_fits c (output_fits H)) B (takes_found G)
+  form_is {Γ} f (editing_takes {i = i} {u = u} {x = x} {p = p} {k = k} {a = a} {b = b} {c = c} C B D) =
+      ap (λ o. found_then o (λ t. found_then (inside_members x a t Γ) (λ Δ. body_output Δ p (λ Δ. collection_output Δ u) c a t))) (collects_found C)
+      ∙ body_found (inside_collection x k a b Γ) (λ Δ. collection_output Δ u) a (part_fits a c f) B (collects_found D)
   form_is f (stages_take F G) = rw (takes_found F) (takes_found G)
+
+  collects_found : {Γ : Context} {i : Collection} {k : KeyKind} {a b : Kind} → Collects Γ i k a b → collection_output Γ i a ≡ Some (table_kind k b)
+  collects_found collects_none = refl
+  collects_found (collects_used {k = k} {a = a} {b = b} h) = ap (λ o. used_output o a) h ∙ ap (λ s. cond s (Some (table_kind k b)) None) (is_same a)
+  collects_found {Γ} (collects_added {j = j} {t = t} {k = k} {a = a} {b = b} C I T) =
+      ap (λ o. found_then o (with_member (expression_type (names_of_values Γ) j) (term_output Γ t a))) (collects_found C) ∙ member_with (typed_found I) (takes_found T)
+  collects_found {Γ} (collects_dropped {j = j} {k = k} {b = b} C I) = ap (λ o. found_then o (with_key (expression_type (names_of_values Γ) j))) (collects_found C) ∙ key_with (typed_found I)
+  collects_found {Γ} (collects_kept {f = f} {k = k} {b = b} C F) = ap (λ o. found_then o (with_kept (function_output (names_of_values Γ) f))) (collects_found C) ∙ ap (λ o. found_then o (λ d. only d bool_kind (Some (table_kind k b)))) (takes_output F)
+  collects_found {Γ} (collects_chosen {j = j} {i = i} {h = h} {k = k} {a = a} {b = b} I C D) = both_with (typed_found I) (collects_found C) (collects_found D)
 
   arguments_are : {Γ : Context} {vs : Arguments} {qs : Bindings} → ArgumentsFit Γ vs qs → arguments_fit Γ vs qs ≡ true
   arguments_are no_argument_fits = refl
   arguments_are (value_fits {t = t} E F) = ap₂ (λ a b. a && b) (ap (λ o. is_found o t) (typed_found E) ∙ is_same t) (arguments_are F)
   arguments_are (process_fits {b = b} T F) = ap₂ (λ a b. a && b) (ap (λ o. is_found o b) (takes_found T) ∙ is_same b) (arguments_are F)
+  arguments_are (collection_fits {k = k} {b = b} C F) = ap₂ (λ a b. a && b) (ap (λ o. is_found o (table_kind k b)) (collects_found C) ∙ is_same (table_kind k b)) (arguments_are F)
   arguments_are (closed_fits {b = b} T F) = ap₂ (λ a b. a && b) (ap (λ o. is_found o b) (takes_found T) ∙ is_same b) (arguments_are F)
 
 -- ## What follows for terms that take inputs

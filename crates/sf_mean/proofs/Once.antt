@@ -8,9 +8,11 @@ use Rattle.sf_expr.specs.Evaluation.{Evaluated, answer, failed, eval}
 use Rattle.sf_term.specs.declared.form.Join.TheVariants.{InSequence}
 use Rattle.sf_term.specs.declared.form.Observation.{Observation}
 use Rattle.sf_term.specs.Trees.{Term}
-use Rattle.sf_mean.specs.Lives.{Step, input_of, Life, Process, closure, Environment, scope_around, relay, observed_life, fed}
+use Rattle.sf_mean.specs.Lives.{Step, input_of, Life, Process, closure, Members, no_members, Environment, scope_around, relay, observed_life, fed}
+use Rattle.sf_mean.specs.Collections.{with_row}
+use Rattle.std.specs.Prelude.{option_map}
 use Rattle.sf_mean.specs.Formulas.{at_first, occurring, with_side}
-use Rattle.sf_mean.specs.Meaning.{Network, Outcome, gave, faulted, changed, combined, value_in, answered_by, newest_or, Cost, both_costs, over, over_first, Made, nothing_made, right_life, join_value, Watched, itself, observed, Takeover, Standing, waits, fired, stands_after, switched_value, body_of, whenever, body_with, Gives, gives, Outputs, not_begun, and_gave, Sample, of_constants, of_form, of_resumed, Form, of_primitive, of_reference, of_join, of_side, of_loop, of_initialized, of_replaced, of_followed, of_transformed, of_switch, of_keeping, of_recurring, of_stages, over_stages, event_beside, unless_faulted, without_event, Next, goes_on, stops, Loops, no_loop, and_looped, Sees, beside_values, by_observer, Since, at_start, watched, had_fired, SwitchTurn, while_waiting, as_body, Switched, after_fault, after_value, Fires, no_event_yet, event_now}
+use Rattle.sf_mean.specs.Meaning.{Network, Outcome, gave, faulted, changed, combined, value_in, answered_by, newest_or, Cost, both_costs, over, over_first, Made, nothing_made, right_life, join_value, Watched, itself, observed, Takeover, Standing, waits, fired, stands_after, switched_value, body_of, whenever, body_with, body_with_members, edit_of, since_edit, Gives, gives, Outputs, not_begun, and_gave, Sample, of_constants, of_form, of_resumed, Form, of_primitive, of_reference, of_join, of_side, of_loop, of_initialized, of_replaced, of_followed, of_transformed, of_switch, of_keeping, of_recurring, of_gathered, of_releasing, of_editing, of_stages, over_stages, event_beside, unless_faulted, without_event, Next, goes_on, stops, Loops, no_loop, and_looped, Sees, beside_values, by_observer, Since, at_start, watched, had_fired, SwitchTurn, while_waiting, as_body, Switched, after_fault, after_value, Fires, no_event_yet, event_now, Each, no_more, one_more, Others, others_go_on, others_stop, Edited, no_edit, edit_failed, edit_now, observed_members, by_members_observer, Tables, no_tables, and_table}
 
 -- two outcomes are one, at one cost
 abbrev pub Same : Outcome → Outcome → Cost → Cost → Type 0
@@ -81,6 +83,17 @@ module _ (n : Network) where
         let N : Outcome → Type 0 = λ o. Fires n w (body_of p u e) (without_event s) o (unless_faulted o (event_beside s)) b d in
         let e2 = once_fires B (subst N (sym e1.0) B') in
         (e2.0, ap₂ (λ x y. over (both_costs x y)) e1.1 e2.1)
+    once_form (of_gathered A) (of_gathered B) = let q = once_each A B in (q.0, ap over q.1)
+    once_form (of_releasing {w = w} {q = q} {u = u} {k = k} {p = p} {e = e} {ms = ms} {s = s} {L = L} A B) (of_releasing {o = b} {c = c} A' B') =
+        let N : Standing → Type 0 = λ st. SwitchTurn n w (observed_members ms q e) (body_with_members k ms p u e) s L st b c in
+        once_turn B (subst N (sym (once_since A A')) B')
+    once_form (of_editing {w = w} {u = u} {k = k} {p = p} {e = e} {qs = qs} {s = s} {L = L} H A B) (of_editing {qs = rs} {o = a} {o' = b} {c = c} {c' = d} H' A' B') =
+        let same : rs ≡ qs = ap (answered no_members) (sym H' ∙ H) in
+        let M : Members → Type 0 = λ q. Each n q (without_event s) (since_edit L) a c in
+        let e1 = once_each A (subst M same A') in
+        let N : Members → Outcome → Type 0 = λ q o. Edited n w (option_map (edit_of n.functions k p u e (since_edit L) s q) (unless_faulted o (event_beside s))) (without_event s) o b d in
+        let e2 = once_edited B (subst₂ N same (sym e1.0) B') in
+        (e2.0, ap₂ (λ x y. over (both_costs x y)) e1.1 e2.1)
     once_form (of_stages {x = x} {g = g} {e = e} {s = s} {L = L} A B C) (of_stages {ys = zs} {o = q} {o' = b} {c' = d} A' B' C') =
         let e1 = onces A A' in
         let e2 = once B B' in
@@ -108,6 +121,12 @@ module _ (n : Network) where
         let N : Outcome → List Data → Type 0 = λ q l. Next n q t e (observed_life (s ∷ L) (value_in q ∷ l)) b d in
         let e3 = once_next C (subst₂ N (sym e2.0) (sym e1) C') in
         (ap₂ (combined pair) e2.0 e3.0, ap₂ both_costs e2.1 e3.1)
+    once_sees (by_members_observer {q = t} {e = e} {s = s} {L = L} A B C) (by_members_observer {ys = zs} {o = q} {o' = b} {c' = d} A' B' C') =
+        let e1 = once_tables A A' in
+        let e2 = once_each B B' in
+        let N : Outcome → List Data → Type 0 = λ q l. Next n q t e (observed_life (s ∷ L) (value_in q ∷ l)) b d in
+        let e3 = once_next C (subst₂ N (sym e2.0) (sym e1) C') in
+        (ap₂ (combined pair) e2.0 e3.0, ap₂ both_costs e2.1 e3.1)
 
     pub once_since : {W : Watched} {B : Takeover} {L : Life} {a b : Standing} → Since n W B L a → Since n W B L b → a ≡ b
     once_since at_start at_start = refl
@@ -131,3 +150,24 @@ module _ (n : Network) where
     pub once_fires : {w : Observation} {B : Data → Process} {s : Step} {o : Outcome} {q : Option Data} {a b : Outcome} {c d : Cost} → Fires n w B s o q a c → Fires n w B s o q b d → Same a b c d
     once_fires no_event_yet no_event_yet = (refl, refl)
     once_fires (event_now {w = w} {o = o} A) (event_now B) = let q = once A B in (ap (combined (switched_value w) o) q.0, q.1)
+
+    pub once_tables : {ms : Members} {L : Life} {ys zs : List Data} → Tables n ms L ys → Tables n ms L zs → ys ≡ zs
+    once_tables no_tables no_tables = refl
+    once_tables (and_table A B) (and_table A' B') = ap₂ (λ y ys. y ∷ ys) (ap value_in (once_each B B').0) (once_tables A A')
+
+    pub once_each : {ms : Members} {s : Step} {L : Life} {a b : Outcome} {c d : Cost} → Each n ms s L a c → Each n ms s L b d → Same a b c d
+    once_each no_more no_more = (refl, refl)
+    once_each (one_more {k = k} {ms = ms} {s = s} {L = L} A B) (one_more {o' = b} {c' = d} A' B') =
+        let e1 = once A A' in
+        let N : Outcome → Type 0 = λ q. Others n q ms s L b d in
+        let e2 = once_others B (subst N (sym e1.0) B') in
+        (ap₂ (combined (with_row k)) e1.0 e2.0, ap₂ both_costs e1.1 e2.1)
+
+    pub once_others : {q : Outcome} {ms : Members} {s : Step} {L : Life} {a b : Outcome} {c d : Cost} → Others n q ms s L a c → Others n q ms s L b d → Same a b c d
+    once_others (others_go_on A) (others_go_on B) = once_each A B
+    once_others others_stop others_stop = (refl, refl)
+
+    pub once_edited : {w : Observation} {q : Option (Evaluated Members)} {s : Step} {o a b : Outcome} {c d : Cost} → Edited n w q s o a c → Edited n w q s o b d → Same a b c d
+    once_edited no_edit no_edit = (refl, refl)
+    once_edited edit_failed edit_failed = (refl, refl)
+    once_edited (edit_now {w = w} {o = o} A) (edit_now B) = let q = once_each A B in (ap (combined (switched_value w) o) q.0, q.1)

@@ -1,7 +1,9 @@
 -- Where each life before gives a value, there is an outcome.
 use Rattle.std.proofs.Common.{ℕ, ◌≡◌, Bool, true, false, ◌&&◌, IsTrue, cond, List, [], ◌∷◌, Option, Some, None, refl, sym, ap, ◌∙◌, subst}
-use Rattle.std.specs.Prelude.{bytes_eq}
-use Rattle.sf_value.specs.Values.{Name, Data, pair, first_of, second_of}
+use Rattle.std.specs.Prelude.{bytes_eq, option_map}
+use Rattle.sf_value.specs.Values.{Name, KeyData, Data, pair, first_of, second_of}
+use Rattle.sf_value.specs.Lookups.{equal_keys}
+use Rattle.sf_operator.specs.FunctionForms.{value_of_key}
 use Rattle.sf_value.specs.declared.fault.ValueFault.{ValueFault}
 use Rattle.sf_expr.specs.Expressions.{Pattern, unnamed, named, both, Expression, Function}
 use Rattle.sf_expr.specs.Evaluation.{Evaluated, answer, failed, ◌>>=◌, eval, apply}
@@ -13,12 +15,14 @@ use Rattle.sf_term.specs.declared.form.Observation.{Observation}
 use Rattle.sf_term.specs.declared.form.Start.{Start}
 use Rattle.sf_term.specs.declared.form.Start.TheVariants.{Run, Fresh}
 use Rattle.sf_term.specs.declared.form.Switching.TheVariants.{Basic, Recurring}
-use Rattle.sf_term.specs.Trees.{Extent, Term, primitive, reference, started, call, joined, sided, headed, transformed, switching, keeping, staged}
-use Rattle.sf_mean.specs.Lives.{Step, step, wait_of, input_of, Life, Process, closure, resumed, Environment, empty, known as known_name, running, process_of, base, process_started, passing, scope_around, bind, after, frozen, with_inputs, observed_life, fed, fed_back, older, first_input as input_at_first}
-use Rattle.sf_mean.specs.Formulas.{occurring, at_first, side_of, with_first}
+use Rattle.sf_term.specs.Trees.{Extent, Term, primitive, reference, started, call, joined, sided, headed, transformed, switching, keeping, gathered, releasing, editing, staged, Collection, without_members, used, added, dropped, kept, chosen}
+use Rattle.sf_mean.specs.Lives.{Step, step, wait_of, input_of, Life, Process, closure, resumed, Environment, empty, known as known_name, running, collected, Members, no_members, member, members_of, process_of, base, process_started, passing, scope_around, bind, after, frozen, each_frozen, with_inputs, observed_life, fed, fed_back, older, first_input as input_at_first}
+use Rattle.sf_mean.specs.Formulas.{occurring, at_first, side_of, with_first, is_high}
+use Rattle.sf_mean.specs.Collections.{as_key, add, drop, keep, collect}
+use Rattle.sf_mean.proofs.TypedMembers.{bound_answer, same_answer}
 use Rattle.sf_mean.proofs.Refrozen.{frozen_base}
-use Rattle.sf_mean.specs.Meaning.{Network, Outcome, gave, faulted, Cost, Made, value_made, process_made, make, left_life, right_life, Watched, itself, observed, Takeover, Standing, waits, fired, stands_after, body_of, whenever, body_with, event_beside, or_earlier, last_event, kept_before, since_event, what_runs, unless_faulted, without_event, Gives, gives, Outputs, not_begun, and_gave, Sample, of_constants, of_form, of_resumed, Form, of_primitive, of_reference, of_join, of_side, of_loop, of_initialized, of_replaced, of_followed, of_transformed, of_switch, of_keeping, of_recurring, of_stages, goes_on, stops, Loops, no_loop, and_looped, Sees, beside_values, by_observer, Since, at_start, watched, had_fired, SwitchTurn, while_waiting, as_body, after_fault, after_value, Fires, no_event_yet, event_now}
-use Rattle.sf_mean.specs.Soundness.{is_without_calls, HasNoCalls, closed_without_calls, frozen_without_calls, HaveNoCalls, none_calls, value_without_calls, process_without_calls, HasLived, closed, was_frozen, HaveLived, none_lived, value_beside, process_lived}
+use Rattle.sf_mean.specs.Meaning.{Network, Outcome, gave, faulted, Cost, Made, value_made, process_made, members_made, make, left_life, right_life, Watched, itself, observed, Takeover, Standing, waits, fired, stands_after, body_of, whenever, body_with, body_with_members, Edit, edit_of, since_edit, edited, which_run, event_beside, or_earlier, last_event, kept_before, since_event, what_runs, unless_faulted, without_event, Gives, gives, Outputs, not_begun, and_gave, Sample, of_constants, of_form, of_resumed, Form, of_primitive, of_reference, of_join, of_side, of_loop, of_initialized, of_replaced, of_followed, of_transformed, of_switch, of_keeping, of_recurring, of_gathered, of_releasing, of_editing, of_stages, goes_on, stops, Loops, no_loop, and_looped, Sees, beside_values, by_observer, Since, at_start, watched, had_fired, SwitchTurn, while_waiting, as_body, after_fault, after_value, Fires, no_event_yet, event_now, Each, no_more, one_more, others_go_on, others_stop, Edited, no_edit, edit_failed, edit_now, observed_members, by_members_observer, Tables, no_tables, and_table}
+use Rattle.sf_mean.specs.Soundness.{is_without_calls, HasNoCalls, closed_without_calls, frozen_without_calls, HaveNoCalls, none_calls, value_without_calls, process_without_calls, HasLived, closed, was_frozen, HaveLived, none_lived, value_beside, process_lived, collects_without_calls, EachHasNoCalls, none_without_calls, one_without_calls, members_without_calls, EachHasLived, none_has_lived, one_has_lived, collection_lived}
 use Rattle.sf_mean.proofs.TypedProcesses.{made_in}
 use Rattle.sf_mean.proofs.Once.{not_both}
 
@@ -262,29 +266,55 @@ module _ (n : Network) where
 
   -- ## Switches
 
+  -- each member gave values
+  data EachLived : Members → Life → Type 0 where
+    none_lives : {L : Life} → EachLived no_members L
+    one_lives : {k : KeyData} {P : Process} {ms : Members} {L : Life} → Lived P L → EachLived ms L → EachLived (member k P ms) L
+
+  nobody_lived : (ms : Members) → EachLived ms []
+  nobody_lived no_members = none_lives
+  nobody_lived (member k P ms) = one_lives (lived not_begun) (nobody_lived ms)
+
+  each_lived : {ms : Members} {s : Step} {L : Life} {o : Outcome} {c : Cost} → Each n ms s L o c → IsGave o → EachLived ms (s ∷ L)
+  each_lived no_more h = none_lives
+  each_lived (one_more {o = gave y r} {o' = gave z q} A (others_go_on B)) h = one_lives (whole A tt) (each_lived B tt)
+  each_lived (one_more {o = gave y r} {o' = faulted x} A B) h = absurd h
+  each_lived (one_more {o = faulted x} A B) h = absurd h
+
+  tables_lived : {ms : Members} {L : Life} {ys : List Data} → Tables n ms L ys → EachLived ms L
+  tables_lived {ms = ms} no_tables = nobody_lived ms
+  tables_lived (and_table A B) = each_lived B tt
+
   -- what a switch watches gave values
   data Watching : Watched → Life → Type 0 where
     itself_lived : {P : Process} {L : Life} {ys : List Data} → Outputs n P L ys → Watching (itself P) L
     both_lived : {P : Process} {q : Term} {e : Environment} {L : Life} {ys zs : List Data} → Outputs n P L ys → Outputs n (closure q e) (observed_life L ys) zs → Watching (observed P q e) L
+    all_lived : {ms : Members} {q : Term} {e : Environment} {L : Life} {ys zs : List Data} → Tables n ms L ys → Outputs n (closure q e) (observed_life L ys) zs → Watching (observed_members ms q e) L
 
-  -- the process that is watched
-  abbrev source_of : Watched → Process
-  source_of (itself P) = P
-  source_of (observed P q e) = P
+  -- what is watched gave values
+  abbrev SourceLived : Watched → Life → Type 0
+  SourceLived (itself P) L = Lived P L
+  SourceLived (observed P q e) L = Lived P L
+  SourceLived (observed_members ms q e) L = EachLived ms L
 
   sees_watching : {W : Watched} {s : Step} {L : Life} {o : Outcome} {c : Cost} → Sees n W s L o c → IsGave o → Watching W (s ∷ L)
   sees_watching (beside_values A) h = elim (whole A h) [ lived B ↦ itself_lived B ]
   sees_watching (by_observer {o = gave y r} {o' = gave z k} A (gives A' B) (goes_on D)) h = elim (whole D tt) [ lived C ↦ both_lived (and_gave A B) C ]
   sees_watching (by_observer {o = gave y r} {o' = faulted x} A B D) h = absurd h
   sees_watching (by_observer {o = faulted x} A B D) h = absurd h
+  sees_watching (by_members_observer {o = gave y r} {o' = gave z k} A B (goes_on D)) h = elim (whole D tt) [ lived C ↦ all_lived (and_table A B) C ]
+  sees_watching (by_members_observer {o = gave y r} {o' = faulted x} A B D) h = absurd h
+  sees_watching (by_members_observer {o = faulted x} A B D) h = absurd h
 
-  sees_source : {W : Watched} {s : Step} {L : Life} {o : Outcome} {c : Cost} → Sees n W s L o c → Lived (source_of W) L
+  sees_source : {W : Watched} {s : Step} {L : Life} {o : Outcome} {c : Cost} → Sees n W s L o c → SourceLived W L
   sees_source (beside_values (gives A B)) = lived A
   sees_source (by_observer A B D) = lived A
+  sees_source (by_members_observer A B D) = tables_lived A
 
   nothing_watched : (W : Watched) → Watching W []
   nothing_watched (itself P) = itself_lived not_begun
   nothing_watched (observed P q e) = both_lived {ys = []} not_begun not_begun
+  nothing_watched (observed_members ms q e) = all_lived {ys = []} no_tables not_begun
 
   -- where a switch that gave a value so far stands: what it watches has lived, or what took over has
   data Stood (W : Watched) (B : Takeover) (L : Life) : Type 0 where
@@ -384,11 +414,17 @@ module _ (n : Network) where
   abbrev pub GoesAnew : Process → Type 0
   GoesAnew P = Goes P × Goes (base P)
 
+  -- each member does
+  pub data EachGoes : Members → Type 0 where
+    none_goes : EachGoes no_members
+    one_goes : {k : KeyData} {P : Process} {ms : Members} → Goes P → EachGoes ms → EachGoes (member k P ms)
+
   -- and each process of an environment
   pub data AllGo : Environment → Type 0 where
     go_nothing : AllGo empty
     go_value : {x : Name} {d : Data} {e : Environment} → AllGo e → AllGo (known_name x d e)
     go_process : {x : Name} {P : Process} {e : Environment} → GoesAnew P → AllGo e → AllGo (running x P e)
+    go_members : {x : Name} {ms : Members} {e : Environment} → EachGoes ms → AllGo e → AllGo (collected x ms e)
 
   bound_go : (p : Pattern) (v : Data) {e : Environment} → AllGo e → AllGo (bind p v e)
   bound_go unnamed v E = E
@@ -409,6 +445,11 @@ module _ (n : Network) where
     where
       by_test : (b : Bool) → GoesAnew (process_of k e) → GoesAnew (cond b P (process_of k e))
       by_test true G = H
+      by_test false G = G
+  process_goes k (go_members {x = x} {e = e} M E) = by_test (bytes_eq k x) (process_goes k E)
+    where
+      by_test : (b : Bool) → GoesAnew (process_of k e) → GoesAnew (cond b passing (process_of k e))
+      by_test true G = (passing_goes, passing_goes)
       by_test false G = G
 
   started_goes : (w : Start) (k : Name) {e : Environment} → AllGo e → Goes (process_started w k e)
@@ -445,7 +486,7 @@ module _ (n : Network) where
 
   -- what took over had an outcome wherever it may, if that is so of what takes over where the source has lived
   since_goes : {W : Watched} {B : Takeover} {L : Life} {st : Standing} {Q : Process} {M : Life} → Since n W B L st → st ≡ fired Q M
-      → ((s : Step) (K : Life) (v : Data) → Lived (source_of W) K → Goes (B s K v)) → Goes Q
+      → ((s : Step) (K : Life) (v : Data) → SourceLived W K → Goes (B s K v)) → Goes Q
   since_goes at_start h body = absurd (not_both h)
   since_goes {B = B} {Q = Q} {M = M} (watched {s = s} {L = K} {y = y} S A h) g body = by_payload (occurring (second_of y)) (h ∙ g)
     where
@@ -478,69 +519,316 @@ module _ (n : Network) where
       → (s : Step) (K : Life) (v : Data) → Lived (closure t e) K → Goes (body_with k (closure t e) p u e s K v)
   keeping_goes {t = t} u p {e = e} k G U E s K v (lived A) = U _ (bound_go p v (go_process (frozen_goes K (wait_of s) G A, subst Goes (sym (frozen_base (closure t e) K (wait_of s))) G) E))
 
-  pub total : (t : Term) (e : Environment) → IsTrue (is_without_calls t) → AllGo e → Goes (closure t e)
-  total (primitive p) e h E s L ws O = has (of_form refl (of_primitive refl))
-  total (reference (started w k)) e h E s L ws O = elim (run_lived O) [ lived A ↦ with_run A (started_goes w k E s L _ A) ]
-  total (reference (call g vs)) e h E s L ws O = absurd (no_truth h)
-  total (joined j f g) e h E s L ws O =
-      let c = both_without (is_without_calls f) (is_without_calls g) h in
-      elim (join_lived O) [ joined_so A B ↦ with_left A B (total f e c.0 E (newest_left j s) (left_life j L) _ A) (λ y zs B'. total g e c.1 E (newest_right j s y) _ _ B') ]
-  total (sided d t) e h E s L ws O =
-      elim (side_lived O) [ lived A ↦ with_part A (total t e h E _ _ _ A) ]
-  total (headed LoopPre i t) e h E s L ws O =
-      elim (known (eval i (scope_around n.functions e))) [
-        | refused x k ↦ constants_fail s (ap opened k) O
-        | answered v k ↦ elim (loop_lived k O) [ looped A R ↦ elim R [ lived B ↦ with_loop k A B (total t e h E _ _ _ B) ] ]
+  -- ## Members
+
+  data HasEach (ms : Members) (s : Step) (L : Life) : Type 0 where
+    has_each : {o : Outcome} {c : Cost} → Each n ms s L o c → HasEach ms s L
+
+  with_one : {k : KeyData} {P : Process} {ms : Members} {s : Step} {L : Life} {ys : List Data} → Outputs n P L ys → Has P s L → HasEach ms s L → HasEach (member k P ms) s L
+  with_one A (has {o = gave y r} S) (has_each B) = has_each (one_more (gives A S) (others_go_on B))
+  with_one A (has {o = faulted x} S) B = has_each (one_more (gives A S) others_stop)
+
+  each_steps : {ms : Members} (s : Step) {L : Life} → EachGoes ms → EachLived ms L → HasEach ms s L
+  each_steps s none_goes none_lives = has_each no_more
+  each_steps s (one_goes G M) (one_lives (lived A) B) = with_one A (G s _ _ A) (each_steps s M B)
+
+  sees_all : {ms : Members} {q : Term} {e : Environment} {s : Step} {L : Life} {ys zs : List Data} → Tables n ms L ys → Outputs n (closure q e) (observed_life L ys) zs → HasEach ms s L
+      → ((y : Data) → Has (closure q e) (step (wait_of s) (pair (input_of s) y)) (observed_life L ys)) → (o : Outcome) × ((c : Cost) × Sees n (observed_members ms q e) s L o c)
+  sees_all A Z (has_each {o = faulted x} S) observer = (_, (_, by_members_observer A S stops))
+  sees_all A Z (has_each {o = gave y r} S) observer = elim (observer y) [ has T ↦ (_, (_, by_members_observer A S (goes_on (gives Z T)))) ]
+
+  add_goes : (k : KeyData) {P : Process} {ms : Members} → Goes P → EachGoes ms → EachGoes (add k P ms)
+  add_goes k G none_goes = one_goes G none_goes
+  add_goes k {P} G (one_goes {k = l} {P = Q} {ms = ms} H M) = by_test (equal_keys k l) (add_goes k G M)
+    where
+      by_test : (b : Bool) → EachGoes (add k P ms) → EachGoes (cond b (member k P ms) (member l Q (add k P ms)))
+      by_test true R = one_goes G M
+      by_test false R = one_goes H R
+
+  drop_goes : (k : KeyData) {ms : Members} → EachGoes ms → EachGoes (drop k ms)
+  drop_goes k none_goes = none_goes
+  drop_goes k (one_goes {k = l} {P = Q} {ms = ms} H M) = by_test (equal_keys k l) (drop_goes k M)
+    where
+      by_test : (b : Bool) → EachGoes (drop k ms) → EachGoes (cond b ms (member l Q (drop k ms)))
+      by_test true R = M
+      by_test false R = one_goes H R
+
+  keep_goes : (f : Data → Evaluated Data) {ms qs : Members} → keep f ms ≡ answer qs → EachGoes ms → EachGoes qs
+  keep_goes f e none_goes = subst EachGoes (same_answer e) none_goes
+  keep_goes f e (one_goes {k = k} {P = P} {ms = ms} H M) =
+      let asked = bound_answer (f (value_of_key k)) (λ b. keep f ms >>= λ rest. answer (cond (is_high b) (member k P rest) rest)) e in
+      let rest = bound_answer (keep f ms) (λ rest. answer (cond (is_high asked.0) (member k P rest) rest)) asked.2 in
+      subst EachGoes (same_answer rest.2) (by_test (is_high asked.0) (keep_goes f rest.1 M))
+    where
+      by_test : {rest : Members} (b : Bool) → EachGoes rest → EachGoes (cond b (member k P rest) rest)
+      by_test true R = one_goes H R
+      by_test false R = R
+
+  each_frozen_goes : {ms : Members} {L : Life} (d : ℕ) → EachGoes ms → EachLived ms L → EachGoes (each_frozen ms L d)
+  each_frozen_goes d none_goes none_lives = none_goes
+  each_frozen_goes d (one_goes G M) (one_lives {L = L} (lived A) B) = one_goes (frozen_goes L d G A) (each_frozen_goes d M B)
+
+  members_go : (x : Name) {e : Environment} → AllGo e → EachGoes (members_of x e)
+  members_go x go_nothing = none_goes
+  members_go x (go_value {x = y} {e = e} E) = by_test (bytes_eq x y) (members_go x E)
+    where
+      by_test : (b : Bool) → EachGoes (members_of x e) → EachGoes (cond b no_members (members_of x e))
+      by_test true M = none_goes
+      by_test false M = M
+  members_go x (go_process {x = y} {e = e} H E) = by_test (bytes_eq x y) (members_go x E)
+    where
+      by_test : (b : Bool) → EachGoes (members_of x e) → EachGoes (cond b no_members (members_of x e))
+      by_test true M = none_goes
+      by_test false M = M
+  members_go x (go_members {x = y} {ms = ms} {e = e} N E) = by_test (bytes_eq x y) (members_go x E)
+    where
+      by_test : (b : Bool) → EachGoes (members_of x e) → EachGoes (cond b ms (members_of x e))
+      by_test true M = N
+      by_test false M = M
+
+  -- what a form of members was made with
+  abbrev members_of_made : Members → Made → Members
+  members_of_made ms (members_made qs) = qs
+  members_of_made ms m = ms
+
+  abbrev assembled : Evaluated Members → Evaluated Made
+  assembled q = q >>= λ ms. answer (members_made ms)
+
+  no_gathering : {x : ValueFault} {t : Term} {e : Environment} {s : Step} {L : Life} {o : Outcome} {c : Cost} → ((y : Data) → make n t e y ≡ failed x) → Sample n (closure t e) s L o c → IsGave o → ⊥
+  no_gathering k (of_constants h) z = z
+  no_gathering {s = s} {L = L} k (of_form h F) z = absurd (let e = sym (k (input_at_first s L)) ∙ h in cc)
+
+  gathering_fails : {x : ValueFault} {t : Term} {e : Environment} (s : Step) {L : Life} {ws : List Data} → ((y : Data) → make n t e y ≡ failed x) → Outputs n (closure t e) L ws → Has (closure t e) s L
+  gathering_fails s k not_begun = has (of_constants (k (input_of s)))
+  gathering_fails s k (and_gave A B) = absurd (no_gathering k B tt)
+
+  from_gathered : {i : Collection} {e : Environment} {ms : Members} {m : Made} {s : Step} {L : Life} {o : Outcome} {c : Cost} → m ≡ members_made ms → Form n (gathered i) e m s L o c → IsGave o → EachLived ms (s ∷ L)
+  from_gathered {s = s} {L = L} k (of_gathered {ms = qs} {o = gave y r} A) h = subst (λ ms. EachLived ms (s ∷ L)) (ap (members_of_made qs) k) (each_lived A tt)
+  from_gathered k (of_gathered {o = faulted x} A) h = absurd h
+
+  gathered_at : {i : Collection} {e : Environment} {ms : Members} {s : Step} {L : Life} {o : Outcome} {c : Cost} → collect n.functions i e ≡ answer ms → Sample n (closure (gathered i) e) s L o c → IsGave o → EachLived ms (s ∷ L)
+  gathered_at k (of_constants h) z = absurd z
+  gathered_at k (of_form {m = m} h F) z = from_gathered (ap (λ q. made_of q m) (sym h ∙ ap assembled k)) F z
+
+  gathered_lived : {i : Collection} {e : Environment} {ms : Members} {L : Life} {ws : List Data} → collect n.functions i e ≡ answer ms → Outputs n (closure (gathered i) e) L ws → EachLived ms L
+  gathered_lived {ms = ms} k not_begun = nobody_lived ms
+  gathered_lived k (and_gave A B) = gathered_at k B tt
+
+  with_gathered : {i : Collection} {e : Environment} {ms : Members} {s : Step} {L : Life} → collect n.functions i e ≡ answer ms → HasEach ms s L → Has (closure (gathered i) e) s L
+  with_gathered k (has_each S) = has (of_form (ap assembled k) (of_gathered S))
+
+  -- members that are kept
+  from_releasing : {w : Observation} {i : Collection} {q u : Term} {k : Name} {p : Pattern} {e : Environment} {ms : Members} {m : Made} {s : Step} {L : Life} {o : Outcome} {c : Cost} → m ≡ members_made ms → Form n (releasing w i q k p u) e m s L o c → IsGave o
+      → Stood (observed_members ms q e) (body_with_members k ms p u e) (s ∷ L)
+  from_releasing {q = q} {u = u} {k = k} {p = p} {e = e} {s = s} {L = L} j (of_releasing {ms = qs} S T) h =
+      subst (λ ms. Stood (observed_members ms q e) (body_with_members k ms p u e) (s ∷ L)) (ap (members_of_made qs) j) (turn_stood S T h)
+
+  releasing_at : {w : Observation} {i : Collection} {q u : Term} {k : Name} {p : Pattern} {e : Environment} {ms : Members} {s : Step} {L : Life} {o : Outcome} {c : Cost} → collect n.functions i e ≡ answer ms → Sample n (closure (releasing w i q k p u) e) s L o c → IsGave o
+      → Stood (observed_members ms q e) (body_with_members k ms p u e) (s ∷ L)
+  releasing_at j (of_constants h) z = absurd z
+  releasing_at j (of_form {m = m} h F) z = from_releasing (ap (λ q. made_of q m) (sym h ∙ ap assembled j)) F z
+
+  releasing_stood : {w : Observation} {i : Collection} {q u : Term} {k : Name} {p : Pattern} {e : Environment} {ms : Members} {L : Life} {ws : List Data} → collect n.functions i e ≡ answer ms → Outputs n (closure (releasing w i q k p u) e) L ws
+      → Stood (observed_members ms q e) (body_with_members k ms p u e) L
+  releasing_stood {q = q} {e = e} {ms = ms} j not_begun = still_waits at_start (nothing_watched (observed_members ms q e))
+  releasing_stood j (and_gave A B) = releasing_at j B tt
+
+  releasing_has : {w : Observation} {i : Collection} {q u : Term} {k : Name} {p : Pattern} {e : Environment} {ms : Members} {s : Step} {L : Life} {st : Standing} → collect n.functions i e ≡ answer ms → Since n (observed_members ms q e) (body_with_members k ms p u e) L st
+      → Turns w (observed_members ms q e) (body_with_members k ms p u e) s L st → Has (closure (releasing w i q k p u) e) s L
+  releasing_has j S (turns T) = has (of_form (ap assembled j) (of_releasing S T))
+
+  releasing_goes : {ms : Members} (u : Term) (p : Pattern) {e : Environment} (k : Name) → EachGoes ms → ((f : Environment) → AllGo f → Goes (closure u f)) → AllGo e
+      → (s : Step) (K : Life) (v : Data) → EachLived ms K → Goes (body_with_members k ms p u e s K v)
+  releasing_goes u p k M U E s K v A = U _ (bound_go p v (go_members (each_frozen_goes (wait_of s) M A) E))
+
+  -- ## Edits
+
+  -- the members that an edit made have lived
+  data HasEdited (q : Evaluated Members) (L : Life) : Type 0 where
+    has_edited : {ms : Members} → q ≡ answer ms → EachLived ms L → HasEdited q L
+
+  by_edit : {w : Observation} (q : Evaluated Members) {s : Step} {y : Data} {r : _} {o : Outcome} {c : Cost} → Edited n w (Some q) s (gave y r) o c → IsGave o → HasEdited q (s ∷ [])
+  by_edit (answer ms) (edit_now {o' = gave z k} A) h = has_edited refl (each_lived A tt)
+  by_edit (answer ms) (edit_now {o' = faulted x} A) h = absurd h
+  by_edit (failed x) edit_failed h = absurd h
+
+  ran_edited : {w : Observation} (E : Data → Evaluated Members) (qs : Members) (s : Step) (M : Life) (q : Option Data) {o o' : Outcome} {c d : Cost}
+      → Each n qs (without_event s) (with_inputs first_of M) o c → Edited n w (option_map E (unless_faulted o q)) (without_event s) o o' d → IsGave o' → HasEdited (edited E qs q) (with_inputs first_of (s ∷ kept_before q M))
+  ran_edited E qs s M None {o = gave y k} G no_edit h = has_edited refl (each_lived G tt)
+  ran_edited E qs s M (Some v) {o = gave y k} G D h = by_edit (E v) D h
+  ran_edited E qs s M q {o = faulted x} G no_edit h = absurd h
+
+  -- the members that run after a life: each goes, and they have lived since the last edit
+  data EditsRun (E : Edit) (ms : Members) (L : Life) : Type 0 where
+    edits_run : {qs : Members} → which_run E ms L ≡ answer qs → EachGoes qs → EachLived qs (since_edit L) → EditsRun E ms L
+
+  -- an edit of members that go, and have lived, makes such
+  abbrev EditGoes : Edit → Type 0
+  EditGoes E = (M : Life) (s : Step) (qs rs : Members) (v : Data) → EachGoes qs → EachLived qs M → E M s qs v ≡ answer rs → EachGoes rs
+
+  edited_go : (E : Edit) → EditGoes E → (M : Life) (s : Step) (qs rs : Members) (q : Option Data) → EachGoes qs → EachLived qs M → edited (E M s qs) qs q ≡ answer rs → EachGoes rs
+  edited_go E F M s qs rs None G A e = subst EachGoes (same_answer e) G
+  edited_go E F M s qs rs (Some v) G A e = F M s qs rs v G A e
+
+  from_editing : {w : Observation} {i u : Collection} {k : Name} {p : Pattern} {e : Environment} {ms : Members} {m : Made} {s : Step} {L : Life} {o : Outcome} {c : Cost} → EditGoes (edit_of n.functions k p u e) → EditsRun (edit_of n.functions k p u e) ms L
+      → m ≡ members_made ms → Form n (editing w i k p u) e m s L o c → IsGave o → EditsRun (edit_of n.functions k p u e) ms (s ∷ L)
+  from_editing {u = u} {k = k} {p = p} {e = e} {ms = ms} {s = s} {L = L} F (edits_run {qs = qs} R G A) j (of_editing {ms = ns} {qs = rs} H B D) h =
+      let E = edit_of n.functions k p u e in
+      let same : rs ≡ qs = same_answer (sym H ∙ ap (λ ms. which_run E ms L) (ap (members_of_made ns) j) ∙ R) in
+      elim (ran_edited (E (since_edit L) s rs) rs s (since_event L) (event_beside s) B D h) [
+        | has_edited {ms = fs} q C ↦
+            let is : edited (E (since_edit L) s qs) qs (event_beside s) ≡ answer fs = subst (λ qs. edited (E (since_edit L) s qs) qs (event_beside s) ≡ answer fs) same q in
+            edits_run (ap (λ o. o >>= λ qs. edited (E (since_edit L) s qs) qs (event_beside s)) R ∙ is) (edited_go E F (since_edit L) s qs fs (event_beside s) G A is) C
       ]
-  total (headed Initialized i t) e h E s L ws O =
-      elim (known (eval i (scope_around n.functions e))) [
-        | refused x k ↦ constants_fail s (ap opened k) O
-        | answered v k ↦ elim (initialized_lived O) [ lived A ↦ with_initial k A (total t e h E s L _ A) ]
-      ]
-  total (headed Replaced i t) e h E s L ws O =
-      elim (known (eval i (scope_around n.functions e))) [
-        | refused x k ↦ constants_fail s (ap opened k) O
-        | answered v k ↦ elim (replaced_lived k O) [ lived A ↦ with_replaced k A (total t e h E _ _ _ A) ]
-      ]
-  total (headed Followed i t) e h E s L ws O =
-      elim (followed_lived O) [ lived A ↦ with_followed A (total t e h E s L _ A) ]
-  total (transformed f t) e h E s L ws O =
-      elim (known (apply f (input_at_first s L) (scope_around n.functions e))) [
-        | refused x k ↦ constants_fail s (ap opened k) O
-        | answered v k ↦ elim (transformed_lived s k O) [ lived A ↦ with_transformed k A (total t e h E _ _ _ A) ]
-      ]
-  total (switching (Basic w) t p u) e h E s L ws O =
-      let c = both_without (is_without_calls t) (is_without_calls u) h in
-      let body : (s : Step) (K : Life) (v : Data) → Lived (closure t e) K → Goes (body_of p u e v) = λ s K v A. total u _ c.1 (bound_go p v E) in
-      elim (switch_stood O) [
-        | still_waits S R ↦ elim R [
-          | itself_lived A ↦
-              let seen = sees_itself A (total t e c.0 E s L _ A) in
-              switch_has S (waiting_turns w seen.0 seen.1.1 (λ v. body s L v (lived A) s [] _ not_begun))
+
+  editing_at : {w : Observation} {i u : Collection} {k : Name} {p : Pattern} {e : Environment} {ms : Members} {s : Step} {L : Life} {o : Outcome} {c : Cost} → EditGoes (edit_of n.functions k p u e) → EditsRun (edit_of n.functions k p u e) ms L
+      → collect n.functions i e ≡ answer ms → Sample n (closure (editing w i k p u) e) s L o c → IsGave o → EditsRun (edit_of n.functions k p u e) ms (s ∷ L)
+  editing_at F R j (of_constants h) z = absurd z
+  editing_at F R j (of_form {m = m} h D) z = from_editing F R (ap (λ q. made_of q m) (sym h ∙ ap assembled j)) D z
+
+  editing_runs : {w : Observation} {i u : Collection} {k : Name} {p : Pattern} {e : Environment} {ms : Members} {L : Life} {ws : List Data} → EditGoes (edit_of n.functions k p u e) → EachGoes ms
+      → collect n.functions i e ≡ answer ms → Outputs n (closure (editing w i k p u) e) L ws → EditsRun (edit_of n.functions k p u e) ms L
+  editing_runs {ms = ms} F G j not_begun = edits_run refl G (nobody_lived ms)
+  editing_runs F G j (and_gave A B) = editing_at F (editing_runs F G j A) j B tt
+
+  data HasEdit (w : Observation) (q : Option (Evaluated Members)) (s : Step) (o : Outcome) : Type 0 where
+    has_edit : {o' : Outcome} {c : Cost} → Edited n w q s o o' c → HasEdit w q s o
+
+  edit_fires : {w : Observation} (s : Step) (o : Outcome) (q : Evaluated Members) → ((rs : Members) → q ≡ answer rs → EachGoes rs) → HasEdit w (Some q) s o
+  edit_fires s o (failed x) F = has_edit edit_failed
+  edit_fires s o (answer rs) F = elim (each_steps s (F rs refl) (nobody_lived rs)) [ has_each S ↦ has_edit (edit_now S) ]
+
+  edits_fire : {w : Observation} (E : Data → Evaluated Members) (s : Step) (o : Outcome) (q : Option Data) → ((v : Data) (rs : Members) → E v ≡ answer rs → EachGoes rs) → HasEdit w (option_map E q) s o
+  edits_fire E s o None F = has_edit no_edit
+  edits_fire E s o (Some v) F = edit_fires s o (E v) (F v)
+
+  with_editing : {w : Observation} {i u : Collection} {k : Name} {p : Pattern} {e : Environment} {ms qs : Members} {s : Step} {L : Life} → collect n.functions i e ≡ answer ms → which_run (edit_of n.functions k p u e) ms L ≡ answer qs
+      → HasEach qs (without_event s) (since_edit L) → ((v : Data) (rs : Members) → edit_of n.functions k p u e (since_edit L) s qs v ≡ answer rs → EachGoes rs) → Has (closure (editing w i k p u) e) s L
+  with_editing {u = u} {k = k} {p = p} {e = e} {qs = qs} {s = s} {L = L} j R (has_each {o = o} S) F =
+      elim (edits_fire (edit_of n.functions k p u e (since_edit L) s qs) (without_event s) o (unless_faulted o (event_beside s)) F) [ has_edit D ↦ has (of_form (ap assembled j) (of_editing R S D)) ]
+
+  one_of : {a b : Evaluated Members} {ms : Members} (t : Bool) → (a ≡ answer ms → EachGoes ms) → (b ≡ answer ms → EachGoes ms) → cond t a b ≡ answer ms → EachGoes ms
+  one_of true F G q = F q
+  one_of false F G q = G q
+
+  mutual
+    pub total : (t : Term) (e : Environment) → IsTrue (is_without_calls t) → AllGo e → Goes (closure t e)
+    total (primitive p) e h E s L ws O = has (of_form refl (of_primitive refl))
+    total (reference (started w k)) e h E s L ws O = elim (run_lived O) [ lived A ↦ with_run A (started_goes w k E s L _ A) ]
+    total (reference (call g vs)) e h E s L ws O = absurd (no_truth h)
+    total (joined j f g) e h E s L ws O =
+        let c = both_without (is_without_calls f) (is_without_calls g) h in
+        elim (join_lived O) [ joined_so A B ↦ with_left A B (total f e c.0 E (newest_left j s) (left_life j L) _ A) (λ y zs B'. total g e c.1 E (newest_right j s y) _ _ B') ]
+    total (sided d t) e h E s L ws O =
+        elim (side_lived O) [ lived A ↦ with_part A (total t e h E _ _ _ A) ]
+    total (headed LoopPre i t) e h E s L ws O =
+        elim (known (eval i (scope_around n.functions e))) [
+          | refused x k ↦ constants_fail s (ap opened k) O
+          | answered v k ↦ elim (loop_lived k O) [ looped A R ↦ elim R [ lived B ↦ with_loop k A B (total t e h E _ _ _ B) ] ]
         ]
-        | had_event S R ↦ elim R [ lived A ↦ switch_has S (body_turns A (since_goes S refl body s _ _ A)) ]
-      ]
-  total (switching (Recurring w) t p u) e h E s L ws O =
-      let c = both_without (is_without_calls t) (is_without_calls u) h in
-      elim (recurring_runs O) [
-        | lived A ↦
-            with_running A (run_has (body_of p u e) (last_event L) (λ A. total t e c.0 E _ _ _ A) (λ v A. total u (bind p v e) c.1 (bound_go p v E) _ _ _ A) A) (λ v. total u (bind p v e) c.1 (bound_go p v E) _ [] _ not_begun)
-      ]
-  total (keeping w t q k p u) e h E s L ws O =
-      let c = both_without (is_without_calls t) (is_without_calls q && is_without_calls u) h in
-      let d = both_without (is_without_calls q) (is_without_calls u) c.1 in
-      let body = keeping_goes u p k (total t e c.0 E) (λ f F. total u f d.1 F) E in
-      elim (keeping_stood O) [
-        | still_waits S R ↦ elim R [
-          | both_lived A Z ↦
-              let seen = sees_both A Z (total t e c.0 E s L _ A) (λ y. total q e d.0 E _ _ _ Z) in
-              keeping_has S (waiting_turns w seen.0 seen.1.1 (λ v. body s L v (lived A) s [] _ not_begun))
+    total (headed Initialized i t) e h E s L ws O =
+        elim (known (eval i (scope_around n.functions e))) [
+          | refused x k ↦ constants_fail s (ap opened k) O
+          | answered v k ↦ elim (initialized_lived O) [ lived A ↦ with_initial k A (total t e h E s L _ A) ]
         ]
-        | had_event S R ↦ elim R [ lived A ↦ keeping_has S (body_turns A (since_goes S refl body s _ _ A)) ]
-      ]
-  total (staged x f g) e h E s L ws O =
-      let c = both_without (is_without_calls f) (is_without_calls g) h in
-      elim (join_lived (as_joined O)) [ joined_so A B ↦ as_staged (with_left A B (total f e c.0 E s L _ A) (λ y zs B'. total g e c.1 E (step (wait_of s) y) _ _ B')) ]
+    total (headed Replaced i t) e h E s L ws O =
+        elim (known (eval i (scope_around n.functions e))) [
+          | refused x k ↦ constants_fail s (ap opened k) O
+          | answered v k ↦ elim (replaced_lived k O) [ lived A ↦ with_replaced k A (total t e h E _ _ _ A) ]
+        ]
+    total (headed Followed i t) e h E s L ws O =
+        elim (followed_lived O) [ lived A ↦ with_followed A (total t e h E s L _ A) ]
+    total (transformed f t) e h E s L ws O =
+        elim (known (apply f (input_at_first s L) (scope_around n.functions e))) [
+          | refused x k ↦ constants_fail s (ap opened k) O
+          | answered v k ↦ elim (transformed_lived s k O) [ lived A ↦ with_transformed k A (total t e h E _ _ _ A) ]
+        ]
+    total (switching (Basic w) t p u) e h E s L ws O =
+        let c = both_without (is_without_calls t) (is_without_calls u) h in
+        let body : (s : Step) (K : Life) (v : Data) → Lived (closure t e) K → Goes (body_of p u e v) = λ s K v A. total u _ c.1 (bound_go p v E) in
+        elim (switch_stood O) [
+          | still_waits S R ↦ elim R [
+            | itself_lived A ↦
+                let seen = sees_itself A (total t e c.0 E s L _ A) in
+                switch_has S (waiting_turns w seen.0 seen.1.1 (λ v. body s L v (lived A) s [] _ not_begun))
+          ]
+          | had_event S R ↦ elim R [ lived A ↦ switch_has S (body_turns A (since_goes S refl body s _ _ A)) ]
+        ]
+    total (switching (Recurring w) t p u) e h E s L ws O =
+        let c = both_without (is_without_calls t) (is_without_calls u) h in
+        elim (recurring_runs O) [
+          | lived A ↦
+              with_running A (run_has (body_of p u e) (last_event L) (λ A. total t e c.0 E _ _ _ A) (λ v A. total u (bind p v e) c.1 (bound_go p v E) _ _ _ A) A) (λ v. total u (bind p v e) c.1 (bound_go p v E) _ [] _ not_begun)
+        ]
+    total (keeping w t q k p u) e h E s L ws O =
+        let c = both_without (is_without_calls t) (is_without_calls q && is_without_calls u) h in
+        let d = both_without (is_without_calls q) (is_without_calls u) c.1 in
+        let body = keeping_goes u p k (total t e c.0 E) (λ f F. total u f d.1 F) E in
+        elim (keeping_stood O) [
+          | still_waits S R ↦ elim R [
+            | both_lived A Z ↦
+                let seen = sees_both A Z (total t e c.0 E s L _ A) (λ y. total q e d.0 E _ _ _ Z) in
+                keeping_has S (waiting_turns w seen.0 seen.1.1 (λ v. body s L v (lived A) s [] _ not_begun))
+          ]
+          | had_event S R ↦ elim R [ lived A ↦ keeping_has S (body_turns A (since_goes S refl body s _ _ A)) ]
+        ]
+    total (gathered i) e h E s L ws O =
+        elim (known (collect n.functions i e)) [
+          | refused x k ↦ gathering_fails s (λ y. ap assembled k) O
+          | answered ms k ↦ with_gathered k (each_steps s (collects_go i e h E ms k) (gathered_lived k O))
+        ]
+    total (releasing w i q k p u) e h E s L ws O =
+        let c = both_without (collects_without_calls i) (is_without_calls q && is_without_calls u) h in
+        let d = both_without (is_without_calls q) (is_without_calls u) c.1 in
+        elim (known (collect n.functions i e)) [
+          | refused x j ↦ gathering_fails s (λ y. ap assembled j) O
+          | answered ms j ↦
+              let M = collects_go i e c.0 E ms j in
+              let body = releasing_goes u p k M (λ f F. total u f d.1 F) E in
+              elim (releasing_stood j O) [
+                | still_waits S R ↦ elim R [
+                  | all_lived A Z ↦
+                      let seen = sees_all A Z (each_steps s M (tables_lived A)) (λ y. total q e d.0 E _ _ _ Z) in
+                      releasing_has j S (waiting_turns w seen.0 seen.1.1 (λ v. body s L v (tables_lived A) s [] _ not_begun))
+                ]
+                | had_event S R ↦ elim R [ lived A ↦ releasing_has j S (body_turns A (since_goes S refl body s _ _ A)) ]
+              ]
+        ]
+    total (editing w i k p u) e h E s L ws O =
+        let c = both_without (collects_without_calls i) (collects_without_calls u) h in
+        let edit : EditGoes (edit_of n.functions k p u e) =
+        λ M r qs rs v G A q. collects_go u _ c.1 (bound_go p v (go_members (each_frozen_goes (wait_of r) G A) E)) rs q in
+        elim (known (collect n.functions i e)) [
+          | refused x j ↦ gathering_fails s (λ y. ap assembled j) O
+          | answered ms j ↦ elim (editing_runs edit (collects_go i e c.0 E ms j) j O) [
+            | edits_run {qs = qs} R G A ↦
+                with_editing j R (each_steps (without_event s) G A) (λ v rs q. edit (since_edit L) s qs rs v G A q)
+          ]
+        ]
+    total (staged x f g) e h E s L ws O =
+        let c = both_without (is_without_calls f) (is_without_calls g) h in
+        elim (join_lived (as_joined O)) [ joined_so A B ↦ as_staged (with_left A B (total f e c.0 E s L _ A) (λ y zs B'. total g e c.1 E (step (wait_of s) y) _ _ B')) ]
+
+    -- each member that a collection has goes
+    collects_go : (i : Collection) (e : Environment) → IsTrue (collects_without_calls i) → AllGo e → (ms : Members) → collect n.functions i e ≡ answer ms → EachGoes ms
+    collects_go (without_members k t) e h E ms q = subst EachGoes (same_answer q) none_goes
+    collects_go (used x) e h E ms q = subst EachGoes (same_answer q) (members_go x E)
+    collects_go (added i j t) e h E ms q =
+        let c = both_without (collects_without_calls i) (is_without_calls t) h in
+        let members = bound_answer (collect n.functions i e) (λ ms. eval j (scope_around n.functions e) >>= λ v. answer (add (as_key v) (closure t e) ms)) q in
+        let key = bound_answer (eval j (scope_around n.functions e)) (λ v. answer (add (as_key v) (closure t e) members.0)) members.2 in
+        subst EachGoes (same_answer key.2) (add_goes (as_key key.0) (total t e c.1 E) (collects_go i e c.0 E members.0 members.1))
+    collects_go (dropped i j) e h E ms q =
+        let members = bound_answer (collect n.functions i e) (λ ms. eval j (scope_around n.functions e) >>= λ v. answer (drop (as_key v) ms)) q in
+        let key = bound_answer (eval j (scope_around n.functions e)) (λ v. answer (drop (as_key v) members.0)) members.2 in
+        subst EachGoes (same_answer key.2) (drop_goes (as_key key.0) (collects_go i e h E members.0 members.1))
+    collects_go (kept i f) e h E ms q =
+        let members = bound_answer (collect n.functions i e) (λ ms. keep (λ x. apply f x (scope_around n.functions e)) ms) q in
+        keep_goes (λ x. apply f x (scope_around n.functions e)) members.2 (collects_go i e h E members.0 members.1)
+    collects_go (chosen j a b) e h E ms q =
+        let c = both_without (collects_without_calls a) (collects_without_calls b) h in
+        let test = bound_answer (eval j (scope_around n.functions e)) (λ v. cond (is_high v) (collect n.functions a e) (collect n.functions b e)) q in
+        one_of (is_high test.0) (collects_go a e c.0 E ms) (collects_go b e c.1 E ms) test.2
 
   found : {P : Process} {s : Step} {L : Life} {ws : List Data} → Outputs n P L ws → Has P s L → (o : Outcome) × ((c : Cost) × Gives n P (s ∷ L) o c)
   found O (has S) = (_, (_, gives O S))
@@ -551,6 +839,10 @@ module _ (n : Network) where
     process_total (closed_without_calls {t = t} {e = e} h N) (closed E) = total t e h (all_go N E)
     process_total (frozen_without_calls N) (was_frozen {d = d} P H) = resumed_goes d (process_total N P) H
 
+    each_total : {ms : Members} → EachHasNoCalls ms → EachHasLived n ms → EachGoes ms
+    each_total none_without_calls none_has_lived = none_goes
+    each_total (one_without_calls N M) (one_has_lived P R) = one_goes (process_total N P) (each_total M R)
+
     base_total : {P : Process} → HasNoCalls P → HasLived n P → Goes (base P)
     base_total (closed_without_calls {t = t} {e = e} h N) (closed E) = total t e h (all_go N E)
     base_total (frozen_without_calls N) (was_frozen P H) = base_total N P
@@ -558,6 +850,7 @@ module _ (n : Network) where
     all_go : {e : Environment} → HaveNoCalls e → HaveLived n e → AllGo e
     all_go none_calls none_lived = go_nothing
     all_go (value_without_calls N) (value_beside E) = go_value (all_go N E)
+    all_go (members_without_calls M N) (collection_lived R E) = go_members (each_total M R) (all_go N E)
     all_go (process_without_calls M N) (process_lived P E) = go_process (process_total M P, base_total M P) (all_go N E)
 
   pub some_outcome : {P : Process} → HasNoCalls P → HasLived n P → (s : Step) (L : Life) {ws : List Data} → Outputs n P L ws → (o : Outcome) × ((c : Cost) × Gives n P (s ∷ L) o c)

@@ -1,8 +1,8 @@
 -- A typed process gives values of its output type.
 use Rattle.std.proofs.Common.{ℕ, suc, ◌≡◌, ◌∙◌, Bool, true, false, cond, List, [], ◌∷◌, map, Option, Some, None, refl, sym, ap, subst}
-use Rattle.std.specs.Prelude.{⊤, bytes_eq, slice_get}
+use Rattle.std.specs.Prelude.{⊤, bytes_eq, slice_get, option_map}
 use Rattle.std.proofs.lemmas.Option.{same_Some}
-use Rattle.sf_value.specs.Values.{Name, Kind, pair_kind, event_kind, Data, pair, HasKind, has_pair, first_of, second_of, has_no_event}
+use Rattle.sf_value.specs.Values.{Name, KeyKind, Kind, pair_kind, event_kind, table_kind, Data, pair, HasKind, has_pair, first_of, second_of, has_no_event, has_no_rows}
 use mathlib.Core.Path.{subst₂}
 use Rattle.sf_operator.specs.Kinds.{found_then, payload_of}
 use Rattle.sf_operator.proofs.SameKinds.{only_is, found_is}
@@ -19,13 +19,15 @@ use Rattle.sf_term.specs.declared.form.Observation.{Observation}
 use Rattle.sf_term.specs.declared.form.Start.{Start}
 use Rattle.sf_term.specs.declared.form.Start.TheVariants.{Run, Fresh}
 use Rattle.sf_term.specs.declared.form.Observation.TheVariants.{Immediate, Delayed}
-use Rattle.sf_term.specs.Trees.{Chain, Primitive, Term, primitive, reference, started, call, Arguments, joined, sided, headed, transformed, switching, keeping, staged, Template, Templates, template_named}
-use Rattle.sf_mean.specs.Lives.{Step, wait_of, input_of, Life, Environment, scope_around, bind, Process, process_of, base, process_started, passing, closure, empty, known, frozen, first_input as input_at_first}
-use Rattle.sf_mean.specs.Formulas.{timed_formula, occurring, next_value, accumulation, event_where, accumulated_formula, value_formula, with_side, apply_chain, formula}
-use Rattle.sf_mean.specs.Meaning.{Network, Outcome, gave, faulted, recorded, Cost, Made, value_made, process_made, argument_process, argued, process_called, referred, make, Watched, itself, observed, Takeover, Standing, waits, fired, stands_after, switched_value, body_of, event_beside, or_earlier, last_event, kept_before, since_event, what_runs, unless_faulted, Gives, gives, Outputs, not_begun, and_gave, Sample, of_constants, of_form, of_resumed, Form, of_primitive, of_reference, of_join, of_side, of_loop, of_initialized, of_replaced, of_followed, of_transformed, of_switch, of_keeping, of_recurring, of_stages, Next, goes_on, stops, Loops, no_loop, and_looped, Sees, beside_values, by_observer, Since, at_start, watched, had_fired, SwitchTurn, while_waiting, as_body, Switched, after_fault, after_value, Fires, no_event_yet, event_now}
-use Rattle.sf_mean.specs.Contexts.{Signature, signature_of, signature_named, parameters_inside, value, process, Bindings, bindings_inside, values_in, types_of_process, process_named, context_with, Context, names_of_values}
-use Rattle.sf_mean.specs.Typing.{accumulated_argument, accumulated_kind, ChainTakes, lone_takes, chained_takes, on_first_takes, on_second_takes, on_both_takes, fanned_takes, PrimitiveTakes, bare_takes, probe_takes, never_takes, value_takes, timed_takes, selected_takes, accumulated_takes, arrow_takes, fused_takes, Takes, takes, FormTakes, primitive_takes, started_takes, call_takes, ArgumentsFit, no_argument_fits, value_fits, process_fits, closed_fits, sequence_takes, parallel_takes, fan_takes, first_takes, second_takes, loop_takes, initialized_takes, replaced_takes, followed_takes, transformed_takes, switch_takes, keeping_takes, recurring_takes, stages_take}
-use Rattle.sf_mean.specs.Soundness.{NetworkIsTyped, Have, have_nothing, have_more, LifeHas, no_steps, more_steps, EnvironmentHas, has_nothing, has_value, has_process, ProcessTakes, closure_takes, resumed_takes, OutcomeHas}
+use Rattle.sf_term.specs.Trees.{Chain, Primitive, Term, primitive, reference, started, call, Arguments, joined, sided, headed, transformed, switching, keeping, gathered, releasing, editing, staged, Collection, Template, Templates, template_named}
+use Rattle.sf_mean.specs.Lives.{Step, wait_of, input_of, Life, Environment, scope_around, bind, Process, process_of, base, process_started, passing, closure, empty, known, collected, Members, first_input as input_at_first}
+use Rattle.sf_mean.specs.Collections.{as_key, add, drop, keep, collect}
+use Rattle.sf_mean.specs.Formulas.{timed_formula, occurring, next_value, accumulation, event_where, accumulated_formula, value_formula, with_side, apply_chain, formula, is_high}
+use Rattle.sf_mean.specs.Meaning.{Network, Outcome, gave, faulted, recorded, Cost, Made, value_made, process_made, members_made, argument_process, argued, process_called, referred, make, Watched, itself, observed, Takeover, Standing, waits, fired, stands_after, switched_value, body_of, event_beside, or_earlier, last_event, kept_before, since_event, what_runs, unless_faulted, edit_of, since_edit, edited, which_run, Gives, gives, Outputs, not_begun, and_gave, Sample, of_constants, of_form, of_resumed, Form, of_primitive, of_reference, of_join, of_side, of_loop, of_initialized, of_replaced, of_followed, of_transformed, of_switch, of_keeping, of_recurring, of_gathered, of_releasing, of_editing, of_stages, Next, goes_on, stops, Loops, no_loop, and_looped, Sees, beside_values, by_observer, Since, at_start, watched, had_fired, SwitchTurn, while_waiting, as_body, Switched, after_fault, after_value, Fires, no_event_yet, event_now, Each, no_more, one_more, Others, others_go_on, others_stop, Edited, no_edit, edit_failed, edit_now, observed_members, by_members_observer, Tables, no_tables, and_table}
+use Rattle.sf_mean.specs.Contexts.{Signature, signature_of, signature_named, parameters_inside, value, process, collection, Bindings, bindings_inside, values_in, types_of_process, process_named, context_with, Context, names_of_values}
+use Rattle.sf_mean.specs.Typing.{accumulated_argument, accumulated_kind, ChainTakes, lone_takes, chained_takes, on_first_takes, on_second_takes, on_both_takes, fanned_takes, PrimitiveTakes, bare_takes, probe_takes, never_takes, value_takes, timed_takes, selected_takes, accumulated_takes, arrow_takes, fused_takes, Takes, takes, FormTakes, primitive_takes, started_takes, call_takes, Collects, collects_none, collects_used, collects_added, collects_dropped, collects_kept, collects_chosen, ArgumentsFit, no_argument_fits, value_fits, process_fits, collection_fits, closed_fits, sequence_takes, parallel_takes, fan_takes, first_takes, second_takes, loop_takes, initialized_takes, replaced_takes, followed_takes, transformed_takes, switch_takes, keeping_takes, recurring_takes, gathered_takes, releasing_takes, editing_takes, stages_take}
+use Rattle.sf_mean.specs.Soundness.{NetworkIsTyped, Have, have_nothing, have_more, LifeHas, no_steps, more_steps, EnvironmentHas, has_nothing, has_value, has_process, has_members, ProcessTakes, closure_takes, resumed_takes, MembersTake, member_takes, OutcomeHas}
+use Rattle.sf_mean.proofs.TypedMembers.{bound_answer, frozen_takes, key_is, Gathers, gathers_none, gathers_added, gathers_dropped, gathers_kept, gathers_frozen, used_gathers, RowsOf, rows_of, no_rows_of, rows_typed, with_row_of}
 use Rattle.sf_mean.proofs.TypedPrimitives.{before_has, first_has, bare_typed, value_typed, timed_typed, selected_typed, event_comes, Comes, comes_none, comes_some, occurring_comes, event_has}
 use Rattle.sf_mean.proofs.TypedLives.{first_is, second_is, with_inputs_has, with_first_has, after_has, fed_has, first_input_has, outcome_is, changed_has, combined_has, newest_is, answered_has, LifeIf, life_if, beside_if, relay_if}
 
@@ -61,6 +63,7 @@ pub environment_scope : {n : Network} (φ : AnswersByName) (fs : TypesByName) {e
 environment_scope φ fs K has_nothing = has_no_names K
 environment_scope φ fs K (has_value h E) = has_name h (environment_scope φ fs K E)
 environment_scope φ fs K (has_process P E) = has_other (environment_scope φ fs K E)
+environment_scope φ fs K (has_members N M E) = has_other (environment_scope φ fs K E)
 
 -- the environment inside a pattern has its names
 bind_has : {n : Network} {p : Pattern} {c : Kind} {R S : Names} {v : Data} {e : Environment} {bs : Bindings} → AddsNames p c R S → HasKind v c → EnvironmentHas n e bs → EnvironmentHas n (bind p v e) (bindings_inside p c bs)
@@ -81,11 +84,11 @@ process_has {n} k {a} {b} (has_process {x = x} {P = P} {a = c} {b = d} {e = e} {
     by_test : (s : Bool) → cond s (types_of_process (process c d)) (process_named k bs) ≡ Some (a, b) → (process_named k bs ≡ Some (a, b) → ProcessTakes n (process_of k e) a b) → ProcessTakes n (cond s P (process_of k e)) a b
     by_test true h f = let same : (c, d) ≡ (a, b) = same_Some _ _ h in subst₂ (ProcessTakes n P) (ap (λ (k : Kind × Kind). k.0) same) (ap (λ (k : Kind × Kind). k.1) same) T
     by_test false h f = f h
-
--- what was frozen has the types of its process
-frozen_takes : {n : Network} {P : Process} {h : Life} (d : ℕ) {a b : Kind} → ProcessTakes n P a b → LifeHas h a → ProcessTakes n (frozen P h d) a b
-frozen_takes d T no_steps = T
-frozen_takes d T (more_steps {s = s} i l) = resumed_takes T (more_steps {s = s} i l)
+process_has {n} k {a} {b} (has_members {x = x} {k = j} {a = c} {b = d} {e = e} {bs = bs} N M E) h = by_test (bytes_eq k x) h (process_has k E)
+  where
+    by_test : (s : Bool) → cond s (types_of_process (collection j c d)) (process_named k bs) ≡ Some (a, b) → (process_named k bs ≡ Some (a, b) → ProcessTakes n (process_of k e) a b) → ProcessTakes n (cond s passing (process_of k e)) a b
+    by_test true h f = absurd cc
+    by_test false h f = f h
 
 abbrev process_in : Process → Made → Process
 process_in P (process_made Q) = Q
@@ -107,6 +110,15 @@ referred_as {q} {P} = each q
     each : (q : Evaluated Process) → (q >>= λ P. answer (process_made P)) ≡ answer (process_made P) → q ≡ answer P
     each (answer Q) h = ap answer (ap (made_process P) h)
     each (failed x) h = absurd cc
+
+-- what was made of members
+abbrev members_in : Members → Made → Members
+members_in ms (members_made qs) = qs
+members_in ms m = ms
+
+pub collected_as : (q : Evaluated Members) {ms : Members} → (q >>= λ ms. answer (members_made ms)) ≡ answer (members_made ms) → q ≡ answer ms
+collected_as (answer qs) h = ap answer (ap (members_in qs) (answers_one h))
+collected_as (failed x) h = absurd cc
 
 -- what was made of an answer
 closed_of : {A : Type 0} {P : Process} (q : Evaluated A) (f : A → Process) → (q >>= λ d. answer (f d)) ≡ answer P → (d : A) × (q ≡ answer d) × (f d ≡ P)
@@ -151,6 +163,9 @@ argument_has K E (headed h i t) T = closure_takes K E T
 argument_has K E (transformed f t) T = closure_takes K E T
 argument_has K E (switching w t p u) T = closure_takes K E T
 argument_has K E (keeping w t q k p u) T = closure_takes K E T
+argument_has K E (gathered i) T = closure_takes K E T
+argument_has K E (releasing w i q k p u) T = closure_takes K E T
+argument_has K E (editing w i k p u) T = closure_takes K E T
 argument_has K E (staged x f g) T = closure_takes K E T
 
 -- what a switch watches has types: of its inputs, its values and its events' payloads
@@ -158,6 +173,8 @@ data WatchedTakes (n : Network) : Watched → Kind → Kind → Kind → Type 0 
   itself_takes : {P : Process} {a b c : Kind} → ProcessTakes n P a (pair_kind b (event_kind c)) → WatchedTakes n (itself P) a b c
   observed_takes : {P : Process} {q : Term} {e : Environment} {fs : TypesByName} {bs : Bindings} {a b c : Kind} → ProcessTakes n P a b
       → NetworkIsTyped fs n → EnvironmentHas n e bs → Takes (context_with fs bs n.templates) q (pair_kind a b) (event_kind c) → WatchedTakes n (observed P q e) a b c
+  observed_members_take : {ms : Members} {q : Term} {e : Environment} {fs : TypesByName} {bs : Bindings} {k : KeyKind} {a b c : Kind} → Gathers n k a b ms
+      → NetworkIsTyped fs n → EnvironmentHas n e bs → Takes (context_with fs bs n.templates) q (pair_kind a (table_kind k b)) (event_kind c) → WatchedTakes n (observed_members ms q e) a (table_kind k b) c
 
 -- what takes over has types, where it does so after a life of its inputs' type at a payload of its event's
 abbrev TakeoverHas : Network → Takeover → Kind → Kind → Kind → Type 0
@@ -263,9 +280,34 @@ module _ (n : Network) (eval_is : EvalsTyped) (apply_is : AppliesTyped) where
   -- ## Calls
 
   -- what is known after an argument that is evaluated
-  argued_next : {t : Kind} {q : Evaluated Data} (f : Data → Evaluated Environment) {d : Environment} → Yields t q → (q >>= f) ≡ answer d → (v : Data) × HasKind v t × (f v ≡ answer d)
+  argued_next : {A : Type 0} {t : Kind} {q : Evaluated Data} (f : Data → Evaluated A) {d : A} → Yields t q → (q >>= f) ≡ answer d → (v : Data) × HasKind v t × (f v ≡ answer d)
   argued_next f (yields {d = v} h) e = (v, h, e)
   argued_next f fails e = absurd cc
+
+  -- ## Collections
+
+  collect_has : {fs : TypesByName} {e : Environment} {bs : Bindings} {i : Collection} {k : KeyKind} {a b : Kind} {ms : Members} → NetworkIsTyped fs n → EnvironmentHas n e bs → Collects (context_with fs bs n.templates) i k a b
+      → collect n.functions i e ≡ answer ms → Gathers n k a b ms
+  collect_has {k = k} {a} {b} K E collects_none h = subst (Gathers n k a b) (answers_one h) gathers_none
+  collect_has {k = k} {a} {b} K E (collects_used {x = x} N) h = subst (Gathers n k a b) (answers_one h) (used_gathers x E N)
+  collect_has {fs = fs} {e = e} {k = k} {a} {b} K E (collects_added {i = i} {j = j} {t = t} C I T) h =
+      let members = bound_answer (collect n.functions i e) (λ ms. eval j (scope_around n.functions e) >>= λ v. answer (add (as_key v) (closure t e) ms)) h in
+      let key = argued_next (λ v. answer (add (as_key v) (closure t e) members.0)) (eval_is _ _ _ _ I (environment_scope n.functions fs K.functions E)) members.2 in
+      subst (Gathers n k a b) (answers_one key.2) (gathers_added (key_is k key.1) (closure_takes K E T) (collect_has K E C members.1))
+  collect_has {fs = fs} {e = e} {k = k} {a} {b} K E (collects_dropped {i = i} {j = j} C I) h =
+      let members = bound_answer (collect n.functions i e) (λ ms. eval j (scope_around n.functions e) >>= λ v. answer (drop (as_key v) ms)) h in
+      let key = argued_next (λ v. answer (drop (as_key v) members.0)) (eval_is _ _ _ _ I (environment_scope n.functions fs K.functions E)) members.2 in
+      subst (Gathers n k a b) (answers_one key.2) (gathers_dropped (as_key key.0) (collect_has K E C members.1))
+  collect_has {e = e} K E (collects_kept {i = i} {f = f} C F) h =
+      let members = bound_answer (collect n.functions i e) (λ ms. keep (λ x. apply f x (scope_around n.functions e)) ms) h in
+      gathers_kept (λ x. apply f x (scope_around n.functions e)) members.2 (collect_has K E C members.1)
+  collect_has {fs = fs} {e = e} {k = k} {a} {b} {ms} K E (collects_chosen {j = j} {i = i} {h = h} I C D) q =
+      let test = argued_next (λ v. cond (is_high v) (collect n.functions i e) (collect n.functions h e)) (eval_is _ _ _ _ I (environment_scope n.functions fs K.functions E)) q in
+      by_test (is_high test.0) (λ q. collect_has K E C q) (λ q. collect_has K E D q) test.2
+    where
+      by_test : (t : Bool) → (collect n.functions i e ≡ answer ms → Gathers n k a b ms) → (collect n.functions h e ≡ answer ms → Gathers n k a b ms) → cond t (collect n.functions i e) (collect n.functions h e) ≡ answer ms → Gathers n k a b ms
+      by_test true F G q = F q
+      by_test false F G q = G q
 
   -- the environment of arguments has the parameters inside the names that were there
   argued_has : {fs : TypesByName} {e d c : Environment} {bs cs : Bindings} {vs : Arguments} {qs : Bindings} → NetworkIsTyped fs n → EnvironmentHas n e bs → ArgumentsFit (context_with fs bs n.templates) vs qs
@@ -275,6 +317,10 @@ module _ (n : Network) (eval_is : EvalsTyped) (apply_is : AppliesTyped) where
       let v = argued_next (λ v. argued n.functions qs vs e (known x v d)) (eval_is _ _ _ _ I (environment_scope n.functions fs K.functions E)) h in
       argued_has K E F (has_value v.1 D) v.2
   argued_has K E (process_fits {t = t} T F) D h = argued_has K E F (has_process (argument_has K E t T) D) h
+  argued_has {e = e} {d = d} K E (collection_fits {i = i} {vs = vs} {x = x} {qs = qs} C F) D h =
+      let members = bound_answer (collect n.functions i e) (λ ms. argued n.functions qs vs e (collected x ms d)) h in
+      let typed = collect_has K E C members.1 in
+      argued_has K E F (has_members typed.0 typed.1 D) members.2
   argued_has K E (closed_fits T F) D h = argued_has K E F (has_process (closure_takes K E T) D) h
 
   -- what stands in the place of a call has the types of its template
@@ -293,6 +339,27 @@ module _ (n : Network) (eval_is : EvalsTyped) (apply_is : AppliesTyped) where
   running_takes : {q : Option Data} {P : Process} (B : Data → Process) {a b c : Kind} → Comes q c → ProcessTakes n P a b → ((v : Data) → HasKind v c → ProcessTakes n (B v) a b) → ProcessTakes n (what_runs P B q) a b
   running_takes B comes_none p body = p
   running_takes B (comes_some h) p body = body _ h
+
+  -- an edit of members with these types has them
+  module _ {fs : TypesByName} {bs : Bindings} {e : Environment} {x : Name} {p : Pattern} {u : Collection} {k : KeyKind} {a b c : Kind} {S : Names} (K : NetworkIsTyped fs n) (E : EnvironmentHas n e bs)
+      (B : AddsNames p c (values_in fs ((x, collection k a b) ∷ bs)) S) (U : Collects (context_with fs (bindings_inside p c ((x, collection k a b) ∷ bs)) n.templates) u k a b) where
+    edit_has : {M : Life} (s : Step) {ms qs : Members} (v : Data) → LifeHas M a → Gathers n k a b ms → HasKind v c → edit_of n.functions x p u e M s ms v ≡ answer qs → Gathers n k a b qs
+    edit_has s v l g h q = let typed = gathers_frozen (wait_of s) g l in collect_has K (bind_has B h (has_members typed.0 typed.1 E)) U q
+
+    edited_has : {M : Life} (s : Step) {ms qs : Members} {o : Option Data} → LifeHas M a → Gathers n k a b ms → Comes o c → edited (edit_of n.functions x p u e M s ms) ms o ≡ answer qs → Gathers n k a b qs
+    edited_has s l g comes_none q = subst (Gathers n k a b) (answers_one q) g
+    edited_has s l g (comes_some {x = v} h) q = edit_has s v l g h q
+
+    which_run_has : {L : Life} {ms qs : Members} → LifeHas L (pair_kind a (event_kind c)) → Gathers n k a b ms → which_run (edit_of n.functions x p u e) ms L ≡ answer qs → Gathers n k a b qs
+    which_run_has no_steps g q = subst (Gathers n k a b) (answers_one q) g
+    which_run_has {ms = ms} (more_steps {s = s} {L = L} i l) g q =
+        let before = bound_answer (which_run (edit_of n.functions x p u e) ms L) (λ qs. edited (edit_of n.functions x p u e (since_edit L) s qs) qs (event_beside s)) q in
+        edited_has s (with_inputs_has first_of (λ v. first_is) (since_event_has l)) (which_run_has l g before.1) (event_comes (second_is i)) before.2
+
+    -- what an edit makes, where there is one
+    made_by_edit : {M : Life} (s : Step) {ms qs : Members} {o : Option Data} → LifeHas M a → Gathers n k a b ms → Comes o c → option_map (edit_of n.functions x p u e M s ms) o ≡ Some (answer qs) → Gathers n k a b qs
+    made_by_edit s l g comes_none q = absurd cc
+    made_by_edit s l g (comes_some {x = v} h) q = edit_has s v l g h (same_Some _ _ q)
 
   mutual
     pub gives_has : {P : Process} {L : Life} {o : Outcome} {c : Cost} {a b : Kind} → Gives n P L o c → ProcessTakes n P a b → LifeHas L a → OutcomeHas o b
@@ -356,6 +423,18 @@ module _ (n : Network) (eval_is : EvalsTyped) (apply_is : AppliesTyped) where
         let h : OutcomeHas o b =
         gives_has A (running_takes (body_of p u e) (last_comes l) (closure_takes K E T) (λ v h. closure_takes K (bind_has N.adds h E) U)) (with_inputs_has first_of (λ v. first_is) (more_steps {s = s} i (since_event_has l))) in
         fires_has B (λ v h. closure_takes K (bind_has N.adds h E) U) h (looked_at o (event_comes (second_is i))) (first_is i)
+    form_has (of_gathered {i = i} {e = e} A) q K E (gathered_takes C) l =
+        let typed = collect_has K E C (collected_as (collect n.functions i e) q) in
+        rows_typed typed.0 (each_has A typed.1 l)
+    form_has (of_releasing {i = i} {e = e} S T) q K E (releasing_takes C H B U) (more_steps {s = s} j l) =
+        let typed = collect_has K E C (collected_as (collect n.functions i e) q) in
+        let body : TakeoverHas n _ _ _ _ = λ s M v m h. let known = gathers_frozen (wait_of s) typed m in closure_takes K (bind_has B.adds h (has_members known.0 known.1 E)) U in
+        turn_has T (observed_members_take typed K E H) body (more_steps {s = s} j l) (since_has S (observed_members_take typed K E H) body l)
+    form_has (of_editing {i = i} {e = e} {o = o} R A D) q K E (editing_takes {k = k} {b = b} C B U) (more_steps {s = s} j l) =
+        let typed = which_run_has K E B.adds U l (collect_has K E C (collected_as (collect n.functions i e) q)) R in
+        let lived = with_inputs_has first_of (λ v. first_is) (since_event_has l) in
+        let h : OutcomeHas o (table_kind k b) = rows_typed typed.0 (each_has A typed.1 (with_inputs_has first_of (λ v. first_is) (more_steps {s = s} j (since_event_has l)))) in
+        edited_outcome D h (λ ms. made_by_edit K E B.adds U s lived typed (looked_at o (event_comes (second_is j)))) (first_is j)
     form_has (of_stages {o = o} {o' = o'} A B C) q K E (stages_take {b = b} {c = d} F H) (more_steps {s = s} i l) =
         let h : OutcomeHas o b = gives_has B (closure_takes K E F) (more_steps {s = s} i l) in
         let j : OutcomeHas o' d = next_has C K E H (relay_if o h (more_steps {s = s} i l) (outputs_have A (closure_takes K E F) l)) in
@@ -375,6 +454,10 @@ module _ (n : Network) (eval_is : EvalsTyped) (apply_is : AppliesTyped) where
         let h : OutcomeHas o b = gives_has B p (more_steps {s = s} i l) in
         let j : OutcomeHas o' (event_kind c) = next_has C K E H (beside_if o h (more_steps {s = s} i l) (outputs_have A p l)) in
         combined_has o o' (λ v w x y. has_pair x y) h j
+    sees_has (by_members_observer {o = o} {o' = o'} A B C) (observed_members_take {k = k} {b = b} {c = c} g K E H) (more_steps {s = s} i l) =
+        let h : OutcomeHas o (table_kind k b) = rows_typed g.0 (each_has B g.1 (more_steps {s = s} i l)) in
+        let j : OutcomeHas o' (event_kind c) = next_has C K E H (beside_if o h (more_steps {s = s} i l) (tables_have A g l)) in
+        combined_has o o' (λ v w x y. has_pair x y) h j
 
     since_has : {W : Watched} {B : Takeover} {L : Life} {st : Standing} {a b c : Kind} → Since n W B L st → WatchedTakes n W a b c → TakeoverHas n B a b c → LifeHas L a → StandingHas n st a b
     since_has at_start p body l = tt
@@ -393,3 +476,23 @@ module _ (n : Network) (eval_is : EvalsTyped) (apply_is : AppliesTyped) where
     fires_has : {w : Observation} {B : Data → Process} {s : Step} {o : Outcome} {e : Option Data} {q : Outcome} {k : Cost} {a b c : Kind} → Fires n w B s o e q k → ((v : Data) → HasKind v c → ProcessTakes n (B v) a b) → OutcomeHas o b → Comes e c → HasKind (input_of s) a → OutcomeHas q b
     fires_has no_event_yet body h k i = h
     fires_has (event_now {w = w} {s = s} {o = o} {o' = o'} A) body h (comes_some k) i = combined_has o o' (λ v u x y. switched_has_kind w x y) h (gives_has A (body _ k) (more_steps {s = s} i no_steps))
+
+    tables_have : {ms : Members} {L : Life} {ys : List Data} {k : KeyKind} {a b : Kind} → Tables n ms L ys → Gathers n k a b ms → LifeHas L a → Have ys (table_kind k b)
+    tables_have no_tables g l = have_nothing
+    tables_have (and_table {s = s} A B) g (more_steps h l) = have_more (rows_typed g.0 (each_has B g.1 (more_steps {s = s} h l))) (tables_have A g l)
+
+    each_has : {ms : Members} {s : Step} {L : Life} {o : Outcome} {c : Cost} {k : KeyKind} {a b : Kind} → Each n ms s L o c → MembersTake n ms k a b → LifeHas (s ∷ L) a → RowsOf ms k b o
+    each_has no_more M l = rows_of has_no_rows (λ seen h. tt)
+    each_has (one_more {o = o} {o' = o'} A B) (member_takes i p m) l = with_row_of i o o' (gives_has A p l) (others_have B m l)
+
+    others_have : {q : Outcome} {ms : Members} {s : Step} {L : Life} {o : Outcome} {c : Cost} {k : KeyKind} {a b : Kind} → Others n q ms s L o c → MembersTake n ms k a b → LifeHas (s ∷ L) a → RowsOf ms k b o
+    others_have (others_go_on A) M l = each_has A M l
+    others_have others_stop M l = no_rows_of
+
+    edited_outcome : {w : Observation} {q : Option (Evaluated Members)} {s : Step} {o o' : Outcome} {c : Cost} {k : KeyKind} {a b : Kind} → Edited n w q s o o' c → OutcomeHas o (table_kind k b)
+        → ((ms : Members) → q ≡ Some (answer ms) → Gathers n k a b ms) → HasKind (input_of s) a → OutcomeHas o' (table_kind k b)
+    edited_outcome no_edit h g i = h
+    edited_outcome edit_failed h g i = tt
+    edited_outcome (edit_now {w = w} {s = s} {o = o} {o' = o'} {ms = ms} A) h g i =
+        let typed = g ms refl in
+        combined_has o o' (λ v u x y. switched_has_kind w x y) h (rows_typed typed.0 (each_has A typed.1 (more_steps {s = s} i no_steps)))

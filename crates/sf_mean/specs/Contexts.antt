@@ -1,11 +1,11 @@
 -- What terms are typed under.
 use Rattle.std.specs.Prelude.{List, [], ◌∷◌, map, cond, Option, Some, None, bytes_eq}
-use Rattle.sf_value.specs.Values.{Name, Kind, pair_kind}
+use Rattle.sf_value.specs.Values.{Name, KeyKind, Kind, pair_kind}
 use Rattle.sf_expr.specs.Expressions.{Pattern, unnamed, named, both}
 use Rattle.sf_func.specs.Registries.{TypesByName}
 use Rattle.sf_expr.specs.Typing.{Names, only_functions, typed_name, untyped_name}
 use Rattle.sf_term.specs.Trees.{Template, Templates}
-pub use Rattle.sf_term.specs.Parameters.{NameKind, value, process, Bindings}
+pub use Rattle.sf_term.specs.Parameters.{NameKind, value, process, collection, Bindings}
 
 -- What calls know of a template: its name, its parameters, and the types of its inputs and outputs.
 pub record Signature : Type 0 where
@@ -58,20 +58,37 @@ inside_pattern p t Γ = record { bindings = bindings_inside p t Γ.bindings; sig
 abbrev pub inside_process : Name → (from to : Kind) → Context → Context
 inside_process x a b Γ = record { bindings = (x, process a b) ∷ Γ.bindings; signatures = Γ.signatures; functions = Γ.functions }
 
+-- what a term is typed under inside the name of the members of a collection, with keys of a type, from a type to a type
+abbrev pub inside_collection : Name → KeyKind → (from to : Kind) → Context → Context
+inside_collection x k a b Γ = record { bindings = (x, collection k a b) ∷ Γ.bindings; signatures = Γ.signatures; functions = Γ.functions }
+
 -- the types of a process
 abbrev pub types_of_process : NameKind → Option (Kind × Kind)
 types_of_process (value t) = None
 types_of_process (process a b) = Some (a, b)
+types_of_process (collection k a b) = None
 
 -- the types of the process of a name, if it stands for one
 abbrev pub process_named : Name → Bindings → Option (Kind × Kind)
 process_named x [] = None
 process_named x (b ∷ bs) = cond (bytes_eq x b.0) (types_of_process b.1) (process_named x bs)
 
+-- the types of a collection: of its keys, and of the inputs and the outputs of its members
+abbrev pub types_of_collection : NameKind → Option (KeyKind × Kind × Kind)
+types_of_collection (value t) = None
+types_of_collection (process a b) = None
+types_of_collection (collection k a b) = Some (k, a, b)
+
+-- the types of the collection of a name, if it stands for one
+abbrev pub collection_named : Name → Bindings → Option (KeyKind × Kind × Kind)
+collection_named x [] = None
+collection_named x (b ∷ bs) = cond (bytes_eq x b.0) (types_of_collection b.1) (collection_named x bs)
+
 -- names with one more, with its type if it stands for a value
 abbrev pub with_name_of : Name → NameKind → Names → Names
 with_name_of x (value t) R = typed_name x t R
 with_name_of x (process a b) R = untyped_name x R
+with_name_of x (collection k a b) R = untyped_name x R
 
 -- the names that are bound, those that stand for values with their types, and functions of these types
 abbrev pub values_in : TypesByName → Bindings → Names

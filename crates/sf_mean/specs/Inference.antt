@@ -1,8 +1,8 @@
 -- The output types of terms under a context, found by a function.
 use Rattle.std.specs.Prelude.{[], ◌∷◌, nat_le, Bool, true, false, ◌&&◌, cond, Option, Some, None}
 use Rattle.sf_expr.specs.Expressions.{Pattern}
-use Rattle.sf_value.specs.Values.{Name, Kind, pair_kind, nodes, event_kind}
-use Rattle.sf_operator.specs.Kinds.{same_kind, only, parts_of, payload_of}
+use Rattle.sf_value.specs.Values.{Name, KeyKind, Kind, bool_kind, pair_kind, nodes, event_kind, table_kind}
+use Rattle.sf_operator.specs.Kinds.{same_kind, only, parts_of, payload_of, columns_of, kind_of_keys}
 use Rattle.sf_expr.specs.Inference.{found_then, fitting, names_bound, expression_type, function_output}
 use Rattle.sf_term.specs.declared.form.Join.{Join}
 use Rattle.sf_term.specs.declared.form.Join.TheVariants.{InSequence, InParallel, FannedOut}
@@ -10,11 +10,11 @@ use Rattle.sf_term.specs.declared.form.Side.{Side}
 use Rattle.sf_term.specs.declared.form.Side.TheVariants.{First, Second}
 use Rattle.sf_term.specs.declared.form.Heading.{Heading}
 use Rattle.sf_term.specs.declared.form.Heading.TheVariants.{LoopPre, Initialized, Replaced, Followed}
-use Rattle.sf_term.specs.Trees.{Chain, lone, chained, on_side, on_both, fanned, Primitive, bare, probe, never, with_value, timed, selected, arrow, accumulated, fused, Term, primitive, Reference, reference, started, call, Arguments, no_arguments, value_argument, process_argument, closed_argument, joined, sided, headed, transformed, switching, keeping, staged}
+use Rattle.sf_term.specs.Trees.{Chain, lone, chained, on_side, on_both, fanned, Primitive, bare, probe, never, with_value, timed, selected, arrow, accumulated, fused, Term, primitive, Reference, reference, started, call, Arguments, no_arguments, value_argument, process_argument, collection_argument, closed_argument, joined, sided, headed, transformed, switching, keeping, gathered, releasing, editing, staged, Collection, without_members, used, added, dropped, kept, chosen}
 use Rattle.sf_term.specs.declared.form.Switching.{Switching}
 use Rattle.sf_term.specs.declared.form.Switching.TheVariants.{Basic, Recurring}
-use Rattle.sf_term.specs.Parameters.{NameKind, value, process, Bindings}
-use Rattle.sf_mean.specs.Contexts.{Context, Signature, signature_named, names_of_values, inside_pattern, inside_process, process_named}
+use Rattle.sf_term.specs.Parameters.{NameKind, value, process, collection, Bindings}
+use Rattle.sf_mean.specs.Contexts.{Context, Signature, signature_named, names_of_values, inside_pattern, inside_process, inside_collection, process_named, collection_named}
 use Rattle.sf_mean.specs.Typing.{bare_kind, value_kind, takes_input, takes_time, timed_kind, takes_number, selected_kind, accumulated_argument, accumulated_kind}
 
 -- What finds an output type for an input type, if inputs of that type are taken.
@@ -73,6 +73,41 @@ abbrev pub keeping_output : Context → Name → Pattern → Finds → Finds →
 keeping_output Γ k p source observer body a =
     found_then (source a) (λ b. found_then (observer (pair_kind a b)) (λ e. found_then (payload_of e) (λ c. body_output (inside_process k a b Γ) p body c a b)))
 
+-- What finds what a collection gives for inputs of a type, if its members take them: a type of tables.
+-- The collection of these types, if there is one.
+abbrev pub used_output : Option (KeyKind × Kind × Kind) → Finds
+used_output o a = found_then o (λ c. only a c.1 (Some (table_kind c.0 c.2)))
+
+-- a type of tables, where this is the type of its keys
+abbrev pub with_key : Option Kind → Kind → Option Kind
+with_key key t = found_then (columns_of t) (λ c. found_then key (λ k. only k (kind_of_keys c.0) (Some t)))
+
+-- the same where a member has this output
+abbrev pub with_member : (key output : Option Kind) → Kind → Option Kind
+with_member key output t = found_then (columns_of t) (λ c. found_then key (λ k. only k (kind_of_keys c.0) (found_then output (λ b. only b c.1 (Some t)))))
+
+-- the same where a function takes its keys to truths
+abbrev pub with_kept : Finds → Kind → Option Kind
+with_kept f t = found_then (columns_of t) (λ c. found_then (f (kind_of_keys c.0)) (λ b. only b bool_kind (Some t)))
+
+-- the same for both of two, of which a truth chooses
+abbrev pub one_of_both : Option Kind → Option Kind → Option Kind → Option Kind
+one_of_both o t u = found_then o (λ b. only b bool_kind (found_then t (λ t. found_then u (λ u. only u t (Some t)))))
+
+-- what a body is found under inside the name of members that give tables of a type
+abbrev pub inside_members : Name → Kind → Kind → Context → Option Context
+inside_members x a t Γ = found_then (columns_of t) (λ c. Some (inside_collection x c.0 a c.1 Γ))
+
+-- the output of members that give way at the event of an observer, which is given inputs beside their tables
+abbrev pub releasing_output : Context → Name → Pattern → Finds → Finds → (Context → Finds) → Finds
+releasing_output Γ x p members observer body a =
+    found_then (members a) (λ t. found_then (observer (pair_kind a t)) (λ e. found_then (payload_of e) (λ c. found_then (inside_members x a t Γ) (λ Δ. body_output Δ p body c a t))))
+
+-- the output of members that are edited at the event beside an input
+abbrev pub editing_output : Context → Name → Pattern → Finds → (Context → Finds) → Finds
+editing_output Γ x p members edit y =
+    found_then (parts_of y) (λ k. found_then (payload_of k.1) (λ c. found_then (members k.0) (λ t. found_then (inside_members x k.0 t Γ) (λ Δ. body_output Δ p edit c k.0 t))))
+
 -- the output of a process of these types, if there is one
 abbrev pub process_output : Option (Kind × Kind) → Finds
 process_output o a = found_then o (λ k. only a k.0 (Some k.1))
@@ -111,11 +146,19 @@ is_found (Some u) t = same_kind u t
 abbrev pub value_is_argument : Option Kind → NameKind → Bool
 value_is_argument o (value t) = is_found o t
 value_is_argument o (process a b) = false
+value_is_argument o (collection k a b) = false
 
 -- a term is an argument for a parameter
 abbrev pub process_is_argument : Finds → NameKind → Bool
 process_is_argument f (value t) = false
 process_is_argument f (process a b) = is_found (f a) b
+process_is_argument f (collection k a b) = false
+
+-- a collection is an argument for a parameter
+abbrev pub collection_is_argument : Finds → NameKind → Bool
+collection_is_argument f (value t) = false
+collection_is_argument f (process a b) = false
+collection_is_argument f (collection k a b) = is_found (f a) (table_kind k b)
 
 -- the output of a call of a template with this header, if there is one, where it is known what its arguments fit
 abbrev pub call_output : Option Signature → (Bindings → Bool) → Finds
@@ -133,12 +176,24 @@ abbrev mutual
   form_output Γ (transformed f t) a = transformed_output (function_output (names_of_values Γ) f a) (with_fitting (form_output Γ t)) a
   form_output Γ (switching w t p u) a = switch_output Γ w p (with_fitting (form_output Γ t)) (λ Δ. with_fitting (form_output Δ u)) a
   form_output Γ (keeping w t q k p u) a = keeping_output Γ k p (with_fitting (form_output Γ t)) (with_fitting (form_output Γ q)) (λ Δ. with_fitting (form_output Δ u)) a
+  form_output Γ (gathered i) a = collection_output Γ i a
+  form_output Γ (releasing w i q k p u) a = releasing_output Γ k p (collection_output Γ i) (with_fitting (form_output Γ q)) (λ Δ. with_fitting (form_output Δ u)) a
+  form_output Γ (editing w i k p u) a = editing_output Γ k p (collection_output Γ i) (λ Δ. collection_output Δ u) a
   form_output Γ (staged x f g) a = join_output InSequence (with_fitting (form_output Γ f)) (with_fitting (form_output Γ g)) a
 
   -- the output of what is referred to
   pub reference_output : Context → Reference → Finds
   reference_output Γ (started w k) a = process_output (process_named k Γ.bindings) a
   reference_output Γ (call g vs) a = call_output (signature_named g Γ.signatures) (arguments_fit Γ vs) a
+
+  -- what a collection gives
+  pub collection_output : Context → Collection → Finds
+  collection_output Γ (without_members k b) a = Some (table_kind k b)
+  collection_output Γ (used x) a = used_output (collection_named x Γ.bindings) a
+  collection_output Γ (added i j t) a = found_then (collection_output Γ i a) (with_member (expression_type (names_of_values Γ) j) (with_fitting (form_output Γ t) a))
+  collection_output Γ (dropped i j) a = found_then (collection_output Γ i a) (with_key (expression_type (names_of_values Γ) j))
+  collection_output Γ (kept i f) a = found_then (collection_output Γ i a) (with_kept (function_output (names_of_values Γ) f))
+  collection_output Γ (chosen j i h) a = one_of_both (expression_type (names_of_values Γ) j) (collection_output Γ i a) (collection_output Γ h a)
 
   -- arguments are as many as parameters, and each is one for its parameter
   pub arguments_fit : Context → Arguments → Bindings → Bool
@@ -148,6 +203,8 @@ abbrev mutual
   arguments_fit Γ (value_argument i vs) (q ∷ qs) = value_is_argument (expression_type (names_of_values Γ) i) q.1 && arguments_fit Γ vs qs
   arguments_fit Γ (process_argument t vs) [] = false
   arguments_fit Γ (process_argument t vs) (q ∷ qs) = process_is_argument (with_fitting (form_output Γ t)) q.1 && arguments_fit Γ vs qs
+  arguments_fit Γ (collection_argument i vs) [] = false
+  arguments_fit Γ (collection_argument i vs) (q ∷ qs) = collection_is_argument (collection_output Γ i) q.1 && arguments_fit Γ vs qs
   arguments_fit Γ (closed_argument t vs) [] = false
   arguments_fit Γ (closed_argument t vs) (q ∷ qs) = process_is_argument (with_fitting (form_output Γ t)) q.1 && arguments_fit Γ vs qs
 

@@ -1,5 +1,6 @@
 pub mod Lives
 pub mod Formulas
+pub mod Collections
 pub mod Meaning
 pub mod Networks
 pub mod Contexts

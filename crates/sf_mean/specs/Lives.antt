@@ -1,6 +1,6 @@
 -- Lives and processes.
 use Rattle.std.specs.Prelude.{ℕ, ◌+◌, ◌≤◌, List, [], ◌∷◌, ⊤, cond, bytes_eq}
-use Rattle.sf_value.specs.Values.{Name, Data, pair, first_of, second_of}
+use Rattle.sf_value.specs.Values.{Name, KeyData, Data, pair, first_of, second_of}
 use Rattle.sf_func.specs.Registries.{AnswersByName}
 use Rattle.sf_term.specs.declared.form.Bare.TheVariants.{Identity}
 use Rattle.sf_term.specs.declared.form.Start.{Start}
@@ -48,17 +48,24 @@ mutual
     closure : Term → Environment → Process
     resumed : Process → (h : Life) → (d : ℕ) → Process
 
-  -- What names stand for, the innermost first: values and processes.
+  -- What names stand for, the innermost first: values, processes, and the members of collections.
   pub data Environment : Type 0 where
     empty : Environment
     known : Name → Data → Environment → Environment
     running : Name → Process → Environment → Environment
+    collected : Name → Members → Environment → Environment
+
+  -- The members of a collection: processes under keys, in order.
+  pub data Members : Type 0 where
+    no_members : Members
+    member : KeyData → Process → Members → Members
 
 -- the scope of expressions, where functions answer this
 abbrev pub scope_around : AnswersByName → Environment → Scope
 scope_around f empty = no_names f
 scope_around f (known x d e) = value_name x d (scope_around f e)
 scope_around f (running x P e) = other_name x (scope_around f e)
+scope_around f (collected x ms e) = other_name x (scope_around f e)
 
 -- what gives its inputs
 abbrev pub passing : Process
@@ -69,6 +76,14 @@ abbrev pub process_of : Name → Environment → Process
 process_of x empty = passing
 process_of x (known y d e) = cond (bytes_eq x y) passing (process_of x e)
 process_of x (running y P e) = cond (bytes_eq x y) P (process_of x e)
+process_of x (collected y ms e) = cond (bytes_eq x y) passing (process_of x e)
+
+-- the members of a name; what no collection stands for has none
+abbrev pub members_of : Name → Environment → Members
+members_of x empty = no_members
+members_of x (known y d e) = cond (bytes_eq x y) no_members (members_of x e)
+members_of x (running y P e) = cond (bytes_eq x y) no_members (members_of x e)
+members_of x (collected y ms e) = cond (bytes_eq x y) ms (members_of x e)
 
 -- where a process began: a frozen one where what was frozen did
 abbrev pub base : Process → Process
@@ -96,6 +111,11 @@ after h d (s ∷ r ∷ L) = s ∷ after h d (r ∷ L)
 abbrev pub frozen : Process → Life → ℕ → Process
 frozen P [] d = P
 frozen P (s ∷ L) d = resumed P (s ∷ L) d
+
+-- members that have lived together, each frozen
+abbrev pub each_frozen : Members → Life → ℕ → Members
+each_frozen no_members L d = no_members
+each_frozen (member k P ms) L d = member k (frozen P L d) (each_frozen ms L d)
 
 -- the same times, with another input made of each
 abbrev pub with_inputs : (Data → Data) → Life → Life

@@ -1,6 +1,6 @@
 -- What processes give on lives, and at what cost.
-use Rattle.std.specs.Prelude.{◌≡◌, ℕ, suc, ◌+◌, max, List, [], ◌∷◌, ◌++◌, pos, Option, Some, None}
-use Rattle.sf_value.specs.Values.{Name, Data, number, pair, first_of, second_of}
+use Rattle.std.specs.Prelude.{◌≡◌, ℕ, suc, ◌+◌, max, List, [], ◌∷◌, ◌++◌, pos, Option, Some, None, option_map}
+use Rattle.sf_value.specs.Values.{Name, KeyData, Data, number, pair, table, no_rows, first_of, second_of}
 use Rattle.sf_value.specs.declared.fault.ValueFault.{ValueFault}
 use Rattle.sf_func.specs.Registries.{AnswersByName}
 use Rattle.sf_expr.specs.Expressions.{Pattern, Expression, Function}
@@ -13,9 +13,10 @@ use Rattle.sf_term.specs.declared.form.Heading.TheVariants.{LoopPre, Initialized
 use Rattle.sf_term.specs.declared.form.Observation.{Observation}
 use Rattle.sf_term.specs.declared.form.Observation.TheVariants.{Immediate, Delayed}
 use Rattle.sf_term.specs.declared.form.Switching.TheVariants.{Basic, Recurring}
-use Rattle.sf_term.specs.Trees.{Primitive, bare, probe, never, with_value, timed, selected, arrow, accumulated, fused, Extent, whole, rest, Term, primitive, Reference, reference, started, call, Arguments, no_arguments, value_argument, process_argument, closed_argument, joined, sided, headed, transformed, switching, keeping, staged, Template, Templates, template_named}
+use Rattle.sf_term.specs.Trees.{Primitive, bare, probe, never, with_value, timed, selected, arrow, accumulated, fused, Extent, whole, rest, Term, primitive, Reference, reference, started, call, Arguments, no_arguments, value_argument, process_argument, collection_argument, closed_argument, joined, sided, headed, transformed, switching, keeping, gathered, releasing, editing, staged, Collection, without_members, used, added, dropped, kept, chosen, Template, Templates, template_named}
 use Rattle.sf_term.specs.Parameters.{Bindings}
-use Rattle.sf_mean.specs.Lives.{Step, step, wait_of, input_of, Life, Process, closure, resumed, passing, Environment, empty, known, running, process_started, scope_around, bind, after, frozen, with_inputs, relay, observed_life, fed, first_input as input_at_first}
+use Rattle.sf_mean.specs.Lives.{Step, step, wait_of, input_of, Life, Process, closure, resumed, passing, Environment, empty, known, running, collected, Members, no_members, member, process_started, scope_around, bind, after, frozen, each_frozen, with_inputs, relay, observed_life, fed, first_input as input_at_first}
+use Rattle.sf_mean.specs.Collections.{with_row, collect}
 use Rattle.sf_mean.specs.Formulas.{at_first, with_first, occurring, side_of, with_side, formula}
 
 -- A network: its templates, and what its stored functions answer.
@@ -114,7 +115,7 @@ over_stages whole c = over c
 over_stages rest c = c
 
 abbrev mutual
-  -- the terms in the text of a term, outside of the bodies of switches; arguments count
+  -- the terms in the text of a term, outside of the bodies of switches and of edits; arguments and members count
   pub text_cost : Term → Cost
   text_cost (primitive p) = one_term
   text_cost (reference r) = over (reference_cost r)
@@ -124,7 +125,19 @@ abbrev mutual
   text_cost (transformed f t) = over (text_cost t)
   text_cost (switching w t p u) = over (text_cost t)
   text_cost (keeping w t q k p u) = over (both_costs (text_cost t) (text_cost q))
+  text_cost (gathered i) = over (collection_cost i)
+  text_cost (releasing w i q k p u) = over (both_costs (collection_cost i) (text_cost q))
+  text_cost (editing w i k p u) = over (collection_cost i)
   text_cost (staged x f g) = over_stages x (both_costs (text_cost f) (text_cost g))
+
+  -- the terms in a collection
+  pub collection_cost : Collection → Cost
+  collection_cost (without_members k t) = no_cost
+  collection_cost (used x) = no_cost
+  collection_cost (added i j t) = both_costs (collection_cost i) (text_cost t)
+  collection_cost (dropped i j) = collection_cost i
+  collection_cost (kept i f) = collection_cost i
+  collection_cost (chosen j a b) = both_costs (collection_cost a) (collection_cost b)
 
   -- the terms within a reference
   pub reference_cost : Reference → Cost
@@ -136,9 +149,10 @@ abbrev mutual
   arguments_cost no_arguments = no_cost
   arguments_cost (value_argument i vs) = arguments_cost vs
   arguments_cost (process_argument t vs) = both_costs (text_cost t) (arguments_cost vs)
+  arguments_cost (collection_argument i vs) = both_costs (collection_cost i) (arguments_cost vs)
   arguments_cost (closed_argument t vs) = both_costs (text_cost t) (arguments_cost vs)
 
--- the terms in the text of a term that was entered: those in its own arguments don't count
+-- the terms in the text of a term that was entered: those in its own arguments and members don't count
 abbrev pub entered_cost : Term → Cost
 entered_cost (primitive p) = text_cost (primitive p)
 entered_cost (reference r) = one_term
@@ -148,13 +162,18 @@ entered_cost (headed h i t) = text_cost (headed h i t)
 entered_cost (transformed f t) = text_cost (transformed f t)
 entered_cost (switching w t p u) = text_cost (switching w t p u)
 entered_cost (keeping w t q k p u) = text_cost (keeping w t q k p u)
+entered_cost (gathered i) = one_term
+entered_cost (releasing w i q k p u) = over (text_cost q)
+entered_cost (editing w i k p u) = one_term
 entered_cost (staged x f g) = text_cost (staged x f g)
 
--- What a form is made with: nothing, the value of its constant, or the process that stands in its place.
+-- What a form is made with: nothing, the value of its constant, the process that stands in its place, or the members of its
+-- collection.
 pub data Made : Type 0 where
   nothing_made : Made
   value_made : Data → Made
   process_made : Process → Made
+  members_made : Members → Made
 
 -- the process that a reference is as an argument: that of its name, or the call in its environment
 abbrev pub process_referred : Reference → Environment → Process
@@ -171,6 +190,9 @@ argument_process (headed h i t) e = closure (headed h i t) e
 argument_process (transformed f t) e = closure (transformed f t) e
 argument_process (switching w t p u) e = closure (switching w t p u) e
 argument_process (keeping w t q k p u) e = closure (keeping w t q k p u) e
+argument_process (gathered i) e = closure (gathered i) e
+argument_process (releasing w i q k p u) e = closure (releasing w i q k p u) e
+argument_process (editing w i k p u) e = closure (editing w i k p u) e
 argument_process (staged x f g) e = closure (staged x f g) e
 
 -- The names d with parameters inside them, each bound to its argument, the last one innermost. Arguments are evaluated from
@@ -180,6 +202,7 @@ argued φ [] vs e d = answer d
 argued φ (q ∷ qs) no_arguments e d = answer d
 argued φ (q ∷ qs) (value_argument i vs) e d = eval i (scope_around φ e) >>= λ v. argued φ qs vs e (known q.0 v d)
 argued φ (q ∷ qs) (process_argument t vs) e d = argued φ qs vs e (running q.0 (argument_process t e) d)
+argued φ (q ∷ qs) (collection_argument i vs) e d = collect φ i e >>= λ ms. argued φ qs vs e (collected q.0 ms d)
 argued φ (q ∷ qs) (closed_argument t vs) e d = argued φ qs vs e (running q.0 (closure t e) d)
 
 -- the process that stands in the place of a call: the template's term in the environment of the arguments; what isn't there
@@ -211,6 +234,9 @@ make n (headed h i t) e x = head_made h (eval i (scope_around n.functions e))
 make n (transformed f t) e x = apply f x (scope_around n.functions e) >>= λ v. answer (value_made v)
 make n (switching w t p u) e x = answer nothing_made
 make n (keeping w t q k p u) e x = answer nothing_made
+make n (gathered i) e x = collect n.functions i e >>= λ ms. answer (members_made ms)
+make n (releasing w i q k p u) e x = collect n.functions i e >>= λ ms. answer (members_made ms)
+make n (editing w i k p u) e x = collect n.functions i e >>= λ ms. answer (members_made ms)
 make n (staged x f g) e y = answer nothing_made
 
 -- what the left part of a join lives
@@ -232,10 +258,11 @@ join_value InParallel y z = pair y z
 join_value FannedOut y z = pair y z
 
 -- What a switch watches: a process, whose values stand beside events; or a process beside a term that is given its inputs and
--- values and gives the events.
+-- values and gives the events; or members, with their tables in the place of values.
 pub data Watched : Type 0 where
   itself : Process → Watched
   observed : Process → (observer : Term) → Environment → Watched
+  observed_members : Members → (observer : Term) → Environment → Watched
 
 -- what takes over at an event, by the event's step, the life before it and the payload
 abbrev pub Takeover : Type 0
@@ -252,6 +279,10 @@ whenever B s L = B
 -- the body of a switch that keeps its source, frozen before the step of the event, under a name; the pattern hides it
 abbrev pub body_with : Name → Process → Pattern → Term → Environment → Takeover
 body_with k P p u e s L v = closure u (bind p v (running k (frozen P L (wait_of s)) e))
+
+-- the same where what was kept are members, each frozen
+abbrev pub body_with_members : Name → Members → Pattern → Term → Environment → Takeover
+body_with_members k ms p u e s L v = closure u (bind p v (collected k (each_frozen ms L (wait_of s)) e))
 
 -- Where a switch stands after a life: it waits for an event, or it had one, and what took over has lived M since.
 pub data Standing : Type 0 where
@@ -305,6 +336,28 @@ unless_faulted (faulted x) q = None
 -- a step without the event beside its input
 abbrev pub without_event : Step → Step
 without_event s = step (wait_of s) (first_of (input_of s))
+
+-- what an edit makes of members that have lived, at a step with a payload
+abbrev pub Edit : Type 0
+Edit = Life → Step → Members → Data → Evaluated Members
+
+-- the edit of a collection in which a name stands for the members, each frozen before the step; the pattern hides it
+abbrev pub edit_of : AnswersByName → Name → Pattern → Collection → Environment → Edit
+edit_of φ k p i e L s ms v = collect φ i (bind p v (collected k (each_frozen ms L (wait_of s)) e))
+
+-- what the members of an editing form live: the first parts of the inputs, since the last event
+abbrev pub since_edit : Life → Life
+since_edit L = with_inputs first_of (since_event L)
+
+-- the members after a step: the same where there was no payload
+abbrev pub edited : (Data → Evaluated Members) → Members → Option Data → Evaluated Members
+edited f ms None = answer ms
+edited f ms (Some v) = f v
+
+-- the members that run after a life: those at its start, edited at each event
+abbrev pub which_run : Edit → Members → Life → Evaluated Members
+which_run E ms [] = answer ms
+which_run E ms (s ∷ L) = which_run E ms L >>= λ qs. edited (E (since_edit L) s qs) qs (event_beside s)
 
 -- ## The meaning
 
@@ -393,6 +446,22 @@ mutual
         → Since n (observed (closure t e) q e) (body_with k (closure t e) p u e) L st
         → SwitchTurn n w (observed (closure t e) q e) (body_with k (closure t e) p u e) s L st o c
         → Form n (keeping w t q k p u) e m s L o c
+    -- the members of a collection
+    of_gathered : {i : Collection} {e : Environment} {ms : Members} {s : Step} {L : Life} {o : Outcome} {c : Cost}
+        → Each n ms s L o c
+        → Form n (gathered i) e (members_made ms) s L o (over c)
+    -- members that are kept, under an observer
+    of_releasing : {w : Observation} {i : Collection} {q u : Term} {k : Name} {p : Pattern} {e : Environment} {ms : Members} {s : Step} {L : Life} {st : Standing} {o : Outcome} {c : Cost}
+        → Since n (observed_members ms q e) (body_with_members k ms p u e) L st
+        → SwitchTurn n w (observed_members ms q e) (body_with_members k ms p u e) s L st o c
+        → Form n (releasing w i q k p u) e (members_made ms) s L o c
+    -- members that are edited at each event: those that ran are stepped, through an event too; there the edit stands after them,
+    -- and its members begin on that step alone
+    of_editing : {w : Observation} {i u : Collection} {k : Name} {p : Pattern} {e : Environment} {ms qs : Members} {s : Step} {L : Life} {o o' : Outcome} {c c' : Cost}
+        → which_run (edit_of n.functions k p u e) ms L ≡ answer qs
+        → Each n qs (without_event s) (since_edit L) o c
+        → Edited n w (option_map (edit_of n.functions k p u e (since_edit L) s qs) (unless_faulted o (event_beside s))) (without_event s) o o' c'
+        → Form n (editing w i k p u) e (members_made ms) s L o' (over (both_costs c c'))
     -- a stage before the others: they live on its values
     of_stages : {x : Extent} {f g : Term} {e : Environment} {m : Made} {s : Step} {L : Life} {ys : List Data} {o o' : Outcome} {c c' : Cost}
         → Outputs n (closure f e) L ys
@@ -426,6 +495,11 @@ mutual
         → Gives n P (s ∷ L) o c
         → Next n o q e (observed_life (s ∷ L) (value_in o ∷ ys)) o' c'
         → Sees n (observed P q e) s L (combined pair o o') (both_costs c c')
+    by_members_observer : {ms : Members} {q : Term} {e : Environment} {s : Step} {L : Life} {ys : List Data} {o o' : Outcome} {c c' : Cost}
+        → Tables n ms L ys
+        → Each n ms s L o c
+        → Next n o q e (observed_life (s ∷ L) (value_in o ∷ ys)) o' c'
+        → Sees n (observed_members ms q e) s L (combined pair o o') (both_costs c c')
 
   -- Where a switch stands after a life of what it watches, where B takes over.
   pub data Since (n : Network) : Watched → Takeover → Life → Standing → Type 0 where
@@ -462,3 +536,32 @@ mutual
     event_now : {w : Observation} {B : Data → Process} {s : Step} {o o' : Outcome} {v : Data} {c : Cost}
         → Gives n (B v) (s ∷ []) o' c
         → Fires n w B s o (Some v) (combined (switched_value w) o o') c
+
+  -- The tables of members at the steps of a life, the newest first.
+  pub data Tables (n : Network) : Members → Life → List Data → Type 0 where
+    no_tables : {ms : Members} → Tables n ms [] []
+    and_table : {ms : Members} {s : Step} {L : Life} {y : Data} {r : Readings} {ys : List Data} {c : Cost}
+        → Tables n ms L ys → Each n ms s L (gave y r) c → Tables n ms (s ∷ L) (y ∷ ys)
+
+  -- One step of members, in order: a table of their values, or the first fault.
+  pub data Each (n : Network) : Members → Step → Life → Outcome → Cost → Type 0 where
+    no_more : {s : Step} {L : Life} → Each n no_members s L (gave (table no_rows) []) no_cost
+    one_more : {k : KeyData} {P : Process} {ms : Members} {s : Step} {L : Life} {o o' : Outcome} {c c' : Cost}
+        → Gives n P (s ∷ L) o c
+        → Others n o ms s L o' c'
+        → Each n (member k P ms) s L (combined (with_row k) o o') (both_costs c c')
+
+  -- The members after one. After a fault they aren't stepped.
+  pub data Others (n : Network) : Outcome → Members → Step → Life → Outcome → Cost → Type 0 where
+    others_go_on : {ms : Members} {s : Step} {L : Life} {y : Data} {r : Readings} {o : Outcome} {c : Cost}
+        → Each n ms s L o c
+        → Others n (gave y r) ms s L o c
+    others_stop : {ms : Members} {s : Step} {L : Life} {x : ValueFault} → Others n (faulted x) ms s L (faulted x) no_cost
+
+  -- Without an edit the outcome stays; its fault is the outcome; and the members that it makes live from this step on.
+  pub data Edited (n : Network) : Observation → Option (Evaluated Members) → Step → Outcome → Outcome → Cost → Type 0 where
+    no_edit : {w : Observation} {s : Step} {o : Outcome} → Edited n w None s o o no_cost
+    edit_failed : {w : Observation} {s : Step} {o : Outcome} {x : ValueFault} → Edited n w (Some (failed x)) s o (faulted x) no_cost
+    edit_now : {w : Observation} {s : Step} {o o' : Outcome} {ms : Members} {c : Cost}
+        → Each n ms s [] o' c
+        → Edited n w (Some (answer ms)) s o (combined (switched_value w) o o') c

@@ -1,7 +1,7 @@
 -- The types of terms under a context, and the networks that are accepted.
 use Rattle.std.specs.Prelude.{◌≡◌, ◌≢◌, ℕ, ◌<◌, [], ◌∷◌, All, Bool, true, ◌&&◌, IsTrue, ℤ, pos, int_le, Option, Some, None, slice_get}
-use Rattle.sf_value.specs.Values.{Name, Kind, unit_kind, bool_kind, int_kind, pair_kind, event_kind}
-use Rattle.sf_operator.specs.Kinds.{found_then, only, same_kind, payload_of}
+use Rattle.sf_value.specs.Values.{Name, KeyKind, Kind, unit_kind, bool_kind, int_kind, pair_kind, event_kind, table_kind}
+use Rattle.sf_operator.specs.Kinds.{found_then, only, same_kind, payload_of, kind_of_keys}
 use Rattle.sf_func.specs.Registries.{TypesByName}
 use Rattle.sf_expr.specs.Expressions.{Pattern, Expression, Function}
 use Rattle.sf_expr.specs.Typing.{Fits, Binds, HasType, FunctionTakes}
@@ -17,13 +17,13 @@ use Rattle.sf_term.specs.declared.form.Accumulation.TheVariants.{EdgeBy, AccumBy
 use Rattle.sf_term.specs.declared.form.Join.TheVariants.{InSequence, InParallel, FannedOut}
 use Rattle.sf_term.specs.declared.form.Side.TheVariants.{First, Second}
 use Rattle.sf_term.specs.declared.form.Heading.TheVariants.{LoopPre, Initialized, Replaced, Followed}
-use Rattle.sf_term.specs.Trees.{Chain, lone, chained, on_side, on_both, fanned, Primitive, bare, probe, never, with_value, timed, selected, arrow, accumulated, fused, Extent, Term, primitive, reference, started, call, Arguments, no_arguments, value_argument, process_argument, closed_argument, joined, sided, headed, transformed, switching, keeping, staged, Template, Templates}
-use Rattle.sf_term.specs.Parameters.{NameKind, value, process, Bindings}
+use Rattle.sf_term.specs.Trees.{Chain, lone, chained, on_side, on_both, fanned, Primitive, bare, probe, never, with_value, timed, selected, arrow, accumulated, fused, Extent, Term, primitive, reference, started, call, Arguments, no_arguments, value_argument, process_argument, collection_argument, closed_argument, joined, sided, headed, transformed, switching, keeping, gathered, releasing, editing, staged, Collection, without_members, used, added, dropped, kept, chosen, Template, Templates}
+use Rattle.sf_term.specs.Parameters.{NameKind, value, process, collection, Bindings}
 use Rattle.sf_term.specs.declared.form.Observation.{Observation}
 use Rattle.sf_term.specs.declared.form.Start.{Start}
 use Rattle.sf_term.specs.declared.form.Switching.TheVariants.{Basic, Recurring}
 use Rattle.sf_mean.specs.Networks.{main_of}
-use Rattle.sf_mean.specs.Contexts.{Context, Signature, signature_named, names_of_values, context_of, inside_pattern, inside_process, process_named}
+use Rattle.sf_mean.specs.Contexts.{Context, Signature, signature_named, names_of_values, context_of, inside_pattern, inside_process, inside_collection, process_named, collection_named}
 use Rattle.sf_mean.specs.Calls.{ReachesTemplate}
 
 -- Functions made into one take inputs of one type to outputs of another.
@@ -141,7 +141,29 @@ mutual
         → Takes Γ t a b → Takes Γ q (pair_kind a b) (event_kind c)
         → Binds p c (names_of_values (inside_process k a b Γ)) (names_of_values (inside_pattern p c (inside_process k a b Γ)))
         → Takes (inside_pattern p c (inside_process k a b Γ)) u a b → FormTakes Γ (keeping w t q k p u) a b
+    gathered_takes : {Γ : Context} {i : Collection} {k : KeyKind} {a b : Kind} → Collects Γ i k a b → FormTakes Γ (gathered i) a (table_kind k b)
+    releasing_takes : {Γ : Context} {w : Observation} {i : Collection} {q u : Term} {x : Name} {p : Pattern} {k : KeyKind} {a b c : Kind}
+        → Collects Γ i k a b → Takes Γ q (pair_kind a (table_kind k b)) (event_kind c)
+        → Binds p c (names_of_values (inside_collection x k a b Γ)) (names_of_values (inside_pattern p c (inside_collection x k a b Γ)))
+        → Takes (inside_pattern p c (inside_collection x k a b Γ)) u a (table_kind k b) → FormTakes Γ (releasing w i q x p u) a (table_kind k b)
+    editing_takes : {Γ : Context} {w : Observation} {i u : Collection} {x : Name} {p : Pattern} {k : KeyKind} {a b c : Kind}
+        → Collects Γ i k a b
+        → Binds p c (names_of_values (inside_collection x k a b Γ)) (names_of_values (inside_pattern p c (inside_collection x k a b Γ)))
+        → Collects (inside_pattern p c (inside_collection x k a b Γ)) u k a b → FormTakes Γ (editing w i x p u) (pair_kind a (event_kind c)) (table_kind k b)
     stages_take : {Γ : Context} {x : Extent} {f g : Term} {a b c : Kind} → Takes Γ f a b → Takes Γ g b c → FormTakes Γ (staged x f g) a c
+
+  -- The members of a collection have keys of a type, and take inputs of one type to outputs of another.
+  pub data Collects : Context → Collection → KeyKind → Kind → Kind → Type 0 where
+    collects_none : {Γ : Context} {k : KeyKind} {a b : Kind} → Collects Γ (without_members k b) k a b
+    collects_used : {Γ : Context} {x : Name} {k : KeyKind} {a b : Kind} → collection_named x Γ.bindings ≡ Some (k, a, b) → Collects Γ (used x) k a b
+    collects_added : {Γ : Context} {i : Collection} {j : Expression} {t : Term} {k : KeyKind} {a b : Kind}
+        → Collects Γ i k a b → HasType (names_of_values Γ) j (kind_of_keys k) → Takes Γ t a b → Collects Γ (added i j t) k a b
+    collects_dropped : {Γ : Context} {i : Collection} {j : Expression} {k : KeyKind} {a b : Kind}
+        → Collects Γ i k a b → HasType (names_of_values Γ) j (kind_of_keys k) → Collects Γ (dropped i j) k a b
+    collects_kept : {Γ : Context} {i : Collection} {f : Function} {k : KeyKind} {a b : Kind}
+        → Collects Γ i k a b → FunctionTakes (names_of_values Γ) f (kind_of_keys k) bool_kind → Collects Γ (kept i f) k a b
+    collects_chosen : {Γ : Context} {j : Expression} {i h : Collection} {k : KeyKind} {a b : Kind}
+        → HasType (names_of_values Γ) j bool_kind → Collects Γ i k a b → Collects Γ h k a b → Collects Γ (chosen j i h) k a b
 
   -- Arguments are as many as parameters, and each is of its parameter's type or types.
   pub data ArgumentsFit : Context → Arguments → Bindings → Type 0 where
@@ -150,6 +172,8 @@ mutual
         → HasType (names_of_values Γ) i t → ArgumentsFit Γ vs qs → ArgumentsFit Γ (value_argument i vs) ((x, value t) ∷ qs)
     process_fits : {Γ : Context} {t : Term} {vs : Arguments} {x : Name} {a b : Kind} {qs : Bindings}
         → Takes Γ t a b → ArgumentsFit Γ vs qs → ArgumentsFit Γ (process_argument t vs) ((x, process a b) ∷ qs)
+    collection_fits : {Γ : Context} {i : Collection} {vs : Arguments} {x : Name} {k : KeyKind} {a b : Kind} {qs : Bindings}
+        → Collects Γ i k a b → ArgumentsFit Γ vs qs → ArgumentsFit Γ (collection_argument i vs) ((x, collection k a b) ∷ qs)
     closed_fits : {Γ : Context} {t : Term} {vs : Arguments} {x : Name} {a b : Kind} {qs : Bindings}
         → Takes Γ t a b → ArgumentsFit Γ vs qs → ArgumentsFit Γ (closed_argument t vs) ((x, process a b) ∷ qs)
 
@@ -157,6 +181,7 @@ mutual
 abbrev pub ParameterFits : NameKind → Type 0
 ParameterFits (value t) = Fits t
 ParameterFits (process a b) = Fits a × Fits b
+ParameterFits (collection k a b) = Fits a × Fits b
 
 -- With functions of these types and under the headers of all templates, a template has parameters of types within the bound,
 -- and its term takes its header's input to its header's output.

@@ -9,7 +9,7 @@ use Rattle.sf_expr.specs.declared.exprs.Exprs.{Exprs}
 use Rattle.sf_expr.specs.Arena.{function_at}
 use Rattle.sf_term.specs.declared.form.Join.{Join}
 use Rattle.sf_term.specs.declared.form.Side.{Side}
-use Rattle.sf_term.specs.Trees.{Extent, whole, rest, bare, arrow, Term, primitive, reference, joined, sided, headed, transformed, switching, keeping, staged}
+use Rattle.sf_term.specs.Trees.{Extent, whole, rest, bare, arrow, Term, primitive, reference, joined, sided, headed, transformed, switching, keeping, gathered, releasing, editing, staged}
 use Rattle.sf_term.specs.declared.form.Bare.{Bare}
 use Rattle.sf_term.specs.declared.form.Bare.TheVariants.{Identity, LocalTime, Integral, Edge, NotYet, Once, Count, Pre}
 use Rattle.sf_law.specs.declared.node.PlanId.{PlanId}
@@ -21,7 +21,7 @@ use Rattle.sf_law.specs.declared.node.PlanChain.{PlanChain}
 use Rattle.sf_law.specs.declared.node.PlanChain.TheVariants as chains
 use Rattle.sf_law.specs.declared.plan.Plan.{Plan}
 use Rattle.sf_law.specs.Entries.{stages, pipeline, chain_over, primitive_over, IsCodedPrimitive, IsCodedChain}
-use Rattle.sf_law.specs.Arena.{plan_tree, plan_expressions, trees_at, BuildsPlan, builds_primitive, builds_started, builds_probe, builds_call, builds_joined, builds_sided, builds_headed, builds_transformed, builds_switching, builds_keeping, builds_pipeline}
+use Rattle.sf_law.specs.Arena.{plan_tree, plan_expressions, trees_at, BuildsPlan, builds_primitive, builds_started, builds_probe, builds_call, builds_joined, builds_sided, builds_headed, builds_transformed, builds_switching, builds_keeping, builds_gathered, builds_releasing, builds_editing, builds_pipeline}
 use Rattle.sf_law.proofs.Kept.{builds}
 use Rattle.sf_rewrite.specs.Laws.{Laws, arr, unchanged, arr_as_chain}
 use Rattle.sf_rewrite.specs.Normal.{is_arr, is_stage, may_meet, IsPlan, plan_join, plan_pipeline, IsRest, last_stage, more_stages as more_rest}
@@ -72,6 +72,13 @@ pipeline_no_arr B = ap is_arr (pipeline_built B).term
 pub pipeline_no_identity : {p : Plan} {v : Vec PlanId Global} {t : Term} → BuildsPlan p (nodes.Pipeline v) t → is_identity_term t ≡ false
 pipeline_no_identity B = ap is_identity_term (pipeline_built B).term
 
+-- the node of the identity stands for it
+pub identity_built : {p : Plan} {n : PlanNode} {q : PlanPrimitive} {k : Bare} {t : Term} → n ≡ nodes.Primitive q → q ≡ primitives.Bare k → k ≡ Identity → BuildsPlan p n t → true ≡ is_identity_term t
+identity_built {p} node form is B = built (built_as (node ∙ ap nodes.Primitive (form ∙ ap primitives.Bare is)) B)
+  where
+    built : {t : Term} → BuildsPlan p (nodes.Primitive (primitives.Bare Identity)) t → true ≡ is_identity_term t
+    built (builds_primitive k) = refl
+
 -- `arr` of one function
 pub arrow_chain : {x : Exprs} {f : FunctionId} (code : Rc OpenCode Global) {shared : Rc OpenCode Global} {c : Rc PlanChain Global} → c.value ≡ chains.Lone f shared
     → shared.value ≡ code.value → IsCodedPrimitive x (primitives.Arrow f code)
@@ -109,6 +116,9 @@ is_rest (headed h i t) = false
 is_rest (transformed f t) = false
 is_rest (switching w t p u) = false
 is_rest (keeping w t q k p u) = false
+is_rest (gathered i) = false
+is_rest (releasing w i q k p u) = false
+is_rest (editing w i k p u) = false
 is_rest (staged x f g) = is_rest_extent x
 
 never_rest : {p : Plan} {n : PlanNode} {t : Term} → BuildsPlan p n t → is_rest t ≡ false
@@ -122,6 +132,9 @@ never_rest (builds_headed k) = refl
 never_rest (builds_transformed k) = refl
 never_rest builds_switching = refl
 never_rest builds_keeping = refl
+never_rest (builds_gathered k) = refl
+never_rest (builds_releasing k) = refl
+never_rest (builds_editing k) = refl
 never_rest (builds_pipeline {v = v} h) = ap is_rest (pipeline_built (builds_pipeline {v = v} h)).term
 
 -- the last stage of a pipeline
@@ -196,6 +209,9 @@ single_stage (builds_headed k) other h P = refl
 single_stage (builds_transformed k) other h P = refl
 single_stage builds_switching other h P = refl
 single_stage builds_keeping other h P = refl
+single_stage (builds_gathered k) other h P = refl
+single_stage (builds_releasing k) other h P = refl
+single_stage (builds_editing k) other h P = refl
 single_stage (builds_pipeline {v = v} h) other g P = absurd (other v refl)
 
 -- the only stage of a term

@@ -1,7 +1,7 @@
 -- A term behind another.
 use Rattle.std.proofs.Common.{◌≡◌, ◌<◌, ◌≤◌, List, [], ◌∷◌, ◌++◌, length, slice_index_or, drop, true, true≢false, IsTrue, refl, sym, ◌∙◌, ap, subst, append_assoc, arith}
 use Rattle.sf_term.specs.declared.form.Bare.TheVariants.{Identity, LocalTime, Integral, Edge, NotYet, Once, Count, Pre}
-use Rattle.sf_term.specs.Trees.{whole, bare, probe, never, with_value, timed, selected, arrow, accumulated, fused, Term, primitive, reference, joined, sided, headed, transformed, switching, keeping, staged}
+use Rattle.sf_term.specs.Trees.{whole, bare, probe, never, with_value, timed, selected, arrow, accumulated, fused, Term, primitive, reference, joined, sided, headed, transformed, switching, keeping, gathered, releasing, editing, staged}
 use Rattle.sf_law.specs.declared.node.PlanId.{PlanId}
 use Rattle.sf_law.specs.declared.plan.Plan.{Plan}
 use Rattle.sf_law.specs.Entries.{pipeline, ids_end}
@@ -40,6 +40,9 @@ identity_is (headed k i t) h = absurd (true≢false (sym h))
 identity_is (transformed f t) h = absurd (true≢false (sym h))
 identity_is (switching w t p u) h = absurd (true≢false (sym h))
 identity_is (keeping w t q k p u) h = absurd (true≢false (sym h))
+identity_is (gathered i) h = absurd (true≢false (sym h))
+identity_is (releasing w i q k p u) h = absurd (true≢false (sym h))
+identity_is (editing w i k p u) h = absurd (true≢false (sym h))
 identity_is (staged x f g) h = absurd (true≢false (sym h))
 
 pub second_alone : (p : Plan) (a b : PlanId) → is_identity_term (plan_tree p a) ≡ true → IsNormal p b → MakesPlan (staged whole (plan_tree p a) (plan_tree p b)) p b

@@ -26,7 +26,7 @@ use Rattle.sf_term.specs.declared.node.Node.TheVariants as ast
 use Rattle.sf_term.specs.declared.node.Primitive.{Primitive}
 use Rattle.sf_term.specs.declared.node.Primitive.TheVariants as ast_primitives
 use Rattle.sf_term.specs.declared.program.Program.{Program}
-use Rattle.sf_term.specs.Trees.{whole, Term, primitive, reference, started, call, named_term, Arguments, value_argument, process_argument, joined, sided, headed, transformed, switching, keeping, staged}
+use Rattle.sf_term.specs.Trees.{whole, Term, primitive, reference, started, call, named_term, Arguments, value_argument, process_argument, joined, sided, headed, transformed, switching, keeping, gathered, releasing, editing, staged}
 use Rattle.sf_term.specs.Arena.{tree, term_number, term_of, expressions_of, arguments_of, arguments_under, term_node_at, ArgumentBelow, HoldsArgument, HoldsTermParts, TermPartsBelow, expression_under, HoldsExpression, function_in, ProgramHoldsFunction, HoldsPatternIn}
 use Rattle.sf_term.proofs.Kept.{node_builds}
 use Rattle.sf_law.specs.declared.node.PlanId.{PlanId}
@@ -136,6 +136,9 @@ closed_plans (headed k i t) h P N A B = (of_term_argument h refl P A, plan_term_
 closed_plans (transformed f t) h P N A B = (of_term_argument h refl P A, plan_term_argument N B)
 closed_plans (switching w t p u) h P N A B = (of_term_argument h refl P A, plan_term_argument N B)
 closed_plans (keeping w t q k p u) h P N A B = (of_term_argument h refl P A, plan_term_argument N B)
+closed_plans (gathered i) h P N A B = (of_term_argument h refl P A, plan_term_argument N B)
+closed_plans (releasing w i q k p u) h P N A B = (of_term_argument h refl P A, plan_term_argument N B)
+closed_plans (editing w i k p u) h P N A B = (of_term_argument h refl P A, plan_term_argument N B)
 closed_plans (staged x f g) h P N A B = (of_term_argument h refl P A, plan_term_argument N B)
 
 -- a node that is no named process

@@ -115,6 +115,7 @@ fn chain_in(alloc: Global, plan: &Plan, id: PlanId) -> Result<Option<Rc<PlanChai
         PlanNode::Headed(_, _, _, _) | PlanNode::Transformed(_, _, _) => Ok(None),
         PlanNode::Pipeline(_) => Ok(None),
         PlanNode::Switching(_, _, _, _) | PlanNode::Keeping(_, _, _, _, _, _) => Ok(None),
+        PlanNode::Gathered(_) | PlanNode::Releasing(_) | PlanNode::Editing(_) => Ok(None),
     }
 }
 
@@ -208,6 +209,7 @@ pub(crate) fn is_identity(plan: &Plan, id: PlanId) -> bool
         PlanNode::Headed(_, _, _, _) | PlanNode::Transformed(_, _, _) => false,
         PlanNode::Pipeline(_) => false,
         PlanNode::Switching(_, _, _, _) | PlanNode::Keeping(_, _, _, _, _, _) => false,
+        PlanNode::Gathered(_) | PlanNode::Releasing(_) | PlanNode::Editing(_) => false,
     }
 }
 

@@ -72,6 +72,7 @@ pub(crate) fn is_quiet(plan: &Plan, id: PlanId) -> bool
         PlanNode::Started(_, _) | PlanNode::Probe(_) | PlanNode::Call(_, _, _) => false,
         PlanNode::Switching(_, _, _, _) => false,
         PlanNode::Keeping(_, _, _, _, _, _) => false,
+        PlanNode::Gathered(_) | PlanNode::Releasing(_) | PlanNode::Editing(_) => false,
     }
 }
 

@@ -1,6 +1,8 @@
 -- The arguments of a call, bound one after another.
 use Rattle.std.proofs.Common.{◌≡◌, Bool, true, false, ◌&&◌, IsTrue, List, [], ◌∷◌, ◌++◌, map, length, append_assoc, Result, Ok, Err, refl, sym, ap, ◌∙◌, subst, arith, ◌⊎◌, inl, inr}
 use Rattle.std.specs.Prelude.{Some, IsErrAnd}
+use Rattle.std.specs.declared.alloc.Global.{Global}
+use Rattle.std.specs.declared.rc.Rc.{Rc}
 use Rattle.std.proofs.lemmas.List.{append-nil}
 use Rattle.sf_coincidence.proofs.Same.{alike_itself}
 use Rattle.sf_value.specs.Values.{Name, Data}
@@ -20,25 +22,28 @@ use Rattle.sf_code.specs.Names.{scope_with}
 use Rattle.sf_term.specs.declared.form.Start.{Start}
 use Rattle.sf_term.specs.Parameters.{NameKind, Bindings}
 use Rattle.sf_term.specs.Trees.{no_arguments}
-use Rattle.sf_mean.specs.Lives.{Process, closure, Environment, empty, known, running, process_started, scope_around}
+use Rattle.sf_mean.specs.Lives.{Process, closure, Environment, empty, known, running, collected, Members, process_started, scope_around}
+use Rattle.sf_mean.specs.Collections.{collect}
 use Rattle.sf_mean.specs.Meaning.{argued, process_called}
 use Rattle.sf_law.specs.declared.node.PlanId.{PlanId}
 use Rattle.sf_law.specs.declared.node.PlanArgument.{PlanArgument}
-use Rattle.sf_law.specs.declared.node.PlanArgument.TheVariants.{Value, Started, Closed}
+use Rattle.sf_law.specs.declared.node.PlanArgument.TheVariants.{Value, Started, Closed, Collected}
+use Rattle.sf_law.specs.declared.node.PlanCollection.{PlanCollection}
 use Rattle.sf_law.specs.declared.plan.Plan.{Plan}
 use Rattle.sf_law.specs.Headers.{ParameterHeader, PlanHeader}
 use Rattle.sf_law.specs.Places.{names_of_parameters}
 use Rattle.sf_law.specs.Asking.{argument_asked, arguments_asked}
-use Rattle.sf_law.specs.Arena.{plan_tree, plan_expressions, plan_binding, plan_template, plan_arguments}
+use Rattle.sf_law.specs.Arena.{plan_tree, plan_collection, plan_expressions, plan_binding, plan_template, plan_arguments}
 use Rattle.sf_law.proofs.Called.{argued_closed}
 use Rattle.sf_state.specs.declared.state.State.{State}
 use Rattle.sf_state.specs.declared.state.State.TheVariants.{Unborn}
+use Rattle.sf_state.specs.declared.state.Live.{Live}
 use Rattle.sf_state.specs.declared.env.Env.{Env}
 use Rattle.sf_state.specs.Names.{values_around}
 use Rattle.sf_state.specs.declared.env.Handed.{Handed}
 use Rattle.sf_state.specs.declared.env.Given.{Given}
-use Rattle.sf_state.specs.declared.env.Given.TheVariants.{Value as GValue, Process as GProcess}
-use Rattle.sf_state.specs.Standing.{IsNames, AreGiven, nothing_given, value_is_given, process_is_given, IsHanded, Stands, itself, unborn, is_closure, closed_over}
+use Rattle.sf_state.specs.declared.env.Given.TheVariants.{Value as GValue, Process as GProcess, Members as GMembers}
+use Rattle.sf_state.specs.Standing.{IsNames, AreGiven, nothing_given, value_is_given, process_is_given, members_are_given, Gathers, IsHanded, Stands, itself, unborn, is_closure, closed_over}
 use Rattle.sf_state.proofs.Scopes.{scope_is}
 use Rattle.sf_parts.specs.Answering.{fault_from}
 use Rattle.sf_parts.specs.Beginning.{Makes, makes, makes_fault, makes_nothing, GivesOne}
@@ -81,11 +86,13 @@ module _ (φ : AnswersByName) (p : Plan) where
         let is : answer (running q.0 (closure (plan_tree p a) e) d) ≡ answer b = sym (argued_closed φ q [] (plan_tree p a) no_arguments e d) ∙ h in
         let same : running q.0 (closure (plan_tree p a) e) d ≡ b = cc in
         argued_closed φ q qs (plan_tree p a) (plan_arguments p vs) e d ∙ ap (λ b. argued φ qs (plan_arguments p vs) e b) same
+    one_answer (Collected r) b h = after_answer (collect φ (plan_collection p r.value) e) (λ ms. collected q.0 ms d) (λ b. argued φ qs (plan_arguments p vs) e b) b h
 
     one_fault : (v : PlanArgument) (x : ValueFault) → argued φ (q ∷ []) (plan_arguments p (v ∷ [])) e d ≡ failed x → argued φ (q ∷ qs) (plan_arguments p (v ∷ vs)) e d ≡ failed x
     one_fault (Value i c) x h = after_fault (eval (expression (plan_expressions p) i) (scope_around φ e)) (λ v. known q.0 v d) (λ b. argued φ qs (plan_arguments p vs) e b) x h
     one_fault (Started w k) x h = absurd cc
     one_fault (Closed a) x h = let is : answer (running q.0 (closure (plan_tree p a) e) d) ≡ failed x = sym (argued_closed φ q [] (plan_tree p a) no_arguments e d) ∙ h in absurd cc
+    one_fault (Collected r) x h = after_fault (collect φ (plan_collection p r.value) e) (λ ms. collected q.0 ms d) (λ b. argued φ qs (plan_arguments p vs) e b) x h
 
   -- the scope around a call, as its names have it
   abbrev scope_in : Env → Scope
@@ -111,6 +118,24 @@ module _ (φ : AnswersByName) (p : Plan) where
     pub closed_given : (a : PlanId) (h : Handed) → ((e : Environment) → IsNames φ p names e → IsHanded φ p name h (closure (plan_tree p a) e)) → GivesOne φ p q (Closed a) names (Ok (GProcess h))
     closed_given a h f e d N = let g = f e N in makes (argued_closed φ (plan_binding p q) [] (plan_tree p a) no_arguments e d) (process_is_given g.0 g.1 nothing_given)
 
+    module _ (r : Rc PlanCollection Global) where
+      -- what its collection makes
+      abbrev AreMade : Environment → Result Live Fault → Type 0
+      AreMade e o = Makes (λ l ms. Gathers φ p l ms []) (collect φ (plan_collection p r.value) e) o
+
+      members_made : (l : Live) (e d : Environment) → AreMade e (Ok l) → Makes (λ g b. AreGiven φ p (name ∷ []) (g ∷ []) d b) (argued φ (plan_binding p q ∷ []) (plan_arguments p (Collected r ∷ [])) e d) (Ok (GMembers l))
+      members_made l e d (makes h G) = makes (ap (λ w. w >>= λ ms. answer (collected name ms d)) h) (members_are_given G nothing_given)
+
+      members_fail : (x : Fault) (e d : Environment) → AreMade e (Err x) → Makes (λ g b. AreGiven φ p (name ∷ []) (g ∷ []) d b) (argued φ (plan_binding p q ∷ []) (plan_arguments p (Collected r ∷ [])) e d) (Err x)
+      members_fail x e d (makes_fault h) = makes_fault (ap (λ w. w >>= λ ms. answer (collected name ms d)) h)
+      members_fail x e d makes_nothing = makes_nothing
+
+      pub collected_given : (l : Live) → ((e : Environment) → IsNames φ p names e → AreMade e (Ok l)) → GivesOne φ p q (Collected r) names (Ok (GMembers l))
+      collected_given l f e d N = members_made l e d (f e N)
+
+      pub collected_fails : (x : Fault) → ((e : Environment) → IsNames φ p names e → AreMade e (Err x)) → GivesOne φ p q (Collected r) names (Err x)
+      collected_fails x f e d N = members_fail x e d (f e N)
+
   -- a parameter that stands for what is given, inside other names
   module _ (x : Name) (bound inner : Env) where
     pub value_inside : (v : Data) → ((d : Environment) → IsNames φ p bound d → IsNames φ p inner (known x v d)) → (d e : Environment) → IsNames φ p bound d → AreGiven φ p (x ∷ []) (GValue v ∷ []) d e → IsNames φ p inner e
@@ -119,10 +144,14 @@ module _ (φ : AnswersByName) (p : Plan) where
     pub process_inside : (h : Handed) → ((d : Environment) (P : Process) → IsNames φ p bound d → IsHanded φ p x h P → IsNames φ p inner (running x P d)) → (d e : Environment) → IsNames φ p bound d → AreGiven φ p (x ∷ []) (GProcess h ∷ []) d e → IsNames φ p inner e
     process_inside h f d e M (process_is_given {P = P} A B nothing_given) = f d P M (A, B)
 
+    pub members_inside : (l : Live) → ((d : Environment) (ms : Members) → IsNames φ p bound d → Gathers φ p l ms [] → IsNames φ p inner (collected x ms d)) → (d e : Environment) → IsNames φ p bound d → AreGiven φ p (x ∷ []) (GMembers l ∷ []) d e → IsNames φ p inner e
+    members_inside l f d e M (members_are_given {ms = ms} G nothing_given) = f d ms M G
+
   -- what is given stands before what is given after it
   given_before : (x : Name) (g : Given) (xs : List Name) (gs : List Given) (d b e : Environment) → AreGiven φ p (x ∷ []) (g ∷ []) d b → AreGiven φ p xs gs b e → AreGiven φ p (x ∷ xs) (g ∷ gs) d e
   given_before x g xs gs d b e (value_is_given nothing_given) G = value_is_given G
   given_before x g xs gs d b e (process_is_given A B nothing_given) G = process_is_given A B G
+  given_before x g xs gs d b e (members_are_given A nothing_given) G = members_are_given A G
 
 -- The first arguments are bound: those that are left go on from the names that these stand for.
 pub record Binds (φ : AnswersByName) (p : Plan) (qs : List ParameterHeader) (vs : List PlanArgument) (e : Environment) (ps : List ParameterHeader) (us : List PlanArgument) (bound : Env) : Type 0 where

@@ -31,31 +31,37 @@ use Rattle.sf_term.specs.declared.form.Join.{Join}
 use Rattle.sf_term.specs.declared.form.Join.TheVariants.{InSequence, InParallel, FannedOut}
 use Rattle.sf_term.specs.declared.form.Side.{Side}
 use Rattle.sf_term.specs.declared.form.Heading.{Heading}
-use Rattle.sf_term.specs.Trees.{rest, Primitive, probe, Term, primitive, reference, call, joined, sided, headed, transformed, switching, keeping}
-use Rattle.sf_mean.specs.Lives.{step, Life, closure, Environment, process_started, scope_around}
-use Rattle.sf_mean.specs.Meaning.{Network, recorded, as_outcome, Made, nothing_made, value_made, process_made, make, left_life, right_life, gives, Outputs, not_begun, of_constants, of_form, of_primitive, at_start}
+use Rattle.sf_term.specs.Trees.{rest, Primitive, probe, Term, primitive, reference, call, joined, sided, headed, transformed, switching, keeping, Collection, gathered, releasing, editing}
+use Rattle.sf_mean.specs.Lives.{step, Life, closure, Environment, Members, process_started, scope_around}
+use Rattle.sf_mean.specs.Collections.{collect}
+use Rattle.sf_mean.specs.Meaning.{Network, recorded, as_outcome, Made, nothing_made, value_made, process_made, members_made, make, left_life, right_life, gives, Outputs, not_begun, of_constants, of_form, of_primitive, at_start, no_tables}
 use Rattle.sf_law.specs.declared.plan.Plan.{Plan}
 use Rattle.sf_law.specs.declared.node.PlanId.{PlanId}
 use Rattle.sf_law.specs.declared.node.TemplateId.{TemplateId}
 use Rattle.sf_law.specs.declared.node.PlanArgument.{PlanArgument}
 use Rattle.sf_law.specs.declared.node.PlanPrimitive.{PlanPrimitive}
-use Rattle.sf_law.specs.declared.node.PlanNode.TheVariants.{Primitive as NPrimitive, Joined as NJoined, Sided as NSided, Headed as NHeaded, Transformed as NTransformed, Switching as NSwitching, Keeping as NKeeping, Started as NStarted, Probe as NProbe, Call as NCall, Pipeline as NPipeline}
-use Rattle.sf_law.specs.Entries.{primitive_over, IsCodedPrimitive, IsCodedExpression, IsCodedArgument, stages, pipeline}
-use Rattle.sf_law.specs.Arena.{plan_tree, plan_expressions, plan_expression_at, plan_arguments, header_at, network_of_plan, BuildsPlan, builds_primitive, builds_joined, builds_sided, builds_headed, builds_transformed, builds_switching, builds_keeping, builds_started, builds_probe, builds_call, builds_pipeline}
+use Rattle.sf_law.specs.declared.node.PlanCollection.{PlanCollection}
+use Rattle.sf_law.specs.declared.node.PlanReleasing.{PlanReleasing}
+use Rattle.sf_law.specs.declared.node.PlanEditing.{PlanEditing}
+use Rattle.sf_law.specs.declared.node.PlanNode.TheVariants.{Primitive as NPrimitive, Joined as NJoined, Sided as NSided, Headed as NHeaded, Transformed as NTransformed, Switching as NSwitching, Keeping as NKeeping, Started as NStarted, Probe as NProbe, Call as NCall, Pipeline as NPipeline, Gathered as NGathered, Releasing as NReleasing, Editing as NEditing}
+use Rattle.sf_law.specs.Entries.{primitive_over, IsCodedPrimitive, IsCodedExpression, IsCodedArgument, IsCodedCollection, stages, pipeline}
+use Rattle.sf_law.specs.Arena.{plan_tree, plan_collection, plan_expressions, plan_expression_at, plan_arguments, header_at, network_of_plan, BuildsPlan, builds_primitive, builds_joined, builds_sided, builds_headed, builds_transformed, builds_switching, builds_keeping, builds_started, builds_probe, builds_call, builds_pipeline, builds_gathered, builds_releasing, builds_editing}
 use Rattle.sf_law.proofs.Called.{called}
 use Rattle.sf_prim.specs.declared.prim_state.PrimState.{PrimState}
 use Rattle.sf_prim.specs.Keeping.{Begins, begins, begins_with_fault}
 use Rattle.sf_state.specs.declared.state.State.{State}
-use Rattle.sf_state.specs.declared.state.State.TheVariants.{Unborn, Primitive as SPrimitive, Live' as Alive', Switch' as Watching', Keeping'}
+use Rattle.sf_state.specs.declared.state.State.TheVariants.{Unborn, Primitive as SPrimitive, Live' as Alive', Switch' as Watching', Keeping', Gathering'}
 use Rattle.sf_state.specs.declared.state.Live.{Live}
 use Rattle.sf_state.specs.declared.state.Live.TheVariants.{Probe as LProbe, Join as LJoin, Wrap as LWrap, Pipeline as LPipeline}
 use Rattle.sf_state.specs.declared.state.Switch.{Switch}
 use Rattle.sf_state.specs.declared.state.Keeping.{Keeping}
+use Rattle.sf_state.specs.declared.state.Gathering.{Gathering}
+use Rattle.sf_state.specs.declared.state.Gathering.TheVariants.{Releasing' as GReleasing', Editing' as GEditing'}
 use Rattle.sf_state.specs.declared.state.Wrap.{Wrap}
 use Rattle.sf_state.specs.declared.state.Wrap.TheVariants.{Replaced}
 use Rattle.sf_state.specs.declared.env.Env.{Env}
 use Rattle.sf_state.specs.Names.{values_around}
-use Rattle.sf_state.specs.Standing.{closed_over as SClosure, Stands, itself, unborn, recalls, waits_so, recurs_so, keeps_so, ready, AreJoined, as_join, as_pipeline, lives_probe, lives_join, lives_wrap, Wraps, wraps_transformed, StagesStand, last_stands, stage_stands, is_closure, IsNames, IsProcess}
+use Rattle.sf_state.specs.Standing.{closed_over as SClosure, Stands, itself, unborn, recalls, waits_so, recurs_so, keeps_so, releases_so, edits_so, ready, AreJoined, as_join, as_pipeline, Lives, lives_probe, lives_join, lives_wrap, lives_gathered, Gathers, gathers, Wraps, wraps_transformed, StagesStand, last_stands, stage_stands, is_closure, IsNames, IsProcess}
 use Rattle.sf_state.specs.declared.state.Process.{Process as SProcess}
 use Rattle.sf_state.proofs.Scopes.{scope_is}
 use Rattle.sf_state.proofs.Copies.{pipeline_lives}
@@ -64,7 +70,7 @@ use Rattle.sf_parts.specs.declared.opening.Opened.TheVariants as opened
 use Rattle.sf_parts.specs.declared.opening.Begun.{Begun}
 use Rattle.sf_parts.specs.declared.opening.Begun.TheVariants as begun
 use Rattle.sf_parts.specs.Answering.{fault_from}
-use Rattle.sf_parts.specs.Beginning.{primitive_prepared, live_prepared, switch_prepared, keeping_prepared, makes, makes_fault, makes_nothing, WrapsAtFirst, Opens, opens_primitive, opens, opens_watching, opens_keeping, opens_running, opens_with_fault, opens_without_memory, BeginsAs, begins_itself, begins_referred, begins_not, AllBegin, none_begin, more_begin}
+use Rattle.sf_parts.specs.Beginning.{primitive_prepared, live_prepared, switch_prepared, keeping_prepared, gathering_prepared, Makes, makes, makes_fault, makes_nothing, WrapsAtFirst, Opens, opens_primitive, opens, opens_watching, opens_keeping, opens_gathering, opens_running, opens_with_fault, opens_without_memory, BeginsAs, begins_itself, begins_referred, begins_not, AllBegin, none_begin, more_begin}
 use Rattle.sf_parts.proofs.Arguments.{StandsCalled}
 
 -- before the first step
@@ -189,6 +195,61 @@ module _ (φ : AnswersByName) (p : Plan) where
   open_keeping w a b c k q names two one x l same f g i e N =
       opens_keeping same (keeps_so at_start not_begun not_begun (itself (unborn (f e N))) (itself (unborn (is_closure (alike_itself _) (g e N)))))
 
+  -- ## Members
+
+  -- what a collection makes among names
+  abbrev AreMade : PlanCollection → Environment → Result Live Fault → Type 0
+  AreMade i e r = Makes (λ l ms. Gathers φ p l ms []) (collect φ (plan_collection p i) e) r
+
+  members_live : {i : Collection} {e : Environment} {l : Live} {ms : Members} → Gathers φ p l ms [] → Lives φ p l (gathered i) e (members_made ms) []
+  members_live (gathers K S) = lives_gathered no_tables (gathers K S)
+
+  pub open_gathered : (i : PlanCollection) (live : Live) (l : Rc Live Global) → l.value ≡ live → (x : Data) (e : Environment) → AreMade i e (Ok live) → Opens φ p (gathered (plan_collection p i)) e x (Ok (opened.Live l))
+  open_gathered i live l same x e (makes h G) = opens same (ready (ap (λ w. w >>= λ ms. answer (members_made ms)) h) not_begun (members_live G))
+
+  -- a form whose members are not made
+  open_members_fails : (t : Term) (i : PlanCollection) (x : Data) (e : Environment) (f : Fault) → make net t e x ≡ (collect φ (plan_collection p i) e >>= λ ms. answer (members_made ms)) → AreMade i e (Err f) → Opens φ p t e x (Err f)
+  open_members_fails t i x e f is (makes_fault h) = opens_with_fault (λ d. gives not_begun (of_constants (is ∙ ap (λ w. w >>= λ ms. answer (members_made ms)) h)))
+  open_members_fails t i x e f is makes_nothing = opens_without_memory
+
+  pub open_gathered_fails : (i : PlanCollection) (x : Data) (e : Environment) (f : Fault) → AreMade i e (Err f) → Opens φ p (gathered (plan_collection p i)) e x (Err f)
+  open_gathered_fails i x e f h = open_members_fails (gathered (plan_collection p i)) i x e f refl h
+
+  pub open_builds_gathered : (i : Rc PlanCollection Global) (t : Term) (names : Env) (r : Result Opened Fault) → BuildsPlan p (NGathered i) t
+      → ((x : Data) (e : Environment) → IsCodedCollection (plan_expressions p) i.value → IsNames φ p names e → Opens φ p (gathered (plan_collection p i.value)) e x r) → (x : Data) (e : Environment) → IsNames φ p names e → Opens φ p t e x r
+  open_builds_gathered i t names r (builds_gathered C) h x e N = h x e C N
+
+  module _ (s : PlanReleasing) where
+    abbrev ReleasedMade : Environment → Result Live Fault → Type 0
+    ReleasedMade e r = IsCodedCollection (plan_expressions p) s.members.value → AreMade s.members.value e r
+
+    pub open_releasing : (t : Term) (members before : Live) (around : Env) (l : Rc Gathering Global) → l.value ≡ GReleasing' s.shown members before (Unborn (SClosure s.observer around)) s.name s.pattern s.body → BuildsPlan p (NReleasing s) t
+        → (x : Data) (e : Environment) → ReleasedMade e (Ok members) → IsNames φ p around e → Opens φ p t e x (Ok (opened.Gathering l))
+    open_releasing t members before around l same (builds_releasing C) x e f N = by (f C)
+      where
+        by : AreMade s.members.value e (Ok members) → Opens φ p (releasing s.shown (plan_collection p s.members.value) (plan_tree p s.observer) (name_at (plan_expressions p) s.name) (pattern_of (placed_at (plan_expressions p) s.pattern)) (plan_tree p s.body)) e x (Ok (opened.Gathering l))
+        by (makes h G) = opens_gathering same (releases_so h at_start not_begun no_tables G (itself (unborn (is_closure (alike_itself _) N))))
+
+    pub open_releasing_fails : (t : Term) (f : Fault) → BuildsPlan p (NReleasing s) t → (x : Data) (e : Environment) → ReleasedMade e (Err f) → Opens φ p t e x (Err f)
+    open_releasing_fails t f (builds_releasing C) x e h = open_members_fails _ s.members.value x e f refl (h C)
+
+  module _ (s : PlanEditing) where
+    abbrev EditedMade : Environment → Result Live Fault → Type 0
+    EditedMade e r = IsCodedCollection (plan_expressions p) s.members.value → AreMade s.members.value e r
+
+    abbrev edited_by : PlanCollection → Term
+    edited_by i = editing s.shown (plan_collection p s.members.value) (name_at (plan_expressions p) s.name) (pattern_of (placed_at (plan_expressions p) s.pattern)) (plan_collection p i)
+
+    pub open_editing : (t : Term) (members : Live) (edit : Rc PlanCollection Global) (l : Rc Gathering Global) → edit.value ≡ s.edit.value → l.value ≡ GEditing' s.shown members s.name s.pattern edit → BuildsPlan p (NEditing s) t
+        → (x : Data) (e : Environment) → EditedMade e (Ok members) → Opens φ p t e x (Ok (opened.Gathering l))
+    open_editing t members edit l shared same (builds_editing C) x e f = by (f C.0)
+      where
+        by : AreMade s.members.value e (Ok members) → Opens φ p (edited_by s.edit.value) e x (Ok (opened.Gathering l))
+        by (makes h G) = subst (λ i. Opens φ p (edited_by i) e x (Ok (opened.Gathering l))) shared (opens_gathering same (edits_so (subst (λ i. IsCodedCollection (plan_expressions p) i) (sym shared) C.1) h refl not_begun no_tables G))
+
+    pub open_editing_fails : (t : Term) (f : Fault) → BuildsPlan p (NEditing s) t → (x : Data) (e : Environment) → EditedMade e (Err f) → Opens φ p t e x (Err f)
+    open_editing_fails t f (builds_editing C) x e h = open_members_fails _ s.members.value x e f refl (h C.0)
+
   -- nodes of switches open as their terms do
   pub open_builds_switch : {x : Data} (w : Switching) (a b : PlanId) (q : PatternId) (t : Term) (names : Env) (r : Result Opened Fault) → BuildsPlan p (NSwitching w a q b) t
       → ((e : Environment) → IsNames φ p names e → Opens φ p (switching w (plan_tree p a) (pattern_of (placed_at (plan_expressions p) q)) (plan_tree p b)) e x r)
@@ -256,6 +317,12 @@ module _ (φ : AnswersByName) (p : Plan) where
     where
       by : {t : Term} → Opens φ p t e x (Ok (opened.Keeping k)) → BeginsAs φ p t e x (Keeping' names at k.value.shown k.value.first k.value.source k.value.before k.value.observer k.value.name k.value.pattern k.value.body) (Ok begun.Itself)
       by {t} (opens_keeping same W) = subst (λ (k : Keeping). BeginsAs φ p t e x (Keeping' names at k.shown k.first k.source k.before k.observer k.name k.pattern k.body) (Ok begun.Itself)) (sym same) (begins_itself (keeping_prepared N W))
+
+  pub begin_gathering : {at : _} {t : Term} {x : Data} (k : Rc Gathering Global) (names : Env) → ((e : Environment) → IsNames φ p names e → Opens φ p t e x (Ok (opened.Gathering k))) → (e : Environment) → IsNames φ p names e → BeginsAs φ p t e x (Gathering' names at k.value) (Ok begun.Itself)
+  begin_gathering {at} {t} {x} k names h e N = by (h e N)
+    where
+      by : {t : Term} → Opens φ p t e x (Ok (opened.Gathering k)) → BeginsAs φ p t e x (Gathering' names at k.value) (Ok begun.Itself)
+      by {t} (opens_gathering same W) = subst (λ (g : Gathering). BeginsAs φ p t e x (Gathering' names at g) (Ok begun.Itself)) (sym same) (begins_itself (gathering_prepared N W))
 
   pub begin_referred : {t : Term} {x : Data} (a : State) (names : Env) → ((e : Environment) → IsNames φ p names e → Opens φ p t e x (Ok (opened.Running a))) → (e : Environment) → IsNames φ p names e → BeginsAs φ p t e x a (Ok begun.Referred)
   begin_referred {x = x} a names h e N = by (h e N)

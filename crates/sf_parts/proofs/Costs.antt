@@ -8,9 +8,9 @@ use Rattle.sf_value.specs.declared.fault.Fault.TheVariants.{Memory}
 use Rattle.sf_probe.specs.Readings.{readings_of}
 use Rattle.sf_func.specs.Registries.{AnswersByName}
 use Rattle.sf_term.specs.declared.form.Observation.{Observation}
-use Rattle.sf_term.specs.Trees.{Extent, whole, rest, Term, primitive, reference, joined, sided, headed, transformed, switching, keeping, staged}
+use Rattle.sf_term.specs.Trees.{Extent, whole, rest, Term, primitive, reference, joined, sided, headed, transformed, switching, keeping, staged, gathered, releasing, editing}
 use Rattle.sf_mean.specs.Lives.{Step, step, Life, Process, closure, Environment}
-use Rattle.sf_mean.specs.Meaning.{Network, Readings, Outcome, Cost, count, height, no_cost, both_costs, over, over_first, over_stages, text_cost, entered_cost, Made, Gives, gives, Sample, of_constants, of_form, of_resumed, Form, of_primitive, of_join, of_side, of_loop, of_initialized, of_replaced, of_followed, of_transformed, of_reference, of_switch, of_keeping, of_recurring, of_stages, Watched, Takeover, Standing, SwitchTurn, while_waiting, as_body}
+use Rattle.sf_mean.specs.Meaning.{Network, Readings, Outcome, Cost, count, height, no_cost, both_costs, over, over_first, over_stages, text_cost, entered_cost, Made, Gives, gives, Sample, of_constants, of_form, of_resumed, Form, of_primitive, of_join, of_side, of_loop, of_initialized, of_replaced, of_followed, of_transformed, of_reference, of_switch, of_keeping, of_recurring, of_stages, Watched, Takeover, Standing, SwitchTurn, while_waiting, as_body, of_gathered, of_releasing, of_editing}
 use Rattle.sf_law.specs.declared.plan.Plan.{Plan}
 use Rattle.sf_law.specs.Arena.{network_of_plan}
 use Rattle.sf_state.specs.declared.state.State.{State}
@@ -56,6 +56,9 @@ module _ (n : Network) where
   text_counts (transformed f t) = (omega arith, omega arith)
   text_counts (switching w t q u) = (omega arith, omega arith)
   text_counts (keeping w t r k q u) = (omega arith, omega arith)
+  text_counts (gathered i) = (omega arith, omega arith)
+  text_counts (releasing w i r k q u) = (omega arith, omega arith)
+  text_counts (editing w i k q u) = (omega arith, omega arith)
   text_counts (staged x f g) = stages_count x (text_cost f) (text_cost g) (text_counts f)
 
   entered_counts : (t : Term) → (1 ≤ count (entered_cost t)) × (1 ≤ height (entered_cost t))
@@ -67,6 +70,9 @@ module _ (n : Network) where
   entered_counts (transformed f t) = text_counts (transformed f t)
   entered_counts (switching w t q u) = text_counts (switching w t q u)
   entered_counts (keeping w t r k q u) = text_counts (keeping w t r k q u)
+  entered_counts (gathered i) = (omega arith, omega arith)
+  entered_counts (releasing w i r k q u) = (omega arith, omega arith)
+  entered_counts (editing w i k q u) = (omega arith, omega arith)
   entered_counts (staged x f g) = text_counts (staged x f g)
 
   mutual
@@ -83,6 +89,9 @@ module _ (n : Network) where
     form_counts (of_switch S T) = turn_counts T
     form_counts (of_keeping S T) = turn_counts T
     form_counts (of_recurring G F) = (omega arith, omega arith)
+    form_counts (of_gathered E) = (omega arith, omega arith)
+    form_counts (of_releasing S T) = turn_counts T
+    form_counts (of_editing R E D) = (omega arith, omega arith)
     form_counts (of_stages {x = x} {c = c} {c' = c'} O G N) = stages_count x c c' (counts G)
 
     turn_counts : {w : Observation} {W : Watched} {B : Takeover} {s : Step} {L : Life} {st : Standing} {o : Outcome} {k : Cost} → SwitchTurn n w W B s L st o k → (1 ≤ count k) × (1 ≤ height k)

@@ -23,14 +23,15 @@ use Rattle.sf_law.specs.Headers.{ParameterHeader}
 use Rattle.sf_law.specs.Arena.{plan_tree, plan_expressions, plan_binding, plan_arguments, network_of_plan}
 use Rattle.sf_prim.specs.declared.prim_state.PrimState.{PrimState}
 use Rattle.sf_state.specs.declared.state.State.{State}
-use Rattle.sf_state.specs.declared.state.State.TheVariants.{Unborn', Primitive as SPrimitive, Live' as Alive', Switch' as Watching', Keeping', Frozen'}
+use Rattle.sf_state.specs.declared.state.State.TheVariants.{Unborn', Primitive as SPrimitive, Live' as Alive', Switch' as Watching', Keeping', Gathering', Frozen'}
 use Rattle.sf_state.specs.declared.state.Live.{Live}
 use Rattle.sf_state.specs.declared.state.Switch.{Switch}
 use Rattle.sf_state.specs.declared.state.Keeping.{Keeping}
+use Rattle.sf_state.specs.declared.state.Gathering.{Gathering}
 use Rattle.sf_state.specs.declared.env.Env.{Env}
 use Rattle.sf_state.specs.declared.state.Wrap.{Wrap}
 use Rattle.sf_state.specs.declared.env.Given.{Given}
-use Rattle.sf_state.specs.Standing.{IsNames, AreGiven, Recalls, Stands, Waits, WaitsKeeping, Ready, Wraps}
+use Rattle.sf_state.specs.Standing.{IsNames, AreGiven, Recalls, Stands, Waits, WaitsKeeping, WaitsGathered, Ready, Wraps}
 use Rattle.sf_parts.specs.declared.opening.Opened.{Opened}
 use Rattle.sf_parts.specs.declared.opening.Opened.TheVariants as opened
 use Rattle.sf_parts.specs.declared.opening.Begun.{Begun}
@@ -47,6 +48,8 @@ pub data Prepared (φ : AnswersByName) (p : Plan) : State → Process → (x : D
   keeping_prepared : {at : _} {names : Env} {w : Observation} {f : PlanId} {a c o : State} {k : NameId} {q : PatternId} {b : PlanId} {t : Term} {e : Environment} {x : Data} {L : Life}
       → IsNames φ p names e → WaitsKeeping φ p (record { shown = w; first = f; source = a; before = c; observer = o; name = k; pattern = q; body = b }) (closure t e) L
       → Prepared φ p (Keeping' names at w f a c o k q b) (closure t e) x L
+  gathering_prepared : {at : _} {names : Env} {g : Gathering} {t : Term} {e : Environment} {x : Data} {L : Life}
+      → IsNames φ p names e → WaitsGathered φ p g (closure t e) L → Prepared φ p (Gathering' names at g) (closure t e) x L
 
 -- whether a state has begun and is awake: a sample counts it, and then steps it
 abbrev pub is_awake : State → Bool
@@ -55,6 +58,7 @@ is_awake (SPrimitive i) = true
 is_awake (Alive' names at l) = true
 is_awake (Watching' names at w a q b) = true
 is_awake (Keeping' names at w t a x o k q b) = true
+is_awake (Gathering' names at g) = true
 is_awake (Frozen' at d names k) = false
 
 -- whether a sample steps it where it stands: a primitive, or a live part
@@ -64,6 +68,7 @@ is_in_place (SPrimitive i) = true
 is_in_place (Alive' names at l) = true
 is_in_place (Watching' names at w a q b) = false
 is_in_place (Keeping' names at w t a x o k q b) = false
+is_in_place (Gathering' names at g) = false
 is_in_place (Frozen' at d names k) = false
 
 -- What is made of something that is evaluated: it stands for the answer, or is its fault. Want of memory says nothing of it.
@@ -87,6 +92,7 @@ pub data Opens (φ : AnswersByName) (p : Plan) (t : Term) (e : Environment) (x :
   opens : {r : Rc Live Global} {l : Live} → r.value ≡ l → Ready φ p l (closure t e) x [] → Opens φ p t e x (Ok (opened.Live r))
   opens_watching : {r : Rc Switch Global} {s : Switch} → r.value ≡ s → Waits φ p s (closure t e) [] → Opens φ p t e x (Ok (opened.Switch r))
   opens_keeping : {r : Rc Keeping Global} {s : Keeping} → r.value ≡ s → WaitsKeeping φ p s (closure t e) [] → Opens φ p t e x (Ok (opened.Keeping r))
+  opens_gathering : {r : Rc Gathering Global} {g : Gathering} → r.value ≡ g → WaitsGathered φ p g (closure t e) [] → Opens φ p t e x (Ok (opened.Gathering r))
   -- what is referred to stands in the place of the term, which counts at this sample alone
   opens_running : {a : State} {r : Reference} {P : Process} → t ≡ reference r → referred (network_of_plan φ p) r e ≡ answer P → Stands φ p a P [] → Opens φ p t e x (Ok (opened.Running a))
   opens_with_fault : {f : ValueFault} → ((d : ℕ) → Gives (network_of_plan φ p) (closure t e) (step d x ∷ []) (faulted f) (entered_cost t)) → Opens φ p t e x (Err (Value f))

@@ -1,4 +1,6 @@
 pub mod Answering
 pub mod Beginning
+pub mod Collecting
 pub mod Contexts
 pub mod Meters
+pub mod Tables

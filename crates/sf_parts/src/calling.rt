@@ -11,6 +11,7 @@ ghost use Rattle.sf_state.specs.Standing.{IsNames, AreGiven, IsHanded, IsProcess
 ghost use Rattle.sf_parts.specs.Beginning.{Makes, GivesOne};
 ghost use Rattle.sf_parts.specs.Contexts.{plan_in};
 
+use crate::collecting::collect;
 use crate::context::{SampleContext, constant_in, fault_of};
 use sf_expr::NameId;
 use sf_func::Holds;
@@ -190,6 +191,7 @@ fn bind<R: Holds>(
             bound.inside(context.alloc, expressions, parameter.pattern(), shared)
         }
         Given::Process(handed) => bound.with_process(context.alloc, parameter.name(), handed),
+        Given::Members(members) => bound.with_members(context.alloc, parameter.name(), members),
     }
 }
 
@@ -216,6 +218,10 @@ fn given_by<R: Holds>(
         PlanArgument::Closed(term) => {
             let handed = closed(context.alloc, context.plan, parameter, *term, names)?;
             Ok(Given::Process(handed))
+        }
+        PlanArgument::Collected(members) => {
+            let all = collect(context, members, names)?;
+            Ok(Given::Members(all))
         }
     }
 }

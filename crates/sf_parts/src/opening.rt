@@ -7,10 +7,10 @@ ghost use Rattle.sf_expr.specs.declared.exprs.FunctionId.{FunctionId};
 ghost use Rattle.sf_expr.specs.declared.exprs.NameId.{NameId as NameIdOf};
 ghost use Rattle.sf_expr.specs.Arena.{placed_at, name_at, function_at};
 ghost use Rattle.sf_expr.specs.Patterns.{pattern_of};
-ghost use Rattle.sf_term.specs.Trees.{Term, headed as headed_term, transformed as transformed_term, switching as switching_term, keeping as keeping_term};
-ghost use Rattle.sf_law.specs.Arena.{plan_tree, plan_asks, plan_expressions, plan_expression_at, header_at, network_of_plan, BuildsPlan};
+ghost use Rattle.sf_term.specs.Trees.{Term, headed as headed_term, transformed as transformed_term, switching as switching_term, keeping as keeping_term, gathered as gathered_term};
+ghost use Rattle.sf_law.specs.Arena.{plan_tree, plan_collection, plan_asks, plan_expressions, plan_expression_at, header_at, network_of_plan, BuildsPlan};
 ghost use Rattle.sf_code.specs.Worth.{IsCodeOfFunction};
-ghost use Rattle.sf_law.specs.Entries.{IsCodedExpression, IsCodedArgument};
+ghost use Rattle.sf_law.specs.Entries.{IsCodedExpression, IsCodedArgument, IsCodedCollection};
 ghost use Rattle.sf_law.specs.Asking.{start_asked, arguments_asked};
 ghost use Rattle.sf_law.specs.declared.node.PlanId.{PlanId as PlanIdOf};
 ghost use Rattle.sf_law.specs.declared.node.PlanArgument.{PlanArgument as PlanArgumentOf};
@@ -22,14 +22,20 @@ ghost use Rattle.sf_parts.specs.Beginning.{Opens, WrapsAtFirst, BeginsAs, AllBeg
 ghost use Rattle.sf_parts.specs.Contexts.{plan_in};
 
 use crate::calling::{called, started};
+use crate::collecting::collect;
 use crate::context::{SampleContext, constant_in, fault_of, made_in};
 use crate::routing::{on_side, with_head};
 use sf_code::OpenCode;
 use sf_expr::{NameId, PatternId};
 use sf_func::Holds;
-use sf_law::{Plan, PlanArgument, PlanId, PlanNode, PlanPrimitive, TemplateId};
+use sf_law::{
+    Plan, PlanArgument, PlanCollection, PlanEditing, PlanId, PlanNode, PlanPrimitive,
+    PlanReleasing, TemplateId,
+};
 use sf_prim::PrimState;
-use sf_state::{Env, Keeping, Live, NamesIn, Process, State, Switch, Wrap};
+use sf_state::{
+    Editing, Env, Gathering, Keeping, Live, NamesIn, Process, Releasing, State, Switch, Wrap,
+};
 use sf_term::{Heading, Join, Observation, Start, Switching};
 use sf_value::{Fault, Value};
 use std::alloc::{AllocError, Global};
@@ -80,6 +86,7 @@ fn prepared(opened: Opened, names: Env) -> (State, Begun)
         Opened::Live(node) => (State::Live(names, node), Begun::Itself),
         Opened::Switch(watching) => (State::Switch(names, watching), Begun::Itself),
         Opened::Keeping(kept) => (State::Keeping(names, kept), Begun::Itself),
+        Opened::Gathering(members) => (State::Gathering(names, members), Begun::Itself),
         Opened::Running(process) => (process, Begun::Referred),
     }
 }
@@ -95,6 +102,8 @@ pub(crate) enum Opened {
     Switch(Rc<Switch>),
     /// A switch that keeps its source.
     Keeping(Rc<Keeping>),
+    /// Members that wait for an event.
+    Gathering(Rc<Gathering>),
     /// What is referred to, which stands in the place of its name or call.
     Running(State),
 }
@@ -135,6 +144,9 @@ fn open<R: Holds>(
             *body,
             names,
         ),
+        PlanNode::Gathered(members) => gathered(context, members, names),
+        PlanNode::Releasing(releasing) => members_under(context, releasing, names),
+        PlanNode::Editing(editing) => members_edited(context, editing, names),
         PlanNode::Started(start, name) => referred(context, *start, *name, names),
         PlanNode::Probe(name) => probe(context.alloc, name),
         PlanNode::Call(_, template, arguments) => call(context, *template, arguments, names),
@@ -351,6 +363,72 @@ fn keeping(
     };
     let node = Rc::new(alloc, keeping)?;
     Ok(Opened::Keeping(node))
+}
+
+// The members of a collection before their first sample, with the names around it.
+#[inline(never)]
+fn gathered<R: Holds>(
+    context: &SampleContext<R>,
+    members: &PlanCollection,
+    names: &Env,
+) -> Result<Opened, Fault>
+    ensures { let p = plan_in context.now in (x : Data) (e : Environment) → IsCodedCollection (plan_expressions p) members.now →
+        IsNames (R.answers context.now.functions.now) p names.now e → Opens (R.answers context.now.functions.now) p (gathered_term (plan_collection p members.now)) e x result }
+{
+    let live = collect(context, members, names)?;
+    let node = Rc::new(context.alloc, live)?;
+    Ok(Opened::Live(node))
+}
+
+// Members under an observer, before their first sample, with the names around them.
+#[inline(never)]
+fn members_under<R: Holds>(
+    context: &SampleContext<R>,
+    form: &PlanReleasing,
+    names: &Env,
+) -> Result<Opened, Fault>
+    ensures { (t : Term) → BuildsPlan (plan_in context.now) (NodeOf.Releasing form.now) t → (x : Data) (e : Environment) →
+        IsNames (R.answers context.now.functions.now) (plan_in context.now) names.now e → Opens (R.answers context.now.functions.now) (plan_in context.now) t e x result }
+{
+    let members = collect(context, &form.members, names)?;
+    let around = names.share()?;
+    let releasing = Releasing {
+        shown: form.shown,
+        members,
+        before: Live::vacant(context.alloc),
+        observer: State::Unborn(Process {
+            term: form.observer,
+            names: around,
+        }),
+        name: form.name,
+        pattern: form.pattern,
+        body: form.body,
+    };
+    let node = Rc::new(context.alloc, Gathering::Releasing(releasing))?;
+    Ok(Opened::Gathering(node))
+}
+
+// Members that are edited, likewise.
+#[inline(never)]
+fn members_edited<R: Holds>(
+    context: &SampleContext<R>,
+    form: &PlanEditing,
+    names: &Env,
+) -> Result<Opened, Fault>
+    ensures { (t : Term) → BuildsPlan (plan_in context.now) (NodeOf.Editing form.now) t → (x : Data) (e : Environment) →
+        IsNames (R.answers context.now.functions.now) (plan_in context.now) names.now e → Opens (R.answers context.now.functions.now) (plan_in context.now) t e x result }
+{
+    let members = collect(context, &form.members, names)?;
+    let edit = form.edit.clone()?;
+    let editing = Editing {
+        shown: form.shown,
+        members,
+        name: form.name,
+        pattern: form.pattern,
+        edit,
+    };
+    let node = Rc::new(context.alloc, Gathering::Editing(editing))?;
+    Ok(Opened::Gathering(node))
 }
 
 // Stages before their first sample, with the names around them.

@@ -4,8 +4,8 @@ use Rattle.std.specs.List.{All}
 use Rattle.std.proofs.lemmas.List.Elements.{All-nil, All-cons, All-head, All-tail}
 use Rattle.sf_value.specs.Values.{Name, int_keys, text_keys, Kind, unit_kind, bool_kind, int_kind, text_kind, pair_kind, event_kind, table_kind}
 use Rattle.sf_expr.specs.Expressions.{Literal, unit_literal, truth_literal, int_literal, text_literal, none_literal, Expression, variable, literal, paired, applied, operation, conditional, mapped, folded, called, Function, function}
-use Rattle.sf_term.specs.Parameters.{NameKind, value as value_kind, process as process_kind}
-use Rattle.sf_term.specs.Trees.{Primitive, bare, probe, never, with_value, timed, selected, arrow, accumulated, fused, Term, primitive, reference, joined, sided, headed, transformed, switching, keeping, staged, Reference, started, call, Arguments, no_arguments, value_argument, process_argument, closed_argument, Template, Templates}
+use Rattle.sf_term.specs.Parameters.{NameKind, value as value_kind, process as process_kind, collection as collection_kind}
+use Rattle.sf_term.specs.Trees.{Primitive, bare, probe, never, with_value, timed, selected, arrow, accumulated, fused, Term, primitive, reference, joined, sided, headed, transformed, switching, keeping, gathered, releasing, editing, staged, Reference, started, call, Arguments, no_arguments, value_argument, process_argument, collection_argument, closed_argument, Template, Templates}
 use Rattle.sf_lex.specs.declared.word.Keyword.{Keyword}
 use Rattle.sf_lex.specs.declared.word.Keyword.TheVariants as words
 use Rattle.sf_lex.specs.declared.symbol.Symbol.TheVariants as symbols
@@ -122,6 +122,9 @@ mutual
   term_shorter (transformed h f) = keeps (brackets _ _ _ _ _ (function_shorter h) (term_shorter f))
   term_shorter (switching w f p g) = keeps (brackets _ _ _ _ _ (term_shorter f) (mapping (spell_pattern p) _ _ (term_shorter g)))
   term_shorter (keeping w f g k p u) = keeps (brackets _ _ _ _ _ (term_shorter f) (then _ _ _ _ (term_shorter g) (keeps (keeps (keeps (mapping (spell_pattern p) _ _ (term_shorter u)))))))
+  term_shorter (gathered i) = none
+  term_shorter (releasing w i q k p u) = none
+  term_shorter (editing w i k p u) = none
   term_shorter (staged x f g) = none
 
   reference_shorter : (r : Reference) → Shortens (spell_reference versions.Two r) (spell_reference versions.One r)
@@ -132,16 +135,19 @@ mutual
   arguments_shorter no_arguments = same _
   arguments_shorter (value_argument e vs) = then _ _ _ _ (expression_shorter e) (further_shorter vs)
   arguments_shorter (process_argument t vs) = keeps (then _ _ _ _ (term_shorter t) (further_shorter vs))
+  arguments_shorter (collection_argument i vs) = further_shorter vs
   arguments_shorter (closed_argument t vs) = further_shorter vs
 
   further_shorter : (vs : Arguments) → Shortens (spell_further (spell_arguments versions.Two vs)) (spell_further (spell_arguments versions.One vs))
   further_shorter no_arguments = same _
   further_shorter (value_argument e vs) = keeps (then _ _ _ _ (expression_shorter e) (further_shorter vs))
   further_shorter (process_argument t vs) = keeps (keeps (then _ _ _ _ (term_shorter t) (further_shorter vs)))
+  further_shorter (collection_argument i vs) = keeps (further_shorter vs)
   further_shorter (closed_argument t vs) = keeps (further_shorter vs)
 
 name_kind_shorter : (k : NameKind) → Shortens (spell_name_kind versions.Two k) (spell_name_kind versions.One k)
 name_kind_shorter (value_kind t) = type_shorter t
+name_kind_shorter (collection_kind k t u) = none
 name_kind_shorter (process_kind t u) = then _ _ _ _ (type_shorter t) (keeps (type_shorter u))
 
 parameter_shorter : (q : Name × NameKind) → Shortens (spell_parameter versions.Two q) (spell_parameter versions.One q)

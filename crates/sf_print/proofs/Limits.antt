@@ -6,8 +6,8 @@ use Rattle.sf_value.specs.Values.{Name, KeyKind, int_keys, text_keys, Kind, unit
 use Rattle.sf_expr.specs.Expressions.{Literal, unit_literal, truth_literal, int_literal, text_literal, none_literal, Expression, variable, literal, paired, applied, operation, conditional, mapped, folded, called, Function, function}
 use Rattle.sf_term.specs.declared.form.Start.{Start}
 use Rattle.sf_term.specs.declared.form.Start.TheVariants as starts
-use Rattle.sf_term.specs.Parameters.{NameKind, value as value_kind, process as process_kind}
-use Rattle.sf_term.specs.Trees.{Primitive, bare, probe, never, with_value, timed, selected, arrow, accumulated, fused, Term, primitive, reference, joined, sided, headed, transformed, switching, keeping, staged, Reference, started, call, Arguments, no_arguments, value_argument, process_argument, closed_argument, Template, Templates}
+use Rattle.sf_term.specs.Parameters.{NameKind, value as value_kind, process as process_kind, collection as collection_kind}
+use Rattle.sf_term.specs.Trees.{Primitive, bare, probe, never, with_value, timed, selected, arrow, accumulated, fused, Term, primitive, reference, joined, sided, headed, transformed, switching, keeping, gathered, releasing, editing, staged, Reference, started, call, Arguments, no_arguments, value_argument, process_argument, collection_argument, closed_argument, Template, Templates}
 use Rattle.sf_grammar.specs.declared.ty.Version.{Version}
 use Rattle.sf_grammar.specs.declared.ty.Version.TheVariants as versions
 use Rattle.sf_grammar.specs.Spelling.{WritesKeys, WritesType, IsWrittenType, WritesExpression, WritesFunction, WritesStart, WritesTerm, WritesReference, WritesArguments, WritesNameKind, HasWrittenTypes, IsWithinLimits}
@@ -110,6 +110,9 @@ mutual
       let one = parts w (term_needs_two f) (term_needs_two g || term_needs_two u) s in
       let two = parts w (term_needs_two g) (term_needs_two u) one.1 in
       (term_moves v w d f h.0 one.0, term_moves v w d g h.1 two.0, term_moves v w d u h.2 two.1)
+  term_moves v w (suc d) (gathered i) h s = h
+  term_moves v w (suc d) (releasing b i q k p u) h s = h
+  term_moves v w (suc d) (editing b i k p u) h s = h
   term_moves v w (suc d) (staged x f g) h s = tt
 
   reference_moves : (v w : Version) (d : ℕ) (r : Reference) → WritesReference v d r → Serves w (reference_needs_two r) → WritesReference w d r
@@ -122,10 +125,12 @@ mutual
       let both = parts w (expression_needs_two e) (arguments_need_two vs) s in (expression_moves v w d e h.0 both.0, arguments_move v w d vs h.1 both.1)
   arguments_move v w d (process_argument t vs) h s =
       let both = parts w (term_needs_two t) (arguments_need_two vs) s in (term_moves v w d t h.0 both.0, arguments_move v w d vs h.1 both.1)
+  arguments_move v w d (collection_argument i vs) h s = h
   arguments_move v w d (closed_argument t vs) h s = arguments_move v w d vs h s
 
 name_kind_moves : (v w : Version) (k : NameKind) → WritesNameKind v k → Serves w (name_kind_needs_two k) → WritesNameKind w k
 name_kind_moves v w (value_kind t) h s = written_moves v w 64 t h s
+name_kind_moves v w (collection_kind k t u) h s = h
 name_kind_moves v w (process_kind t u) h s =
     let both = parts w (type_needs_two t) (type_needs_two u) s in (written_moves v w 64 t h.0 both.0, written_moves v w 64 u h.1 both.1)
 

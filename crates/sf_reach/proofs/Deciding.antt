@@ -5,11 +5,11 @@ use Rattle.std.specs.Str.{bytes_eq}
 use Rattle.std.proofs.lemmas.Option.{same_Some, none-some}
 use Rattle.std.proofs.lemmas.Slice.Eq.{bytes_eq-Decides}
 use Rattle.sf_value.specs.Values.{Name}
-use Rattle.sf_expr.specs.Expressions.{Pattern}
+use Rattle.sf_expr.specs.Expressions.{Pattern, Expression, Function}
 use Rattle.sf_term.specs.declared.form.Join.{Join}
 use Rattle.sf_term.specs.declared.form.Observation.{Observation}
-use Rattle.sf_term.specs.Trees.{Extent, Term, primitive, reference, started, call, Reference, Arguments, no_arguments, value_argument, process_argument, closed_argument, joined, sided, headed, transformed, switching, keeping, staged, Template, Templates, template_named}
-use Rattle.sf_mean.specs.Calls.{Calls, calls_it, calls_within, left_calls, right_calls, side_calls, headed_calls, transformed_calls, switch_calls, source_calls, observer_calls, stage_calls, stages_call, ArgumentsCall, process_calls, closed_calls, past_value_calls, past_process_calls, past_closed_calls, ReachesTemplate, reaches, reaches_on}
+use Rattle.sf_term.specs.Trees.{Extent, Term, primitive, reference, started, call, Reference, Arguments, no_arguments, value_argument, process_argument, collection_argument, closed_argument, joined, sided, headed, transformed, switching, keeping, gathered, releasing, editing, staged, Collection, without_members, used, added, dropped, kept, chosen, Template, Templates, template_named}
+use Rattle.sf_mean.specs.Calls.{Calls, calls_it, calls_within, left_calls, right_calls, side_calls, headed_calls, transformed_calls, switch_calls, source_calls, observer_calls, gathered_calls, members_call, their_observer_calls, editing_calls, stage_calls, stages_call, CollectionCalls, added_calls, past_added_calls, past_dropped_calls, past_kept_calls, one_calls, other_calls, ArgumentsCall, process_calls, collection_calls, closed_calls, past_value_calls, past_process_calls, past_collection_calls, past_closed_calls, ReachesTemplate, reaches, reaches_on}
 use Rattle.sf_reach.specs.Names.{names}
 use Rattle.sf_reach.specs.Order.{PlacedCall}
 use Rattle.sf_reach.specs.Endless.{IsEndless}
@@ -54,6 +54,18 @@ kept_call : {w : Observation} {t q u : Term} {k : Name} {p : Pattern} {h : Name}
 kept_call (source_calls c) = inl c
 kept_call (observer_calls c) = inr c
 
+released_call : {w : Observation} {i : Collection} {q u : Term} {k : Name} {p : Pattern} {h : Name} → Calls (releasing w i q k p u) h → CollectionCalls i h ⊎ Calls q h
+released_call (members_call c) = inl c
+released_call (their_observer_calls c) = inr c
+
+added_call : {i : Collection} {j : Expression} {t : Term} {h : Name} → CollectionCalls (added i j t) h → Calls t h ⊎ CollectionCalls i h
+added_call (added_calls c) = inl c
+added_call (past_added_calls c) = inr c
+
+chosen_call : {j : Expression} {a b : Collection} {h : Name} → CollectionCalls (chosen j a b) h → CollectionCalls a h ⊎ CollectionCalls b h
+chosen_call (one_calls c) = inl c
+chosen_call (other_calls c) = inr c
+
 staged_call : {x : Extent} {f g : Term} {h : Name} → Calls (staged x f g) h → Calls f h ⊎ Calls g h
 staged_call (stage_calls c) = inl c
 staged_call (stages_call c) = inr c
@@ -61,6 +73,10 @@ staged_call (stages_call c) = inr c
 process_call : {t : Term} {vs : Arguments} {h : Name} → ArgumentsCall (process_argument t vs) h → Calls t h ⊎ ArgumentsCall vs h
 process_call (process_calls c) = inl c
 process_call (past_process_calls c) = inr c
+
+collection_call : {i : Collection} {vs : Arguments} {h : Name} → ArgumentsCall (collection_argument i vs) h → CollectionCalls i h ⊎ ArgumentsCall vs h
+collection_call (collection_calls c) = inl c
+collection_call (past_collection_calls c) = inr c
 
 closed_call : {t : Term} {vs : Arguments} {h : Name} → ArgumentsCall (closed_argument t vs) h → Calls t h ⊎ ArgumentsCall vs h
 closed_call (closed_calls c) = inl c
@@ -76,7 +92,18 @@ mutual
   calls_or_not (transformed f t) h = same (λ c. transformed_calls c) (λ c. elim c [ transformed_calls k ↦ k ]) (calls_or_not t h)
   calls_or_not (switching w t p u) h = same (λ c. switch_calls c) (λ c. elim c [ switch_calls k ↦ k ]) (calls_or_not t h)
   calls_or_not (keeping w t q k p u) h = one_of (λ c. source_calls c) (λ c. observer_calls c) (λ c. kept_call c) (calls_or_not t h) (calls_or_not q h)
+  calls_or_not (gathered i) h = same (λ c. gathered_calls c) (λ c. elim c [ gathered_calls k ↦ k ]) (collection_or_not i h)
+  calls_or_not (releasing w i q k p u) h = one_of (λ c. members_call c) (λ c. their_observer_calls c) (λ c. released_call c) (collection_or_not i h) (calls_or_not q h)
+  calls_or_not (editing w i k p u) h = same (λ c. editing_calls c) (λ c. elim c [ editing_calls k ↦ k ]) (collection_or_not i h)
   calls_or_not (staged x f g) h = one_of (λ c. stage_calls c) (λ c. stages_call c) (λ c. staged_call c) (calls_or_not f h) (calls_or_not g h)
+
+  collection_or_not : (i : Collection) (h : Name) → Decided (CollectionCalls i h)
+  collection_or_not (without_members k t) h = inr (λ c. elim c [ ])
+  collection_or_not (used x) h = inr (λ c. elim c [ ])
+  collection_or_not (added i j t) h = one_of (λ c. added_calls c) (λ c. past_added_calls c) (λ c. added_call c) (calls_or_not t h) (collection_or_not i h)
+  collection_or_not (dropped i j) h = same (λ c. past_dropped_calls c) (λ c. elim c [ past_dropped_calls k ↦ k ]) (collection_or_not i h)
+  collection_or_not (kept i f) h = same (λ c. past_kept_calls c) (λ c. elim c [ past_kept_calls k ↦ k ]) (collection_or_not i h)
+  collection_or_not (chosen j a b) h = one_of (λ c. one_calls c) (λ c. other_calls c) (λ c. chosen_call c) (collection_or_not a h) (collection_or_not b h)
 
   reference_or_not : (r : Reference) (h : Name) → Decided (Calls (reference r) h)
   reference_or_not (started w k) h = inr (λ c. elim c [ ])
@@ -86,6 +113,7 @@ mutual
   arguments_or_not no_arguments h = inr (λ c. elim c [ ])
   arguments_or_not (value_argument i vs) h = same (λ c. past_value_calls c) (λ c. elim c [ past_value_calls k ↦ k ]) (arguments_or_not vs h)
   arguments_or_not (process_argument t vs) h = one_of (λ c. process_calls c) (λ c. past_process_calls c) (λ c. process_call c) (calls_or_not t h) (arguments_or_not vs h)
+  arguments_or_not (collection_argument i vs) h = one_of (λ c. collection_calls c) (λ c. past_collection_calls c) (λ c. collection_call c) (collection_or_not i h) (arguments_or_not vs h)
   arguments_or_not (closed_argument t vs) h = one_of (λ c. closed_calls c) (λ c. past_closed_calls c) (λ c. closed_call c) (calls_or_not t h) (arguments_or_not vs h)
 
 -- ## Templates that call templates, past some

@@ -1,8 +1,8 @@
 -- Plans keep outcomes.
 use Rattle.std.proofs.Common.{ℕ, ◌≡◌, Bool, true, false, cond, IsTrue, List, [], ◌∷◌, refl, sym, ap, ◌∙◌, subst, Option, Some, None}
-use Rattle.std.specs.Prelude.{bytes_eq}
+use Rattle.std.specs.Prelude.{bytes_eq, option_map}
 use mathlib.Core.Path.{subst₂}
-use Rattle.sf_value.specs.Values.{Name, Data, first_of, second_of}
+use Rattle.sf_value.specs.Values.{Name, Data, first_of, second_of, KeyKind, Kind, KeyData, table, no_rows}
 use Rattle.sf_value.specs.declared.fault.ValueFault.{ValueFault}
 use Rattle.sf_func.specs.Registries.{AnswersByName}
 use Rattle.sf_expr.specs.Expressions.{Pattern, unnamed, named, both, Expression, Function}
@@ -15,10 +15,14 @@ use Rattle.sf_term.specs.declared.form.Observation.{Observation}
 use Rattle.sf_term.specs.declared.form.Start.{Start}
 use Rattle.sf_term.specs.declared.form.Start.TheVariants.{Run, Fresh}
 use Rattle.sf_term.specs.declared.form.Switching.{Switching}
-use Rattle.sf_term.specs.Trees.{Primitive, Term, primitive, Reference, reference, started, call, Arguments, no_arguments, value_argument, process_argument, closed_argument, template_named, joined, sided, headed, transformed, switching, keeping, staged, Template, Templates}
-use Rattle.sf_mean.specs.Lives.{Step, wait_of, input_of, Life, Process, closure, resumed, Environment, empty, known, running, passing, process_of, base, process_started, scope_around, bind, after, frozen, first_input}
-use Rattle.sf_mean.specs.Formulas.{occurring, formula}
-use Rattle.sf_mean.specs.Meaning.{Network, Readings, Outcome, gave, faulted, as_outcome, answered_by, newest_or, recorded, Cost, no_cost, over, over_first, one_term, text_cost, last_event, Made, process_made, argument_process, argued, process_called, referred, make, entered_cost, arguments_cost, Watched, itself, observed, Takeover, Standing, waits, fired, stands_after, whenever, body_of, body_with, Gives, gives, Outputs, not_begun, and_gave, Sample, of_constants, of_form, of_resumed, Form, of_primitive, of_reference, of_join, of_side, of_loop, of_initialized, of_replaced, of_followed, of_transformed, of_switch, of_keeping, of_recurring, of_stages, what_runs, Next, goes_on, stops, Loops, no_loop, and_looped, Sees, beside_values, by_observer, Since, at_start, watched, had_fired, SwitchTurn, while_waiting, as_body, Switched, after_fault, after_value, Fires, no_event_yet, event_now}
+use Rattle.sf_term.specs.Trees.{Primitive, Term, primitive, Reference, reference, started, call, Arguments, no_arguments, value_argument, process_argument, closed_argument, template_named, joined, sided, headed, transformed, switching, keeping, staged, Template, Templates, collection_argument, gathered, releasing, editing, Collection, without_members, used, added, dropped, kept, chosen}
+use Rattle.sf_mean.specs.Lives.{Step, wait_of, input_of, Life, Process, closure, resumed, Environment, empty, known, running, passing, process_of, base, process_started, scope_around, bind, after, frozen, first_input, collected, Members, no_members, member, members_of, each_frozen}
+use Rattle.sf_mean.specs.Formulas.{occurring, formula, is_high}
+use Rattle.sf_mean.specs.Meaning.{Network, Readings, Outcome, gave, faulted, as_outcome, answered_by, newest_or, recorded, Cost, no_cost, over, over_first, one_term, text_cost, last_event, Made, process_made, argument_process, argued, process_called, referred, make, entered_cost, arguments_cost, Watched, itself, observed, Takeover, Standing, waits, fired, stands_after, whenever, body_of, body_with, Gives, gives, Outputs, not_begun, and_gave, Sample, of_constants, of_form, of_resumed, Form, of_primitive, of_reference, of_join, of_side, of_loop, of_initialized, of_replaced, of_followed, of_transformed, of_switch, of_keeping, of_recurring, of_stages, what_runs, Next, goes_on, stops, Loops, no_loop, and_looped, Sees, beside_values, by_observer, Since, at_start, watched, had_fired, SwitchTurn, while_waiting, as_body, Switched, after_fault, after_value, Fires, no_event_yet, event_now, combined, both_costs, members_made, collection_cost, body_with_members, event_beside, unless_faulted, without_event, Edit, edit_of, since_edit, edited, which_run, of_gathered, of_releasing, of_editing, Each, no_more, one_more, Others, others_go_on, others_stop, Edited, no_edit, edit_failed, edit_now, observed_members, by_members_observer, Tables, no_tables, and_table}
+use Rattle.sf_value.specs.Keys.{equal_keys}
+use Rattle.sf_operator.specs.FunctionForms.{value_of_key}
+use Rattle.sf_mean.specs.Collections.{as_key, add, drop, keep, collect, with_row}
+use Rattle.sf_mean.proofs.TypedProcesses.{collected_as}
 use Rattle.sf_term.specs.Parameters.{Bindings}
 use Rattle.sf_rewrite.specs.Laws.{Laws, unchanged}
 use Rattle.sf_rewrite.specs.Plans.{is_started}
@@ -48,12 +52,25 @@ mutual
     same_transformed : {f : Function} {t t' : Term} → Alike d t t' → Formed d (transformed f t) (transformed f t')
     same_switch : {w : Switching} {t t' u u' : Term} {p : Pattern} → Alike d t t' → Alike d u u' → Formed d (switching w t p u) (switching w t' p u')
     same_keeping : {w : Observation} {t t' q q' u u' : Term} {k : Name} {p : Pattern} → Alike d t t' → Alike d q q' → Alike d u u' → Formed d (keeping w t q k p u) (keeping w t' q' k p u')
+    same_gathered : {i i' : Collection} → AlikeCollection d i i' → Formed d (gathered i) (gathered i')
+    same_releasing : {w : Observation} {i i' : Collection} {q q' u u' : Term} {k : Name} {p : Pattern} → AlikeCollection d i i' → Alike d q q' → Alike d u u' → Formed d (releasing w i q k p u) (releasing w i' q' k p u')
+    same_editing : {w : Observation} {i i' u u' : Collection} {k : Name} {p : Pattern} → AlikeCollection d i i' → AlikeCollection d u u' → Formed d (editing w i k p u) (editing w i' k p u')
+
+  -- collections of processes of the same meaning
+  pub data AlikeCollection (d : Bool) : Collection → Collection → Type 0 where
+    alike_without : {k : KeyKind} {t : Kind} → AlikeCollection d (without_members k t) (without_members k t)
+    alike_used : {x : Name} → AlikeCollection d (used x) (used x)
+    alike_added : {i i' : Collection} {j : Expression} {t t' : Term} → AlikeCollection d i i' → Alike d t t' → AlikeCollection d (added i j t) (added i' j t')
+    alike_dropped : {i i' : Collection} {j : Expression} → AlikeCollection d i i' → AlikeCollection d (dropped i j) (dropped i' j)
+    alike_kept : {i i' : Collection} {f : Function} → AlikeCollection d i i' → AlikeCollection d (kept i f) (kept i' f)
+    alike_chosen : {j : Expression} {a a' b b' : Collection} → AlikeCollection d a a' → AlikeCollection d b b' → AlikeCollection d (chosen j a b) (chosen j a' b')
 
   -- arguments that are processes of the same meaning
   pub data AlikeArguments (d : Bool) : Arguments → Arguments → Type 0 where
     alike_none : AlikeArguments d no_arguments no_arguments
     alike_value : {i : Expression} {vs us : Arguments} → AlikeArguments d vs us → AlikeArguments d (value_argument i vs) (value_argument i us)
     alike_named : {w : Start} {k : Name} {vs us : Arguments} → AlikeArguments d vs us → AlikeArguments d (process_argument (reference (started w k)) vs) (process_argument (reference (started w k)) us)
+    alike_collection : {i i' : Collection} {vs us : Arguments} → AlikeCollection d i i' → AlikeArguments d vs us → AlikeArguments d (collection_argument i vs) (collection_argument i' us)
     alike_closed : {t u : Term} {vs us : Arguments} → is_started t ≡ false → Alike d t u → AlikeArguments d vs us → AlikeArguments d (process_argument t vs) (closed_argument u us)
     alike_opened : {t u : Term} {vs us : Arguments} → is_started u ≡ false → Alike d t u → AlikeArguments d vs us → AlikeArguments d (closed_argument t vs) (process_argument u us)
     alike_terms : {t u : Term} {vs us : Arguments} → is_started t ≡ false → is_started u ≡ false → Alike d t u → AlikeArguments d vs us → AlikeArguments d (process_argument t vs) (process_argument u us)
@@ -63,10 +80,15 @@ mutual
     alike_closure : {t t' : Term} {e e' : Environment} → Alike d t t' → AlikeNames d e e' → AlikeProcess d (closure t e) (closure t' e')
     alike_resumed : {P P' : Process} {h : Life} {w : ℕ} → AlikeProcess d P P' → AlikeProcess d (resumed P h w) (resumed P' h w)
 
+  pub data AlikeMembers (d : Bool) : Members → Members → Type 0 where
+    alike_no_member : AlikeMembers d no_members no_members
+    alike_member : {k : KeyData} {P P' : Process} {ms ms' : Members} → AlikeProcess d P P' → AlikeMembers d ms ms' → AlikeMembers d (member k P ms) (member k P' ms')
+
   pub data AlikeNames (d : Bool) : Environment → Environment → Type 0 where
     alike_empty : AlikeNames d empty empty
     alike_known : {x : Name} {v : Data} {e e' : Environment} → AlikeNames d e e' → AlikeNames d (known x v e) (known x v e')
     alike_running : {x : Name} {P P' : Process} {e e' : Environment} → AlikeProcess d P P' → AlikeNames d e e' → AlikeNames d (running x P e) (running x P' e')
+    alike_collected : {x : Name} {ms ms' : Members} {e e' : Environment} → AlikeMembers d ms ms' → AlikeNames d e e' → AlikeNames d (collected x ms e) (collected x ms' e')
 
 -- a template with a term of the same meaning
 pub record AlikeTemplate (d : Bool) (s t : Template) : Type 0 where
@@ -82,6 +104,7 @@ scopes : {d : Bool} {φ ψ : AnswersByName} {e e' : Environment} → ψ ≡ φ �
 scopes same alike_empty = ap no_names (sym same)
 scopes same (alike_known {x = x} {v = v} E) = ap (value_name x v) (scopes same E)
 scopes same (alike_running {x = x} R E) = ap (other_name x) (scopes same E)
+scopes same (alike_collected {x = x} M E) = ap (other_name x) (scopes same E)
 
 alike_bind : {d : Bool} (p : Pattern) (v : Data) {e e' : Environment} → AlikeNames d e e' → AlikeNames d (bind p v e) (bind p v e')
 alike_bind unnamed v E = E
@@ -93,18 +116,15 @@ alike_passing : (d : Bool) → AlikeProcess d passing passing
 alike_passing true = alike_closure (alike (to_plan unchanged) same_primitive (to_plan unchanged)) alike_empty
 alike_passing false = alike_closure (alike (from_plan unchanged) same_primitive (from_plan unchanged)) alike_empty
 
+process_by_test : {d : Bool} {P P' Q Q' : Process} (b : Bool) → AlikeProcess d P P' → AlikeProcess d Q Q' → AlikeProcess d (cond b P Q) (cond b P' Q')
+process_by_test true A B = A
+process_by_test false A B = B
+
 alike_process : {d : Bool} (k : Name) {e e' : Environment} → AlikeNames d e e' → AlikeProcess d (process_of k e) (process_of k e')
 alike_process {d} k alike_empty = alike_passing d
-alike_process {d} k (alike_known {x = x} {e = e} {e' = e'} E) = by_test (bytes_eq k x) (alike_process k E)
-  where
-    by_test : (b : Bool) → AlikeProcess d (process_of k e) (process_of k e') → AlikeProcess d (cond b passing (process_of k e)) (cond b passing (process_of k e'))
-    by_test true R = alike_passing d
-    by_test false R = R
-alike_process {d} k (alike_running {x = x} {P = P} {P' = P'} {e = e} {e' = e'} H E) = by_test (bytes_eq k x) (alike_process k E)
-  where
-    by_test : (b : Bool) → AlikeProcess d (process_of k e) (process_of k e') → AlikeProcess d (cond b P (process_of k e)) (cond b P' (process_of k e'))
-    by_test true R = H
-    by_test false R = R
+alike_process {d} k (alike_known {x = x} E) = process_by_test (bytes_eq k x) (alike_passing d) (alike_process k E)
+alike_process k (alike_running {x = x} H E) = process_by_test (bytes_eq k x) H (alike_process k E)
+alike_process {d} k (alike_collected {x = x} M E) = process_by_test (bytes_eq k x) (alike_passing d) (alike_process k E)
 
 -- where they began
 alike_base : {d : Bool} {P P' : Process} → AlikeProcess d P P' → AlikeProcess d (base P) (base P')
@@ -118,6 +138,106 @@ alike_started Fresh k E = alike_base (alike_process k E)
 alike_frozen : {d : Bool} {P P' : Process} (h : Life) (w : ℕ) → AlikeProcess d P P' → AlikeProcess d (frozen P h w) (frozen P' h w)
 alike_frozen [] w R = R
 alike_frozen (s ∷ h) w R = alike_resumed R
+
+-- ## Members
+
+alike_each_frozen : {d : Bool} {ms ms' : Members} (h : Life) (w : ℕ) → AlikeMembers d ms ms' → AlikeMembers d (each_frozen ms h w) (each_frozen ms' h w)
+alike_each_frozen h w alike_no_member = alike_no_member
+alike_each_frozen h w (alike_member R M) = alike_member (alike_frozen h w R) (alike_each_frozen h w M)
+
+members_by_test : {d : Bool} {ms ms' qs qs' : Members} (b : Bool) → AlikeMembers d ms ms' → AlikeMembers d qs qs' → AlikeMembers d (cond b ms qs) (cond b ms' qs')
+members_by_test true M N = M
+members_by_test false M N = N
+
+alike_members : {d : Bool} (x : Name) {e e' : Environment} → AlikeNames d e e' → AlikeMembers d (members_of x e) (members_of x e')
+alike_members x alike_empty = alike_no_member
+alike_members x (alike_known {x = y} E) = members_by_test (bytes_eq x y) alike_no_member (alike_members x E)
+alike_members x (alike_running {x = y} H E) = members_by_test (bytes_eq x y) alike_no_member (alike_members x E)
+alike_members x (alike_collected {x = y} M E) = members_by_test (bytes_eq x y) M (alike_members x E)
+
+alike_add : {d : Bool} (k : KeyData) {P P' : Process} {ms ms' : Members} → AlikeProcess d P P' → AlikeMembers d ms ms' → AlikeMembers d (add k P ms) (add k P' ms')
+alike_add k R alike_no_member = alike_member R alike_no_member
+alike_add k R (alike_member {k = l} S M) = members_by_test (equal_keys k l) (alike_member R M) (alike_member S (alike_add k R M))
+
+alike_drop : {d : Bool} (k : KeyData) {ms ms' : Members} → AlikeMembers d ms ms' → AlikeMembers d (drop k ms) (drop k ms')
+alike_drop k alike_no_member = alike_no_member
+alike_drop k (alike_member {k = l} S M) = members_by_test (equal_keys k l) M (alike_member S (alike_drop k M))
+
+-- two answers with members alike, or the same fault
+data AlikeGathered (d : Bool) : Evaluated Members → Evaluated Members → Type 0 where
+  gathered_alike : {ms ms' : Members} → AlikeMembers d ms ms' → AlikeGathered d (answer ms) (answer ms')
+  gathered_failed : {x : ValueFault} → AlikeGathered d (failed x) (failed x)
+
+after_gathered : {d : Bool} {a b : Evaluated Members} (f g : Members → Evaluated Members) → AlikeGathered d a b → ((ms ms' : Members) → AlikeMembers d ms ms' → AlikeGathered d (f ms) (g ms')) → AlikeGathered d (a >>= f) (b >>= g)
+after_gathered f g (gathered_alike M) h = h _ _ M
+after_gathered f g gathered_failed h = gathered_failed
+
+value_gathered : {d : Bool} (v : Evaluated Data) (f g : Data → Evaluated Members) → ((x : Data) → AlikeGathered d (f x) (g x)) → AlikeGathered d (v >>= f) (v >>= g)
+value_gathered (answer x) f g h = h x
+value_gathered (failed x) f g h = gathered_failed
+
+alike_keep : {d : Bool} (f : Data → Evaluated Data) {ms ms' : Members} → AlikeMembers d ms ms' → AlikeGathered d (keep f ms) (keep f ms')
+alike_keep f alike_no_member = gathered_alike alike_no_member
+alike_keep {d} f (alike_member {k = k} {P = P} {P' = P'} {ms = ms} {ms' = ms'} R M) =
+    let rest : Process → Data → Members → Evaluated Members = λ P b ms. answer (cond (is_high b) (member k P ms) ms) in
+    let N = alike_keep f M in
+    value_gathered (f (value_of_key k)) (λ b. keep f ms >>= rest P b) (λ b. keep f ms' >>= rest P' b)
+    (λ b. after_gathered (rest P b) (rest P' b) N (λ qs qs' Q. gathered_alike (members_by_test (is_high b) (alike_member R Q) Q)))
+
+gathered_by_test : {d : Bool} {p p' q q' : Evaluated Members} (b : Bool) → AlikeGathered d p p' → AlikeGathered d q q' → AlikeGathered d (cond b p q) (cond b p' q')
+gathered_by_test true M N = M
+gathered_by_test false M N = N
+
+module _ {d : Bool} {φ ψ : AnswersByName} (same : ψ ≡ φ) where
+  alike_collect : {e e' : Environment} {i i' : Collection} → AlikeNames d e e' → AlikeCollection d i i' → AlikeGathered d (collect φ i e) (collect ψ i' e')
+  alike_collect E alike_without = gathered_alike alike_no_member
+  alike_collect E (alike_used {x = x}) = gathered_alike (alike_members x E)
+  alike_collect {e} {e'} E (alike_added {i = i} {i' = i'} {j = j} {t = t} {t' = t'} I T) =
+      let add_to : Term → Environment → Members → Data → Evaluated Members = λ t e ms v. answer (add (as_key v) (closure t e) ms) in
+      let N : Scope → Type 0 = λ sc. AlikeGathered d (collect φ i e >>= λ ms. eval j (scope_around φ e) >>= add_to t e ms) (collect ψ i' e' >>= λ ms. eval j sc >>= add_to t' e' ms) in
+      let scope = scope_around φ e in
+      subst N (scopes same E)
+      (after_gathered (λ ms. eval j scope >>= add_to t e ms) (λ ms. eval j scope >>= add_to t' e' ms) (alike_collect E I)
+      (λ ms ms' M. value_gathered (eval j scope) (add_to t e ms) (add_to t' e' ms') (λ v. gathered_alike (alike_add (as_key v) (alike_closure T E) M))))
+  alike_collect {e} {e'} E (alike_dropped {i = i} {i' = i'} {j = j} I) =
+      let drop_of : Members → Data → Evaluated Members = λ ms v. answer (drop (as_key v) ms) in
+      let N : Scope → Type 0 = λ sc. AlikeGathered d (collect φ i e >>= λ ms. eval j (scope_around φ e) >>= drop_of ms) (collect ψ i' e' >>= λ ms. eval j sc >>= drop_of ms) in
+      let scope = scope_around φ e in
+      subst N (scopes same E)
+      (after_gathered (λ ms. eval j scope >>= drop_of ms) (λ ms. eval j scope >>= drop_of ms) (alike_collect E I)
+      (λ ms ms' M. value_gathered (eval j scope) (drop_of ms) (drop_of ms') (λ v. gathered_alike (alike_drop (as_key v) M))))
+  alike_collect {e} {e'} E (alike_kept {i = i} {i' = i'} {f = f} I) =
+      let N : Scope → Type 0 = λ sc. AlikeGathered d (collect φ i e >>= λ ms. keep (λ x. apply f x (scope_around φ e)) ms) (collect ψ i' e' >>= λ ms. keep (λ x. apply f x sc) ms) in
+      let asked : Members → Evaluated Members = λ ms. keep (λ x. apply f x (scope_around φ e)) ms in
+      subst N (scopes same E) (after_gathered asked asked (alike_collect E I) (λ ms ms' M. alike_keep (λ x. apply f x (scope_around φ e)) M))
+  alike_collect {e} {e'} E (alike_chosen {j = j} {a = a} {a' = a'} {b = b} {b' = b'} A B) =
+      let one : Data → Evaluated Members = λ v. cond (is_high v) (collect φ a e) (collect φ b e) in
+      let other : Data → Evaluated Members = λ v. cond (is_high v) (collect ψ a' e') (collect ψ b' e') in
+      let N : Scope → Type 0 = λ sc. AlikeGathered d (eval j (scope_around φ e) >>= one) (eval j sc >>= other) in
+      let K = alike_collect E A in
+      let L = alike_collect E B in
+      subst N (scopes same E) (value_gathered (eval j (scope_around φ e)) one other (λ v. gathered_by_test (is_high v) K L))
+
+-- what a form of members is made with
+abbrev gathered_as : Evaluated Members → Evaluated Made
+gathered_as q = q >>= λ ms. answer (members_made ms)
+
+gathered_fault : (q : Evaluated Members) {x : ValueFault} → gathered_as q ≡ failed x → q ≡ failed x
+gathered_fault (answer ms) h = absurd cc
+gathered_fault (failed y) h = cc
+
+abbrev members_or : Members → Evaluated Members → Members
+members_or ms (answer qs) = qs
+members_or ms (failed x) = ms
+
+-- what an answer is like that is like another one
+gathered_like : {d : Bool} {ms : Members} {q q' : Evaluated Members} → q ≡ answer ms → AlikeGathered d q q' → (ms' : Members) × AlikeMembers d ms ms' × (q' ≡ answer ms')
+gathered_like {d} {ms} h (gathered_alike {ms = qs} {ms' = qs'} M) = (qs', subst (λ ms. AlikeMembers d ms qs') (ap (members_or ms) h) M, refl)
+gathered_like h gathered_failed = absurd cc
+
+gathered_fault_like : {d : Bool} {x : ValueFault} {q q' : Evaluated Members} → q ≡ failed x → AlikeGathered d q q' → q' ≡ failed x
+gathered_fault_like h (gathered_alike M) = absurd cc
+gathered_fault_like h gathered_failed = cc
 
 -- ## What is referred to
 
@@ -142,11 +262,18 @@ closed_by (headed k i t) e h = refl
 closed_by (transformed f t) e h = refl
 closed_by (switching w t p u) e h = refl
 closed_by (keeping w t q k p u) e h = refl
+closed_by (gathered i) e h = refl
+closed_by (releasing w i q k p u) e h = refl
+closed_by (editing w i k p u) e h = refl
 closed_by (staged x f g) e h = refl
 
 after_each : {d : Bool} (v : Evaluated Data) (f g : Data → Evaluated Environment) → ((x : Data) → AlikeArgued d (f x) (g x)) → AlikeArgued d (v >>= f) (v >>= g)
 after_each (answer x) f g h = h x
 after_each (failed x) f g h = argued_failed
+
+after_members : {d : Bool} {a b : Evaluated Members} (f g : Members → Evaluated Environment) → AlikeGathered d a b → ((ms ms' : Members) → AlikeMembers d ms ms' → AlikeArgued d (f ms) (g ms')) → AlikeArgued d (a >>= f) (b >>= g)
+after_members f g (gathered_alike M) h = h _ _ M
+after_members f g gathered_failed h = argued_failed
 
 alike_made : {d : Bool} {t u : Term} {v w : Evaluated Environment} → Alike d t u → AlikeArgued d v w → AlikeReferred d (v >>= λ c. answer (closure t c)) (w >>= λ c. answer (closure u c))
 alike_made T (argued_alike C) = referred_alike (alike_closure T C)
@@ -160,6 +287,8 @@ module _ {d : Bool} {φ ψ : AnswersByName} (same : ψ ≡ φ) {e e' : Environme
       let N : Scope → Type 0 = λ sc. AlikeArgued d (eval i (scope_around φ e) >>= λ v. argued φ qs vs e (known q.0 v c)) (eval i sc >>= λ v. argued ψ qs us e' (known q.0 v c')) in
       subst N (scopes same E) (after_each (eval i (scope_around φ e)) (λ v. argued φ qs vs e (known q.0 v c)) (λ v. argued ψ qs us e' (known q.0 v c')) (λ v. alike_argued qs A (alike_known C)))
   alike_argued (q ∷ qs) (alike_named {w = w} {k = k} A) C = alike_argued qs A (alike_running (alike_started w k E) C)
+  alike_argued (q ∷ qs) (alike_collection {vs = vs} {us = us} I A) {c} {c'} C =
+      after_members (λ ms. argued φ qs vs e (collected q.0 ms c)) (λ ms. argued ψ qs us e' (collected q.0 ms c')) (alike_collect same E I) (λ ms ms' M. alike_argued qs A (alike_collected M C))
   alike_argued (q ∷ qs) (alike_closed {t = t} {u = u} h T A) C = alike_argued qs A (alike_running (subst (λ P. AlikeProcess d P (closure u e')) (sym (closed_by t e h)) (alike_closure T E)) C)
   alike_argued (q ∷ qs) (alike_opened {t = t} {u = u} h T A) C = alike_argued qs A (alike_running (subst (λ P. AlikeProcess d (closure t e) P) (sym (closed_by u e' h)) (alike_closure T E)) C)
   alike_argued (q ∷ qs) (alike_terms {t = t} {u = u} h k T A) C =
@@ -234,6 +363,11 @@ data AlikeStanding (d : Bool) : Standing → Standing → Type 0 where
   alike_waits : AlikeStanding d waits waits
   alike_fired : {P P' : Process} {M : Life} → AlikeProcess d P P' → AlikeStanding d (fired P M) (fired P' M)
 
+-- what is watched with its observer, beside what is like both
+data AlikeWatched (d : Bool) : Watched → Watched → Type 0 where
+  alike_observed : {P P' : Process} {q q' : Term} {e e' : Environment} → AlikeProcess d P P' → Alike d q q' → AlikeNames d e e' → AlikeWatched d (observed P q e) (observed P' q' e')
+  alike_observed_members : {ms ms' : Members} {q q' : Term} {e e' : Environment} → AlikeMembers d ms ms' → Alike d q q' → AlikeNames d e e' → AlikeWatched d (observed_members ms q e) (observed_members ms' q' e')
+
 abbrev AlikeTakeover : Bool → Takeover → Takeover → Type 0
 AlikeTakeover d B B' = (s : Step) (L : Life) (v : Data) → AlikeProcess d (B s L v) (B' s L v)
 
@@ -244,6 +378,37 @@ alike_after B B' T s L (Some v) = alike_fired (T s L v)
 -- what takes over with its source kept
 keeping_alike : {d : Bool} {t t' u u' : Term} {e e' : Environment} (k : Name) (p : Pattern) → Alike d t t' → Alike d u u' → AlikeNames d e e' → AlikeTakeover d (body_with k (closure t e) p u e) (body_with k (closure t' e') p u' e')
 keeping_alike k p T U E s L v = alike_closure U (alike_bind p v (alike_running (alike_frozen L (wait_of s) (alike_closure T E)) E))
+
+-- what takes over with members kept
+releasing_alike : {d : Bool} {ms ms' : Members} {u u' : Term} {e e' : Environment} (k : Name) (p : Pattern) → AlikeMembers d ms ms' → Alike d u u' → AlikeNames d e e' → AlikeTakeover d (body_with_members k ms p u e) (body_with_members k ms' p u' e')
+releasing_alike k p M U E s L v = alike_closure U (alike_bind p v (alike_collected (alike_each_frozen L (wait_of s) M) E))
+
+-- ## Edits
+
+abbrev AlikeEdit : Bool → Edit → Edit → Type 0
+AlikeEdit d E E' = (L : Life) (s : Step) (ms ms' : Members) (v : Data) → AlikeMembers d ms ms' → AlikeGathered d (E L s ms v) (E' L s ms' v)
+
+edit_alike : {d : Bool} {φ ψ : AnswersByName} {e e' : Environment} {u u' : Collection} (same : ψ ≡ φ) (k : Name) (p : Pattern) → AlikeNames d e e' → AlikeCollection d u u' → AlikeEdit d (edit_of φ k p u e) (edit_of ψ k p u' e')
+edit_alike same k p E U L s ms ms' v M = alike_collect same (alike_bind p v (alike_collected (alike_each_frozen L (wait_of s) M) E)) U
+
+module _ {d : Bool} (E E' : Edit) (A : AlikeEdit d E E') where
+  edited_alike : (L : Life) (s : Step) (qs qs' : Members) (q : Option Data) → AlikeMembers d qs qs' → AlikeGathered d (edited (E L s qs) qs q) (edited (E' L s qs') qs' q)
+  edited_alike L s qs qs' None M = gathered_alike M
+  edited_alike L s qs qs' (Some v) M = A L s qs qs' v M
+
+  which_alike : {ms ms' : Members} (L : Life) → AlikeMembers d ms ms' → AlikeGathered d (which_run E ms L) (which_run E' ms' L)
+  which_alike [] M = gathered_alike M
+  which_alike (s ∷ L) M =
+      after_gathered (λ qs. edited (E (since_edit L) s qs) qs (event_beside s)) (λ qs. edited (E' (since_edit L) s qs) qs (event_beside s)) (which_alike L M) (λ qs qs' Q. edited_alike (since_edit L) s qs qs' (event_beside s) Q)
+
+-- two edits alike, or none
+data AlikeEdited (d : Bool) : Option (Evaluated Members) → Option (Evaluated Members) → Type 0 where
+  neither_edits : AlikeEdited d None None
+  both_edit : {a b : Evaluated Members} → AlikeGathered d a b → AlikeEdited d (Some a) (Some b)
+
+edits_alike : {d : Bool} (f g : Data → Evaluated Members) (q : Option Data) → ((v : Data) → AlikeGathered d (f v) (g v)) → AlikeEdited d (option_map f q) (option_map g q)
+edits_alike f g None h = neither_edits
+edits_alike f g (Some v) h = both_edit (h v)
 
 -- the texts' costs
 law_texts : {d : Bool} {t u : Term} → Law d t u → Below d (text_cost t) (text_cost u)
@@ -268,11 +433,23 @@ mutual
   formed_texts (same_transformed A) = below_over _ _ (alike_texts A)
   formed_texts (same_switch A B) = below_over _ _ (alike_texts A)
   formed_texts (same_keeping A C B) = below_over _ _ (below_both _ _ _ _ (alike_texts A) (alike_texts C))
+  formed_texts (same_gathered I) = below_over _ _ (collection_texts I)
+  formed_texts (same_releasing I C B) = below_over _ _ (below_both _ _ _ _ (collection_texts I) (alike_texts C))
+  formed_texts (same_editing I J) = below_over _ _ (collection_texts I)
+
+  collection_texts : {d : Bool} {i i' : Collection} → AlikeCollection d i i' → Below d (collection_cost i) (collection_cost i')
+  collection_texts {d} alike_without = below_same d no_cost
+  collection_texts {d} alike_used = below_same d no_cost
+  collection_texts (alike_added I T) = below_both _ _ _ _ (collection_texts I) (alike_texts T)
+  collection_texts (alike_dropped I) = collection_texts I
+  collection_texts (alike_kept I) = collection_texts I
+  collection_texts (alike_chosen A B) = below_both _ _ _ _ (collection_texts A) (collection_texts B)
 
   arguments_texts : {d : Bool} {vs us : Arguments} → AlikeArguments d vs us → Below d (arguments_cost vs) (arguments_cost us)
   arguments_texts {d} alike_none = below_same d no_cost
   arguments_texts (alike_value A) = arguments_texts A
   arguments_texts {d} (alike_named A) = below_both _ _ _ _ (below_same d one_term) (arguments_texts A)
+  arguments_texts (alike_collection I A) = below_both _ _ _ _ (collection_texts I) (arguments_texts A)
   arguments_texts (alike_closed h T A) = below_both _ _ _ _ (alike_texts T) (arguments_texts A)
   arguments_texts (alike_opened h T A) = below_both _ _ _ _ (alike_texts T) (arguments_texts A)
   arguments_texts (alike_terms h k T A) = below_both _ _ _ _ (alike_texts T) (arguments_texts A)
@@ -388,6 +565,15 @@ module _ (d : Bool) (n n' : Network) (all : AlikeAll d n.templates n'.templates)
   go_keeping : {w : Observation} {t t' q q' u u' : Term} {k : Name} {p : Pattern} → Alike d t t' → Alike d q q' → Alike d u u' → Goes (keeping w t q k p u) (keeping w t' q' k p u')
   go_keeping T H U e e' E s L ys o c P (at_leaf h A) = go_leaf h h (same_keeping T H U) E A
 
+  go_gathered : {i i' : Collection} → AlikeCollection d i i' → Goes (gathered i) (gathered i')
+  go_gathered I e e' E s L ys o c P (at_leaf h A) = go_leaf h h (same_gathered I) E A
+
+  go_releasing : {w : Observation} {i i' : Collection} {q q' u u' : Term} {k : Name} {p : Pattern} → AlikeCollection d i i' → Alike d q q' → Alike d u u' → Goes (releasing w i q k p u) (releasing w i' q' k p u')
+  go_releasing I H U e e' E s L ys o c P (at_leaf h A) = go_leaf h h (same_releasing I H U) E A
+
+  go_editing : {w : Observation} {i i' u u' : Collection} {k : Name} {p : Pattern} → AlikeCollection d i i' → AlikeCollection d u u' → Goes (editing w i k p u) (editing w i' k p u')
+  go_editing I U e e' E s L ys o c P (at_leaf h A) = go_leaf h h (same_editing I U) E A
+
   go_turn : {t u v w : Term} → Law d t u → Goes u v → Law d v w → Goes t w
   go_turn A S C e e' E s L ys o c P F =
       let P' = parts_along Q one_Q (law_sound Q one_Q A) P in
@@ -413,12 +599,27 @@ module _ (d : Bool) (n n' : Network) (all : AlikeAll d n.templates n'.templates)
     go_form (same_transformed A) = go_transformed (go A) (alike_texts A)
     go_form (same_switch A B) = go_switch (go A) (go B)
     go_form (same_keeping A C B) = go_keeping A C B
+    go_form (same_gathered I) = go_gathered I
+    go_form (same_releasing I C B) = go_releasing I C B
+    go_form (same_editing I U) = go_editing I U
 
   -- what the steps of the network are made into
   mutual
     data Ready : Process → Step → Life → Outcome → Cost → Type 0 where
       ready_closure : {t : Term} {e : Environment} {s : Step} {L : Life} {o : Outcome} {c : Cost} → At Q t e s L o c → Ready (closure t e) s L o c
       ready_resumed : {P : Process} {h : Life} {w : ℕ} {s : Step} {L : Life} {o : Outcome} {c : Cost} → ReadyNow P (after h w (s ∷ L)) o c → Ready (resumed P h w) s L o c
+
+    data ReadyEach : Members → Step → Life → Outcome → Cost → Type 0 where
+      ready_none : {s : Step} {L : Life} → ReadyEach no_members s L (gave (table no_rows) []) no_cost
+      ready_one : {k : KeyData} {P : Process} {ms : Members} {s : Step} {L : Life} {o o' : Outcome} {c c' : Cost} → ReadyNow P (s ∷ L) o c → ReadyOthers o ms s L o' c' → ReadyEach (member k P ms) s L (combined (with_row k) o o') (both_costs c c')
+
+    data ReadyOthers : Outcome → Members → Step → Life → Outcome → Cost → Type 0 where
+      ready_others : {ms : Members} {s : Step} {L : Life} {y : Data} {r : Readings} {o : Outcome} {c : Cost} → ReadyEach ms s L o c → ReadyOthers (gave y r) ms s L o c
+      ready_stopped : {ms : Members} {s : Step} {L : Life} {x : ValueFault} → ReadyOthers (faulted x) ms s L (faulted x) no_cost
+
+    data ReadyTables : Members → Life → List Data → Type 0 where
+      ready_no_tables : {ms : Members} → ReadyTables ms [] []
+      ready_table : {ms : Members} {s : Step} {L : Life} {y : Data} {r : Readings} {ys : List Data} {c : Cost} → ReadyTables ms L ys → ReadyEach ms s L (gave y r) c → ReadyTables ms (s ∷ L) (y ∷ ys)
 
     data ReadyAll : Process → Life → List Data → Type 0 where
       all_begins : {P : Process} → ReadyAll P [] []
@@ -453,15 +654,27 @@ module _ (d : Bool) (n n' : Network) (all : AlikeAll d n.templates n'.templates)
     meet_gives : {L : Life} {o : Outcome} {c : Cost} → ReadyNow P L o c → Lowered d (Gives n' P' L o) c
     meet_gives (ready_now A B) = elim (M _ _ _ _ _ A B) [ lowered B' h ↦ lowered (gives (meet_outputs A) B') h ]
 
+  meets_others : {ms ms' : Members} {p : Outcome} {s : Step} {L : Life} {o : Outcome} {c : Cost} → ((o : Outcome) (c : Cost) → ReadyEach ms s L o c → Lowered d (Each n' ms' s L o) c) → ReadyOthers p ms s L o c → Lowered d (Others n' p ms' s L o) c
+  meets_others M (ready_others B) = elim (M _ _ B) [ lowered B' h ↦ lowered (others_go_on B') h ]
+  meets_others M ready_stopped = lowered others_stop (below_same d _)
+
   meets : {P P' : Process} → AlikeProcess d P P' → Meets P P'
   meets (alike_closure {e = e} {e' = e'} T E) s L ys o c A (ready_closure B) = elim (go T e e' E s L ys o c (opened_all A) B) [ lowered B' h ↦ lowered (closed n' B') h ]
   meets (alike_resumed R) s L ys o c A (ready_resumed B) = elim (meet_gives (meets R) B) [ lowered B' h ↦ lowered (of_resumed B') h ]
+
+  meets_each : {ms ms' : Members} → AlikeMembers d ms ms' → {s : Step} {L : Life} {o : Outcome} {c : Cost} → ReadyEach ms s L o c → Lowered d (Each n' ms' s L o) c
+  meets_each alike_no_member ready_none = lowered no_more (below_same d _)
+  meets_each (alike_member R M) (ready_one A B) = elim (meet_gives (meets R) A) [ lowered A' h ↦ elim (meets_others (λ o c C. meets_each M C) B) [ lowered B' k ↦ lowered (one_more A' B') (below_both _ _ _ _ h k) ] ]
 
   meet : {P P' : Process} → AlikeProcess d P P' → {L : Life} {o : Outcome} {c : Cost} → ReadyNow P L o c → Lowered d (Gives n' P' L o) c
   meet R A = meet_gives (meets R) A
 
   meet_all : {P P' : Process} → AlikeProcess d P P' → {L : Life} {ys : List Data} → ReadyAll P L ys → Outputs n' P' L ys
   meet_all R A = meet_outputs (meets R) A
+
+  meet_tables : {ms ms' : Members} → AlikeMembers d ms ms' → {L : Life} {ys : List Data} → ReadyTables ms L ys → Tables n' ms' L ys
+  meet_tables M ready_no_tables = no_tables
+  meet_tables M (ready_table A B) = elim (meets_each M B) [ lowered B' h ↦ and_table (meet_tables M A) B' ]
 
   -- what is referred to is like what a reference like it refers to there
   refers : {r : Reference} {u : Term} {e e' : Environment} → Formed d (reference r) u → AlikeNames d e e' → (r' : Reference) × (u ≡ reference r') × AlikeReferred d (referred n r e) (referred n' r' e')
@@ -477,6 +690,18 @@ module _ (d : Bool) (n n' : Network) (all : AlikeAll d n.templates n'.templates)
           let N : Term → Type 0 = λ u. Lowered d ((Leaf n').leaf u e' s [] (faulted x)) one_term in
           subst N (sym like.1) (lowered (of_constants (ap made_as (fault_like (referred_fault (referred n r e) h) like.2))) (below_same d one_term))
 
+  -- a form whose collection fails
+  gathered_fails : {i : Collection} {v : Term} {e e' : Environment} {s : Step} {x : ValueFault} → make n (gathered i) e (input_of s) ≡ failed x → Formed d (gathered i) v → AlikeNames d e e' → Lowered d ((Leaf n').leaf v e' s [] (faulted x)) one_term
+  gathered_fails {i} {e = e} h (same_gathered I) E = lowered (of_constants (ap gathered_as (gathered_fault_like (gathered_fault (collect n.functions i e) h) (alike_collect same E I)))) (below_same d one_term)
+
+  releasing_fails : {w : Observation} {i : Collection} {q u : Term} {k : Name} {p : Pattern} {v : Term} {e e' : Environment} {s : Step} {x : ValueFault} → make n (releasing w i q k p u) e (input_of s) ≡ failed x → Formed d (releasing w i q k p u) v → AlikeNames d e e'
+      → Lowered d ((Leaf n').leaf v e' s [] (faulted x)) (entered_cost (releasing w i q k p u))
+  releasing_fails {i = i} {e = e} h (same_releasing I C B) E = lowered (of_constants (ap gathered_as (gathered_fault_like (gathered_fault (collect n.functions i e) h) (alike_collect same E I)))) (below_over _ _ (alike_texts C))
+
+  editing_fails : {w : Observation} {i u : Collection} {k : Name} {p : Pattern} {v : Term} {e e' : Environment} {s : Step} {x : ValueFault} → make n (editing w i k p u) e (input_of s) ≡ failed x → Formed d (editing w i k p u) v → AlikeNames d e e'
+      → Lowered d ((Leaf n').leaf v e' s [] (faulted x)) one_term
+  editing_fails {i = i} {e = e} h (same_editing I U) E = lowered (of_constants (ap gathered_as (gathered_fault_like (gathered_fault (collect n.functions i e) h) (alike_collect same E I)))) (below_same d one_term)
+
   -- a form whose constants fail
   failing : (t : Term) {e : Environment} {s : Step} {x : ValueFault} → make n t e (input_of s) ≡ failed x → At Q t e s [] (faulted x) (entered_cost t)
   failing (primitive p) h = absurd cc
@@ -490,6 +715,9 @@ module _ (d : Bool) (n n' : Network) (all : AlikeAll d n.templates n'.templates)
   failing (transformed f t) {e} {s} h = at_function (made_fault (apply f (input_of s) (scope_around n.functions e)) h)
   failing (switching w t p u) h = absurd cc
   failing (keeping w t q k p u) h = absurd cc
+  failing (gathered i) h = at_leaf refl (of_constants h, λ u e' F E. gathered_fails h F E)
+  failing (releasing w i q k p u) h = at_leaf refl (of_constants h, λ u e' F E. releasing_fails h F E)
+  failing (editing w i k p u) h = at_leaf refl (of_constants h, λ u e' F E. editing_fails h F E)
   failing (staged x f g) h = absurd cc
 
   -- what is referred to stands for one like it there
@@ -517,14 +745,50 @@ module _ (d : Bool) (n n' : Network) (all : AlikeAll d n.templates n'.templates)
   -- a switch that keeps its source steps where what it watches, and what took over, do so in one like it
   keeping_meets : {w : Observation} {t q u : Term} {k : Name} {p : Pattern} {e : Environment} {s : Step} {L : Life} {st : Standing} {o : Outcome} {c : Cost} {v : Term} {e' : Environment}
       → Formed d (keeping w t q k p u) v → AlikeNames d e e'
-      → ((P' : Process) (q' : Term) (e' : Environment) (B' : Takeover) → AlikeProcess d (closure t e) P' → Alike d q q' → AlikeNames d e e' → AlikeTakeover d (body_with k (closure t e) p u e) B' → (st' : Standing) × AlikeStanding d st st' × Since n' (observed P' q' e') B' L st')
-      → ((P' : Process) (q' : Term) (e' : Environment) (B' : Takeover) (st' : Standing) → AlikeProcess d (closure t e) P' → Alike d q q' → AlikeNames d e e' → AlikeTakeover d (body_with k (closure t e) p u e) B' → AlikeStanding d st st' → Lowered d (SwitchTurn n' w (observed P' q' e') B' s L st' o) c)
+      → ((W' : Watched) (B' : Takeover) → AlikeWatched d (observed (closure t e) q e) W' → AlikeTakeover d (body_with k (closure t e) p u e) B' → (st' : Standing) × AlikeStanding d st st' × Since n' W' B' L st')
+      → ((W' : Watched) (B' : Takeover) (st' : Standing) → AlikeWatched d (observed (closure t e) q e) W' → AlikeTakeover d (body_with k (closure t e) p u e) B' → AlikeStanding d st st' → Lowered d (SwitchTurn n' w W' B' s L st' o) c)
       → Lowered d ((Leaf n').leaf v e' s L o) c
   keeping_meets {k = k} {p = p} (same_keeping A C B) E since turn =
-      let R = alike_closure A E in
+      let W = alike_observed (alike_closure A E) C E in
       let body = keeping_alike k p A B E in
-      let st = since _ _ _ _ R C E body in
-      elim (turn _ _ _ _ _ R C E body st.1) [ lowered T h ↦ lowered (of_form refl (of_keeping st.2 T)) h ]
+      let st = since _ _ W body in
+      elim (turn _ _ _ W body st.1) [ lowered T h ↦ lowered (of_form refl (of_keeping st.2 T)) h ]
+
+  -- the members of a collection step where those of one like it do
+  gathered_meets : {i : Collection} {e : Environment} {ms : Members} {s : Step} {L : Life} {o : Outcome} {c : Cost} {v : Term} {e' : Environment} → make n (gathered i) e (first_input s L) ≡ answer (members_made ms) → ReadyEach ms s L o c
+      → Formed d (gathered i) v → AlikeNames d e e' → Lowered d ((Leaf n').leaf v e' s L o) (over c)
+  gathered_meets {i} {e} k A (same_gathered I) E =
+      let there = gathered_like (collected_as (collect n.functions i e) k) (alike_collect same E I) in
+      elim (meets_each there.1 A) [ lowered A' h ↦ lowered (of_form (ap gathered_as there.2) (of_gathered A')) (below_over _ _ h) ]
+
+  -- members that are kept
+  releasing_meets : {w : Observation} {i : Collection} {q u : Term} {k : Name} {p : Pattern} {e : Environment} {ms : Members} {s : Step} {L : Life} {st : Standing} {o : Outcome} {c : Cost} {v : Term} {e' : Environment}
+      → make n (releasing w i q k p u) e (first_input s L) ≡ answer (members_made ms)
+      → Formed d (releasing w i q k p u) v → AlikeNames d e e'
+      → ((W' : Watched) (B' : Takeover) → AlikeWatched d (observed_members ms q e) W' → AlikeTakeover d (body_with_members k ms p u e) B' → (st' : Standing) × AlikeStanding d st st' × Since n' W' B' L st')
+      → ((W' : Watched) (B' : Takeover) (st' : Standing) → AlikeWatched d (observed_members ms q e) W' → AlikeTakeover d (body_with_members k ms p u e) B' → AlikeStanding d st st' → Lowered d (SwitchTurn n' w W' B' s L st' o) c)
+      → Lowered d ((Leaf n').leaf v e' s L o) c
+  releasing_meets {i = i} {k = k} {p = p} {e = e} j (same_releasing I C B) E since turn =
+      let there = gathered_like (collected_as (collect n.functions i e) j) (alike_collect same E I) in
+      let W = alike_observed_members there.1 C E in
+      let body = releasing_alike k p there.1 B E in
+      let st = since _ _ W body in
+      elim (turn _ _ _ W body st.1) [ lowered T h ↦ lowered (of_form (ap gathered_as there.2) (of_releasing st.2 T)) h ]
+
+  -- members that are edited
+  editing_meets : {w : Observation} {i u : Collection} {k : Name} {p : Pattern} {e : Environment} {ms qs : Members} {s : Step} {L : Life} {o o' : Outcome} {c c' : Cost} {v : Term} {e' : Environment}
+      → make n (editing w i k p u) e (first_input s L) ≡ answer (members_made ms) → which_run (edit_of n.functions k p u e) ms L ≡ answer qs → ReadyEach qs (without_event s) (since_edit L) o c
+      → Formed d (editing w i k p u) v → AlikeNames d e e'
+      → ((r : Option (Evaluated Members)) → AlikeEdited d (option_map (edit_of n.functions k p u e (since_edit L) s qs) (unless_faulted o (event_beside s))) r → Lowered d (Edited n' w r (without_event s) o o') c')
+      → Lowered d ((Leaf n').leaf v e' s L o') (over (both_costs c c'))
+  editing_meets {i = i} {u = u} {k = k} {p = p} {e = e} {qs = qs} {s = s} {L = L} {o = o} {e' = e'} j H A (same_editing {u' = u'} I U) E edits =
+      let there = gathered_like (collected_as (collect n.functions i e) j) (alike_collect same E I) in
+      let edit = edit_of n.functions k p u e in
+      let edit' = edit_of n'.functions k p u' e' in
+      let alike_edits = edit_alike same k p E U in
+      let run = gathered_like H (which_alike edit edit' alike_edits L there.1) in
+      let made = edits_alike (edit (since_edit L) s qs) (edit' (since_edit L) s run.0) (unless_faulted o (event_beside s)) (λ v. alike_edits (since_edit L) s qs run.0 v run.1) in
+      elim (meets_each run.1 A) [ lowered A' h ↦ elim (edits _ made) [ lowered B' l ↦ lowered (of_form (ap gathered_as there.2) (of_editing run.2 A' B')) (below_over _ _ (below_both _ _ _ _ h l)) ] ]
 
   runs_ready : {t u : Term} {p : Pattern} {e : Environment} (q : Option Data) {L : Life} {o : Outcome} {c : Cost} → ReadyNow (what_runs (closure t e) (body_of p u e) q) L o c → Runs Q t p u e q L o c
   runs_ready None A = runs_first (opened_part A)
@@ -535,6 +799,18 @@ module _ (d : Bool) (n n' : Network) (all : AlikeAll d n.templates n'.templates)
     ready (of_constants {t = t} h) = ready_closure (failing t h)
     ready (of_form h F) = ready_closure (ready_form F h)
     ready (of_resumed A) = ready_resumed (ready_gives A)
+
+    ready_each : {ms : Members} {s : Step} {L : Life} {o : Outcome} {c : Cost} → Each n ms s L o c → ReadyEach ms s L o c
+    ready_each no_more = ready_none
+    ready_each (one_more A B) = ready_one (ready_gives A) (ready_rest B)
+
+    ready_tables : {ms : Members} {L : Life} {ys : List Data} → Tables n ms L ys → ReadyTables ms L ys
+    ready_tables no_tables = ready_no_tables
+    ready_tables (and_table A B) = ready_table (ready_tables A) (ready_each B)
+
+    ready_rest : {p : Outcome} {ms : Members} {s : Step} {L : Life} {o : Outcome} {c : Cost} → Others n p ms s L o c → ReadyOthers p ms s L o c
+    ready_rest (others_go_on A) = ready_others (ready_each A)
+    ready_rest others_stop = ready_stopped
 
     ready_form : {t : Term} {e : Environment} {m : Made} {s : Step} {L : Life} {o : Outcome} {c : Cost} → Form n t e m s L o c → make n t e (first_input s L) ≡ answer m → At Q t e s L o c
     ready_form (of_primitive {p = p} {e = e} {s = s} {L = L} h) k = let N : Outcome → Type 0 = λ o. At Q (primitive p) e s L o one_term in subst N h at_primitive
@@ -550,8 +826,12 @@ module _ (d : Bool) (n n' : Network) (all : AlikeAll d n.templates n'.templates)
         let st = ready_watches (body_of p u e) A refl in
         at_switch st.1 (ready_turns st.0 B refl st.2)
     ready_form (of_keeping A B) k =
-        at_leaf refl (of_form refl (of_keeping A B), λ u' e' F E. keeping_meets F E (λ P q f T R H E B. keeps_since A R H E B) (λ P q f T x R H E D st. keeps_turn B R H E D st))
+        at_leaf refl (of_form refl (of_keeping A B), λ u' e' F E. keeping_meets F E (λ W T R B. keeps_since A R B) (λ W T x R D st. keeps_turn B R D st))
     ready_form (of_recurring {L = L} A B) k = at_recurring (runs_ready (last_event L) (ready_gives A)) (ready_bodies B refl)
+    ready_form (of_gathered A) k = at_leaf refl (of_form k (of_gathered A), λ u' e' F E. gathered_meets k (ready_each A) F E)
+    ready_form (of_releasing A B) k =
+        at_leaf refl (of_form k (of_releasing A B), λ u' e' F E. releasing_meets k F E (λ W T R B. keeps_since A R B) (λ W T x R D st. keeps_turn B R D st))
+    ready_form (of_editing H A B) k = at_leaf refl (of_form k (of_editing H A B), λ u' e' F E. editing_meets k H (ready_each A) F E (λ r R. keeps_edited B R))
     ready_form (of_stages A B C) k = at_stages (opened_all (ready_all A)) (opened_part (ready_gives B)) (ready_next C)
 
     ready_gives : {P : Process} {L : Life} {o : Outcome} {c : Cost} → Gives n P L o c → ReadyNow P L o c
@@ -588,28 +868,30 @@ module _ (d : Bool) (n n' : Network) (all : AlikeAll d n.templates n'.templates)
 
     -- ## A switch that keeps its source, beside one like it
 
-    keeps_sees : {P P' : Process} {q q' : Term} {e e' : Environment} {s : Step} {L : Life} {o : Outcome} {c : Cost} → Sees n (observed P q e) s L o c → AlikeProcess d P P' → Alike d q q' → AlikeNames d e e' → Lowered d (Sees n' (observed P' q' e') s L o) c
-    keeps_sees (by_observer A B C) R H E =
+    keeps_sees : {W W' : Watched} {s : Step} {L : Life} {o : Outcome} {c : Cost} → Sees n W s L o c → AlikeWatched d W W' → Lowered d (Sees n' W' s L o) c
+    keeps_sees (beside_values A) R = elim R [ ]
+    keeps_sees (by_observer A B C) (alike_observed R H E) =
         elim (meet R (ready_gives B)) [ lowered B' h ↦ elim (keeps_next C H E) [ lowered C' k ↦ lowered (by_observer (meet_all R (ready_all A)) B' C') (below_both _ _ _ _ h k) ] ]
+    keeps_sees (by_members_observer A B C) (alike_observed_members M H E) =
+        elim (meets_each M (ready_each B)) [ lowered B' h ↦ elim (keeps_next C H E) [ lowered C' k ↦ lowered (by_members_observer (meet_tables M (ready_tables A)) B' C') (below_both _ _ _ _ h k) ] ]
 
     keeps_next : {t u : Term} {e e' : Environment} {p : Outcome} {L : Life} {o : Outcome} {c : Cost} → Next n p t e L o c → Alike d t u → AlikeNames d e e' → Lowered d (Next n' p u e' L o) c
     keeps_next (goes_on A) T E = elim (meet (alike_closure T E) (ready_gives A)) [ lowered A' h ↦ lowered (goes_on A') h ]
     keeps_next stops T E = lowered stops (alike_texts T)
 
-    keeps_since : {P P' : Process} {q q' : Term} {e e' : Environment} {B B' : Takeover} {L : Life} {st : Standing} → Since n (observed P q e) B L st → AlikeProcess d P P' → Alike d q q' → AlikeNames d e e' → AlikeTakeover d B B'
-        → (st' : Standing) × AlikeStanding d st st' × Since n' (observed P' q' e') B' L st'
-    keeps_since at_start R H E T = (waits, alike_waits, at_start)
-    keeps_since {B = B} {B' = B'} (watched {s = s} {L = L} {y = y} A G k) R H E T =
-        let r = keeps_since A R H E T in
+    keeps_since : {W W' : Watched} {B B' : Takeover} {L : Life} {st : Standing} → Since n W B L st → AlikeWatched d W W' → AlikeTakeover d B B' → (st' : Standing) × AlikeStanding d st st' × Since n' W' B' L st'
+    keeps_since at_start R T = (waits, alike_waits, at_start)
+    keeps_since {B = B} {B' = B'} (watched {s = s} {L = L} {y = y} A G k) R T =
+        let r = keeps_since A R T in
         let o = occurring (second_of y) in
-        elim (keeps_sees G R H E) [ lowered G' h ↦ (stands_after B' s L o, subst (λ st. AlikeStanding d st (stands_after B' s L o)) k (alike_after B B' T s L o), watched (stood r.1 r.2) G' refl) ]
-    keeps_since (had_fired {s = s} A) R H E T = let r = keeps_since A R H E T in stood_later s r.1 r.2
+        elim (keeps_sees G R) [ lowered G' h ↦ (stands_after B' s L o, subst (λ st. AlikeStanding d st (stands_after B' s L o)) k (alike_after B B' T s L o), watched (stood r.1 r.2) G' refl) ]
+    keeps_since (had_fired {s = s} A) R T = let r = keeps_since A R T in stood_later s r.1 r.2
 
-    keeps_turn : {w : Observation} {P P' : Process} {q q' : Term} {e e' : Environment} {B B' : Takeover} {s : Step} {L : Life} {st st' : Standing} {o : Outcome} {c : Cost} → SwitchTurn n w (observed P q e) B s L st o c
-        → AlikeProcess d P P' → Alike d q q' → AlikeNames d e e' → AlikeTakeover d B B' → AlikeStanding d st st' → Lowered d (SwitchTurn n' w (observed P' q' e') B' s L st' o) c
-    keeps_turn {s = s} {L = L} (while_waiting A C) R H E T alike_waits =
-        elim (keeps_sees A R H E) [ lowered A' h ↦ elim (keeps_switched C (λ v. T s L v)) [ lowered C' k ↦ lowered (while_waiting A' C') (below_over _ _ (below_both _ _ _ _ h k)) ] ]
-    keeps_turn (as_body A) R H E T (alike_fired R') = elim (meet R' (ready_gives A)) [ lowered A' h ↦ lowered (as_body A') h ]
+    keeps_turn : {w : Observation} {W W' : Watched} {B B' : Takeover} {s : Step} {L : Life} {st st' : Standing} {o : Outcome} {c : Cost} → SwitchTurn n w W B s L st o c → AlikeWatched d W W' → AlikeTakeover d B B' → AlikeStanding d st st'
+        → Lowered d (SwitchTurn n' w W' B' s L st' o) c
+    keeps_turn {s = s} {L = L} (while_waiting A C) R T alike_waits =
+        elim (keeps_sees A R) [ lowered A' h ↦ elim (keeps_switched C (λ v. T s L v)) [ lowered C' k ↦ lowered (while_waiting A' C') (below_over _ _ (below_both _ _ _ _ h k)) ] ]
+    keeps_turn (as_body A) R T (alike_fired R') = elim (meet R' (ready_gives A)) [ lowered A' h ↦ lowered (as_body A') h ]
 
     keeps_switched : {w : Observation} {B B' : Data → Process} {s : Step} {o o' : Outcome} {c : Cost} → Switched n w B s o o' c → ((v : Data) → AlikeProcess d (B v) (B' v)) → Lowered d (Switched n' w B' s o o') c
     keeps_switched after_fault T = lowered after_fault (below_same d _)
@@ -618,6 +900,11 @@ module _ (d : Bool) (n n' : Network) (all : AlikeAll d n.templates n'.templates)
     keeps_fires : {w : Observation} {B B' : Data → Process} {s : Step} {o : Outcome} {q : Option Data} {o' : Outcome} {c : Cost} → Fires n w B s o q o' c → ((v : Data) → AlikeProcess d (B v) (B' v)) → Lowered d (Fires n' w B' s o q o') c
     keeps_fires no_event_yet T = lowered no_event_yet (below_same d _)
     keeps_fires (event_now {v = v} A) T = elim (meet (T v) (ready_gives A)) [ lowered A' h ↦ lowered (event_now A') h ]
+
+    keeps_edited : {w : Observation} {q r : Option (Evaluated Members)} {s : Step} {o o' : Outcome} {c : Cost} → Edited n w q s o o' c → AlikeEdited d q r → Lowered d (Edited n' w r s o o') c
+    keeps_edited no_edit neither_edits = lowered no_edit (below_same d _)
+    keeps_edited edit_failed (both_edit gathered_failed) = lowered edit_failed (below_same d _)
+    keeps_edited (edit_now A) (both_edit (gathered_alike M)) = elim (meets_each M (ready_each A)) [ lowered A' h ↦ lowered (edit_now A') h ]
 
     ready_switches : {w : Observation} {u : Term} {p : Pattern} {e : Environment} {B : Data → Process} {s : Step} {o o' : Outcome} {c : Cost} → Switched n w B s o o' c → B ≡ body_of p u e → Switches Q w p u e s o o' c
     ready_switches after_fault h = switch_stops

@@ -10,13 +10,13 @@ use Rattle.sf_term.specs.declared.form.Side.{Side}
 use Rattle.sf_term.specs.declared.form.Side.TheVariants.{First, Second}
 use Rattle.sf_term.specs.declared.form.Heading.TheVariants.{LoopPre, Initialized, Replaced, Followed}
 use Rattle.sf_term.specs.declared.form.Switching.TheVariants.{Basic, Recurring}
-use Rattle.sf_term.specs.Trees.{Chain, lone, chained, on_side, on_both, fanned, bare, probe, never, with_value, timed, selected, arrow, accumulated, fused, Extent, whole, rest, Term, primitive, reference, started, call, Arguments, no_arguments, value_argument, process_argument, closed_argument, joined, sided, headed, transformed, switching, keeping, staged}
+use Rattle.sf_term.specs.Trees.{Chain, lone, chained, on_side, on_both, fanned, bare, probe, never, with_value, timed, selected, arrow, accumulated, fused, Extent, whole, rest, Term, primitive, reference, started, call, Arguments, no_arguments, value_argument, process_argument, closed_argument, joined, sided, headed, transformed, switching, keeping, staged, collection_argument, gathered, releasing, editing, Collection, without_members, used, added, dropped, kept, chosen}
 use Rattle.sf_term.specs.declared.form.Observation.TheVariants.{Immediate, Delayed}
 use Rattle.sf_term.specs.declared.form.Start.TheVariants.{Run, Fresh}
 use Rattle.sf_rewrite.specs.Quiet.{is_quiet_expression, is_quiet}
 use Rattle.sf_rewrite.specs.Laws.{identity, constant, arr, loop_pre, Laws, unchanged, in_turn, in_join, in_stages, in_side, as_pipeline, within_pipeline, associate_right, associate_left, identity_before, identity_after, arr_as_chain, arr_composed, arr_on_side, arr_in_parallel, arr_fanned_out, sides_composed, exchanged, constant_after, left_tightened, right_tightened}
-use Rattle.sf_rewrite.specs.Plans.{Plans, plans, of_primitive, of_started, of_call, PlansArguments, of_no_arguments, of_value_argument, of_named_argument, of_closed_argument, is_started, of_join, of_side, of_heading, of_transformed, of_switch, of_keeping}
-use Rattle.sf_rewrite.specs.Normal.{is_arr, is_stage, may_meet, are_written, IsPlan, plan_primitive, plan_started, plan_call, ArePlans, plan_no_arguments, plan_value_argument, plan_term_argument, plan_closed_argument, plan_join, plan_side, plan_heading, plan_transformed, plan_switch, plan_keeping, plan_pipeline, IsRest, last_stage, more_stages, is_written}
+use Rattle.sf_rewrite.specs.Plans.{Plans, plans, of_primitive, of_started, of_call, PlansArguments, of_no_arguments, of_value_argument, of_named_argument, of_closed_argument, is_started, of_join, of_side, of_heading, of_transformed, of_switch, of_keeping, of_gathered, of_releasing, of_editing, PlansCollection, of_without, of_used, of_added, of_dropped, of_kept, of_chosen, of_collection_argument}
+use Rattle.sf_rewrite.specs.Normal.{is_arr, is_stage, may_meet, are_written, IsPlan, plan_primitive, plan_started, plan_call, ArePlans, plan_no_arguments, plan_value_argument, plan_term_argument, plan_closed_argument, plan_join, plan_side, plan_heading, plan_transformed, plan_switch, plan_keeping, plan_pipeline, IsRest, last_stage, more_stages, is_written, plan_gathered, plan_releasing, plan_editing, IsPlanned, planned_without, planned_used, planned_added, planned_dropped, planned_kept, planned_chosen, plan_collection_argument, collects_written}
 use Rattle.sf_rewrite.proofs.Parts.{no_truth}
 use Rattle.sf_rewrite.proofs.Quiet.{both_true}
 
@@ -53,6 +53,9 @@ arr_view (headed h i t) = no_arr refl
 arr_view (transformed f t) = no_arr refl
 arr_view (switching w t p u) = no_arr refl
 arr_view (keeping w t q k p u) = no_arr refl
+arr_view (gathered i) = no_arr refl
+arr_view (releasing w i q k p u) = no_arr refl
+arr_view (editing w i k p u) = no_arr refl
 arr_view (staged x f g) = no_arr refl
 
 data IsConstant (t : Term) : Type 0 where
@@ -84,6 +87,9 @@ constant_view (headed h i t) = no_constant
 constant_view (transformed f t) = no_constant
 constant_view (switching w t p u) = no_constant
 constant_view (keeping w t q k p u) = no_constant
+constant_view (gathered i) = no_constant
+constant_view (releasing w i q k p u) = no_constant
+constant_view (editing w i k p u) = no_constant
 constant_view (staged x f g) = no_constant
 
 -- ## Neighbours
@@ -199,6 +205,9 @@ stages (plan_heading P) = one_stage refl
 stages (plan_transformed P) = one_stage refl
 stages (plan_switch P Q) = one_stage refl
 stages (plan_keeping P Q R) = one_stage refl
+stages (plan_gathered I) = one_stage refl
+stages (plan_releasing I Q R) = one_stage refl
+stages (plan_editing I J) = one_stage refl
 stages (plan_pipeline P S R) = some_stages _ _ refl P S R
 
 -- what stands after others, as stages
@@ -300,6 +309,12 @@ pub record Optimised (t : Term) : Type 0 where
   pub plans : Plans t term
   pub is : IsPlan term
 
+-- a collection with plans of its terms
+record OptimisedCollection (i : Collection) : Type 0 where
+  collection : Collection
+  plans : PlansCollection i collection
+  is : IsPlanned collection
+
 -- arguments with plans of their terms
 record OptimisedArguments (vs : Arguments) : Type 0 where
   arguments : Arguments
@@ -321,6 +336,9 @@ with_argument (headed k i t) o a = closing refl o a
 with_argument (transformed f t) o a = closing refl o a
 with_argument (switching w t p u) o a = closing refl o a
 with_argument (keeping w t q k p u) o a = closing refl o a
+with_argument (gathered i) o a = closing refl o a
+with_argument (releasing w i q k p u) o a = closing refl o a
+with_argument (editing w i k p u) o a = closing refl o a
 with_argument (staged x f g) o a = closing refl o a
 
 mutual
@@ -380,12 +398,46 @@ mutual
       let b = optimised o r.0 in
       let c = optimised u r.1 in
       record { term = keeping w a.term b.term k p c.term; plans = plans (of_keeping a.plans b.plans c.plans) unchanged; is = plan_keeping a.is b.is c.is }
+  optimised (gathered i) h = let a = optimised_collection i h in record { term = gathered a.collection; plans = plans (of_gathered a.plans) unchanged; is = plan_gathered a.is }
+  optimised (releasing w i o k p u) h =
+      let l = both_true (collects_written i) (is_written o && is_written u) h in
+      let r = both_true (is_written o) (is_written u) l.1 in
+      let a = optimised_collection i l.0 in
+      let b = optimised o r.0 in
+      let c = optimised u r.1 in
+      record { term = releasing w a.collection b.term k p c.term; plans = plans (of_releasing a.plans b.plans c.plans) unchanged; is = plan_releasing a.is b.is c.is }
+  optimised (editing w i k p u) h =
+      let l = both_true (collects_written i) (collects_written u) h in
+      let a = optimised_collection i l.0 in
+      let b = optimised_collection u l.1 in
+      record { term = editing w a.collection k p b.collection; plans = plans (of_editing a.plans b.plans) unchanged; is = plan_editing a.is b.is }
   optimised (staged x f g) h = absurd (no_truth h)
+
+  optimised_collection : (i : Collection) → IsTrue (collects_written i) → OptimisedCollection i
+  optimised_collection (without_members k t) h = record { collection = without_members k t; plans = of_without; is = planned_without }
+  optimised_collection (used x) h = record { collection = used x; plans = of_used; is = planned_used }
+  optimised_collection (added i j t) h =
+      let w = both_true (collects_written i) (is_written t) h in
+      let a = optimised_collection i w.0 in
+      let b = optimised t w.1 in
+      record { collection = added a.collection j b.term; plans = of_added a.plans b.plans; is = planned_added a.is b.is }
+  optimised_collection (dropped i j) h = let a = optimised_collection i h in record { collection = dropped a.collection j; plans = of_dropped a.plans; is = planned_dropped a.is }
+  optimised_collection (kept i f) h = let a = optimised_collection i h in record { collection = kept a.collection f; plans = of_kept a.plans; is = planned_kept a.is }
+  optimised_collection (chosen j k l) h =
+      let w = both_true (collects_written k) (collects_written l) h in
+      let a = optimised_collection k w.0 in
+      let b = optimised_collection l w.1 in
+      record { collection = chosen j a.collection b.collection; plans = of_chosen a.plans b.plans; is = planned_chosen a.is b.is }
 
   optimised_arguments : (vs : Arguments) → IsTrue (are_written vs) → OptimisedArguments vs
   optimised_arguments no_arguments h = record { arguments = no_arguments; plans = of_no_arguments; are = plan_no_arguments }
   optimised_arguments (value_argument i vs) h = let a = optimised_arguments vs h in record { arguments = value_argument i a.arguments; plans = of_value_argument a.plans; are = plan_value_argument a.are }
   optimised_arguments (process_argument t vs) h = let k = both_true (is_written t) (are_written vs) h in with_argument t (optimised t k.0) (optimised_arguments vs k.1)
+  optimised_arguments (collection_argument i vs) h =
+      let k = both_true (collects_written i) (are_written vs) h in
+      let c = optimised_collection i k.0 in
+      let a = optimised_arguments vs k.1 in
+      record { arguments = collection_argument c.collection a.arguments; plans = of_collection_argument c.plans a.plans; are = plan_collection_argument c.is a.are }
   optimised_arguments (closed_argument t vs) h = absurd (no_truth h)
 
 -- ## Each law is applied where its left side stands alone
@@ -520,6 +572,12 @@ in_transformed_applied = refl
 in_keeping_applied : (optimised (keeping Immediate (joined InSequence identity f) (joined InSequence f identity) [] unnamed (joined InSequence g identity)) refl).term ≡ keeping Immediate f f [] unnamed g
 unfolding optimised in_sequence one_after_another before_tail tail stages headed_by pushed appended merged arrs before_constant arr_view constant_view in_parallel side_by_side fanned_out both_on on_a_side in_loop before_loop looped compose_sides exchange in_planned decided
 in_keeping_applied = refl
+
+-- and in the terms of collections and of edits
+in_collections_applied : (optimised (editing Immediate (added (used []) one (joined InSequence identity f)) [] unnamed (added (used []) one (joined InSequence g identity))) refl).term
+    ≡ editing Immediate (added (used []) one f) [] unnamed (added (used []) one g)
+unfolding optimised optimised_collection in_sequence one_after_another before_tail tail stages headed_by pushed appended merged arrs before_constant arr_view constant_view in_parallel side_by_side fanned_out both_on on_a_side in_loop before_loop looped compose_sides exchange in_planned decided
+in_collections_applied = refl
 
 -- and in the term of an argument, which stays closed where a named process is left of it
 in_argument_applied : (optimised (reference (call [] (process_argument (joined InSequence identity (reference (started Run []))) (process_argument (reference (started Fresh [])) no_arguments)))) refl).term

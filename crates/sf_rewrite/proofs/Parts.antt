@@ -14,7 +14,7 @@ use Rattle.sf_term.specs.declared.form.Heading.{Heading}
 use Rattle.sf_term.specs.declared.form.Heading.TheVariants.{LoopPre, Initialized, Replaced, Followed}
 use Rattle.sf_term.specs.declared.form.Observation.{Observation}
 use Rattle.sf_term.specs.declared.form.Switching.TheVariants.{Basic, Recurring}
-use Rattle.sf_term.specs.Trees.{Primitive, Extent, Term, primitive, reference, joined, sided, headed, transformed, switching, keeping, staged}
+use Rattle.sf_term.specs.Trees.{Primitive, Extent, Term, primitive, reference, joined, sided, headed, transformed, switching, keeping, staged, gathered, releasing, editing}
 use Rattle.sf_mean.specs.Lives.{Step, input_of, Life, Environment, scope_around, bind, with_inputs, relay, first_input, fed}
 use Rattle.sf_mean.specs.Formulas.{at_first, with_first, occurring, side_of, with_side, formula}
 use Rattle.sf_mean.specs.Meaning.{Readings, Outcome, gave, faulted, changed, combined, value_in, as_outcome, answered_by, newest_or, recorded, Cost, no_cost, both_costs, over, over_stages, one_term, text_cost, left_life, right_life, join_value, switched_value, event_beside, last_event, since_event, unless_faulted, without_event}
@@ -34,6 +34,9 @@ is_leaf (headed h i t) = false
 is_leaf (transformed f t) = false
 is_leaf (switching w t p u) = false
 is_leaf (keeping w t q k p u) = true
+is_leaf (gathered i) = true
+is_leaf (releasing w i q k p u) = true
+is_leaf (editing w i k p u) = true
 is_leaf (staged x f g) = false
 
 -- whether the constant at a head comes before the part: all but that of `fby` do

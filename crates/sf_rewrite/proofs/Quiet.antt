@@ -23,7 +23,7 @@ use Rattle.sf_term.specs.declared.form.Accumulation.TheVariants.{EdgeBy, AccumBy
 use Rattle.sf_term.specs.declared.form.Join.{Join}
 use Rattle.sf_term.specs.declared.form.Join.TheVariants.{InSequence, InParallel, FannedOut}
 use Rattle.sf_term.specs.declared.form.Heading.TheVariants.{LoopPre, Initialized, Replaced, Followed}
-use Rattle.sf_term.specs.Trees.{Chain, lone, chained as chained_functions, on_side, on_both, fanned, Primitive, bare, probe, never, with_value, timed, selected, arrow, accumulated, fused, Extent, Term, primitive, reference, joined, sided, headed, transformed, switching, keeping, staged}
+use Rattle.sf_term.specs.Trees.{Chain, lone, chained as chained_functions, on_side, on_both, fanned, Primitive, bare, probe, never, with_value, timed, selected, arrow, accumulated, fused, Extent, Term, primitive, reference, joined, sided, headed, transformed, switching, keeping, staged, gathered, releasing, editing}
 use Rattle.sf_mean.specs.Lives.{Step, step, wait_of, input_of, Life, Environment, scope_around, first_input, with_inputs, relay, fed}
 use Rattle.sf_mean.specs.Formulas.{at_first, with_first, timed_formula, before, occurring, next_value, accumulation, event_where, accumulated_formula, side_of, with_side, apply_chain, value_formula, formula}
 use Rattle.sf_mean.specs.Meaning.{Readings, Outcome, gave, as_outcome, newest_or, recorded, Cost, over, one_term, text_cost}
@@ -319,6 +319,9 @@ module _ (Q : Leaves) (one : OneLeaf Q) where
   quiet_steps (switching w t p u) h = absurd (no_truth h)
   quiet_steps (reference r) h = absurd (no_truth h)
   quiet_steps (keeping w t q k p u) h = absurd (no_truth h)
+  quiet_steps (gathered i) h = absurd (no_truth h)
+  quiet_steps (releasing w i q k p u) h = absurd (no_truth h)
+  quiet_steps (editing w i k p u) h = absurd (no_truth h)
   quiet_steps (staged x f g) h = let k = both_true (is_quiet f) (is_quiet g) h in steps_stages (quiet_steps f k.0) (quiet_steps g k.1)
 
   -- what a quiet term gave

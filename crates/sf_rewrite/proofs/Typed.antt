@@ -2,7 +2,7 @@
 use Rattle.std.proofs.Common.{◌≡◌, List, ◌∷◌, map, refl, sym, ap, subst}
 use Rattle.std.proofs.lemmas.Option.{same_Some}
 use mathlib.Core.Path.{ap₂}
-use Rattle.sf_value.specs.Values.{Name, Kind}
+use Rattle.sf_value.specs.Values.{Name, Kind, KeyKind}
 use Rattle.sf_func.specs.Registries.{TypesByName}
 use Rattle.sf_expr.specs.Expressions.{Pattern, Expression, Function}
 use Rattle.sf_term.specs.declared.form.Join.{Join}
@@ -10,12 +10,12 @@ use Rattle.sf_term.specs.declared.form.Side.{Side}
 use Rattle.sf_term.specs.declared.form.Heading.{Heading}
 use Rattle.sf_term.specs.declared.form.Observation.{Observation}
 use Rattle.sf_term.specs.declared.form.Switching.{Switching}
-use Rattle.sf_term.specs.Trees.{Chain, Extent, Term, Arguments, joined, sided, headed, transformed, switching, keeping, staged, Template, Templates}
-use Rattle.sf_mean.specs.Contexts.{Context, Bindings, Signature, signature_of, context_with, inside_pattern, inside_process}
-use Rattle.sf_mean.specs.Typing.{ChainTakes, lone_takes, chained_takes, on_first_takes, on_second_takes, on_both_takes, fanned_takes, bare_takes, value_takes, arrow_takes, fused_takes, Takes, takes, primitive_takes, call_takes, ArgumentsFit, value_fits, process_fits, closed_fits, sequence_takes, parallel_takes, fan_takes, first_takes, second_takes, loop_takes, initialized_takes, replaced_takes, followed_takes, transformed_takes, switch_takes, keeping_takes, recurring_takes, stages_take}
+use Rattle.sf_term.specs.Trees.{Chain, Extent, Term, Arguments, joined, sided, headed, transformed, switching, keeping, staged, Template, Templates, gathered, releasing, editing, Collection}
+use Rattle.sf_mean.specs.Contexts.{Context, Bindings, Signature, signature_of, context_with, inside_pattern, inside_process, inside_collection}
+use Rattle.sf_mean.specs.Typing.{ChainTakes, lone_takes, chained_takes, on_first_takes, on_second_takes, on_both_takes, fanned_takes, bare_takes, value_takes, arrow_takes, fused_takes, Takes, takes, primitive_takes, call_takes, ArgumentsFit, value_fits, process_fits, closed_fits, sequence_takes, parallel_takes, fan_takes, first_takes, second_takes, loop_takes, initialized_takes, replaced_takes, followed_takes, transformed_takes, switch_takes, keeping_takes, recurring_takes, stages_take, gathered_takes, releasing_takes, editing_takes, Collects, collects_added, collects_dropped, collects_kept, collects_chosen, collection_fits}
 use Rattle.sf_mean.proofs.Inferred.{input_fits, output_fits}
 use Rattle.sf_rewrite.specs.Laws.{arr, Laws, unchanged, in_turn, in_join, in_stages, in_side, in_heading, in_transformed, in_switch, as_pipeline, within_pipeline, associate_right, associate_left, identity_before, identity_after, arr_as_chain, chain_as_arr, arr_composed, arr_on_side, arr_in_parallel, arr_fanned_out, sides_composed, exchanged, constant_after, left_tightened, right_tightened}
-use Rattle.sf_rewrite.specs.Plans.{Plans, plans, PlansParts, of_primitive, of_started, of_call, PlansArguments, of_no_arguments, of_value_argument, of_named_argument, of_closed_argument, of_term_argument, of_join, of_side, of_heading, of_transformed, of_switch, of_keeping, PlansTemplate, PlansAll, no_templates, one_more}
+use Rattle.sf_rewrite.specs.Plans.{Plans, plans, PlansParts, of_primitive, of_started, of_call, PlansArguments, of_no_arguments, of_value_argument, of_named_argument, of_closed_argument, of_term_argument, of_join, of_side, of_heading, of_transformed, of_switch, of_keeping, PlansTemplate, PlansAll, no_templates, one_more, of_gathered, of_releasing, of_editing, PlansCollection, of_without, of_used, of_added, of_dropped, of_kept, of_chosen, of_collection_argument}
 
 abbrev Keeps : Context → Term → Term → Type 0
 Keeps Γ t u = (a b : Kind) → Takes Γ t a b → Takes Γ u a b
@@ -48,6 +48,17 @@ module _ {Γ : Context} where
 
   keeps_keeping : {w : Observation} {t t' q q' u u' : Term} {k : Name} {p : Pattern} → Keeps Γ t t' → Keeps Γ q q' → ((a b c : Kind) → Keeps (inside_pattern p c (inside_process k a b Γ)) u u') → Keeps Γ (keeping w t q k p u) (keeping w t' q' k p u')
   keeps_keeping F H G a b (takes x y (keeping_takes f i h g)) = takes x y (keeping_takes (F _ _ f) (H _ _ i) h (G _ _ _ _ _ g))
+
+  keeps_gathered : {i i' : Collection} → ((k : KeyKind) (a b : Kind) → Collects Γ i k a b → Collects Γ i' k a b) → Keeps Γ (gathered i) (gathered i')
+  keeps_gathered C a b (takes x y (gathered_takes c)) = takes x y (gathered_takes (C _ _ _ c))
+
+  keeps_releasing : {w : Observation} {i i' : Collection} {q q' u u' : Term} {k : Name} {p : Pattern} → ((k : KeyKind) (a b : Kind) → Collects Γ i k a b → Collects Γ i' k a b) → Keeps Γ q q'
+      → ((l : KeyKind) (a b c : Kind) → Keeps (inside_pattern p c (inside_collection k l a b Γ)) u u') → Keeps Γ (releasing w i q k p u) (releasing w i' q' k p u')
+  keeps_releasing C H G a b (takes x y (releasing_takes c j h g)) = takes x y (releasing_takes (C _ _ _ c) (H _ _ j) h (G _ _ _ _ _ _ g))
+
+  keeps_editing : {w : Observation} {i i' u u' : Collection} {k : Name} {p : Pattern} → ((k : KeyKind) (a b : Kind) → Collects Γ i k a b → Collects Γ i' k a b)
+      → ((Δ : Context) (l : KeyKind) (a b : Kind) → Collects Δ u l a b → Collects Δ u' l a b) → Keeps Γ (editing w i k p u) (editing w i' k p u')
+  keeps_editing C D a b (takes x y (editing_takes c h d)) = takes x y (editing_takes (C _ _ _ c) h (D _ _ _ _ d))
 
   -- the types of a fused function
   arr_chain : {f : Chain} {a b : Kind} → Takes Γ (arr f) a b → ChainTakes Γ f a b
@@ -97,11 +108,23 @@ mutual
   parts_take (of_transformed A) a b k = keeps_transformed (plan_takes A) a b k
   parts_take (of_switch A B) a b k = keeps_switch (plan_takes A) (λ c. plan_takes B) a b k
   parts_take (of_keeping A C B) a b k = keeps_keeping (plan_takes A) (plan_takes C) (λ a b c. plan_takes B) a b k
+  parts_take (of_gathered I) a b k = keeps_gathered (λ l a b. collection_takes I) a b k
+  parts_take (of_releasing I A B) a b k = keeps_releasing (λ l a b. collection_takes I) (plan_takes A) (λ l a b c. plan_takes B) a b k
+  parts_take (of_editing I J) a b k = keeps_editing (λ l a b. collection_takes I) (λ Δ l a b. collection_takes J) a b k
+
+  collection_takes : {Γ : Context} {i i' : Collection} {k : KeyKind} {a b : Kind} → PlansCollection i i' → Collects Γ i k a b → Collects Γ i' k a b
+  collection_takes of_without C = C
+  collection_takes of_used C = C
+  collection_takes (of_added I A) (collects_added {a = a} {b = b} C E T) = collects_added (collection_takes I C) E (plan_takes A a b T)
+  collection_takes (of_dropped I) (collects_dropped C E) = collects_dropped (collection_takes I C) E
+  collection_takes (of_kept I) (collects_kept C F) = collects_kept (collection_takes I C) F
+  collection_takes (of_chosen I J) (collects_chosen E C D) = collects_chosen E (collection_takes I C) (collection_takes J D)
 
   arguments_take : {Γ : Context} {vs vs' : Arguments} {qs : Bindings} → PlansArguments vs vs' → ArgumentsFit Γ vs qs → ArgumentsFit Γ vs' qs
   arguments_take of_no_arguments F = F
   arguments_take (of_value_argument A) (value_fits E F) = value_fits E (arguments_take A F)
   arguments_take (of_named_argument A) (process_fits T F) = process_fits T (arguments_take A F)
+  arguments_take (of_collection_argument I A) (collection_fits C F) = collection_fits (collection_takes I C) (arguments_take A F)
   arguments_take (of_closed_argument h P A) (process_fits {a = a} {b = b} T F) = closed_fits (plan_takes P a b T) (arguments_take A F)
   arguments_take (of_term_argument h k P A) (process_fits {a = a} {b = b} T F) = process_fits (plan_takes P a b T) (arguments_take A F)
 

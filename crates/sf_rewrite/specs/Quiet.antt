@@ -9,7 +9,7 @@ use Rattle.sf_operator.specs.declared.operator.Merge.TheVariants.{Exclusive}
 use Rattle.sf_expr.specs.Expressions.{Expression, variable, literal, paired, applied, operation, conditional, mapped, folded, called, Function, function}
 use Rattle.sf_term.specs.declared.form.Bare.{Bare}
 use Rattle.sf_term.specs.declared.form.Bare.TheVariants.{Identity, LocalTime, Integral, Edge, NotYet, Once, Count, Pre}
-use Rattle.sf_term.specs.Trees.{Chain, lone, chained, on_side, on_both, fanned, Primitive, bare, probe, never, with_value, timed, selected, arrow, accumulated, fused, Term, primitive, reference, joined, sided, headed, transformed, switching, keeping, staged}
+use Rattle.sf_term.specs.Trees.{Chain, lone, chained, on_side, on_both, fanned, Primitive, bare, probe, never, with_value, timed, selected, arrow, accumulated, fused, Term, primitive, reference, joined, sided, headed, transformed, switching, keeping, staged, gathered, releasing, editing}
 
 -- an operator on a value that always makes one; a table may have more keys than there are numbers
 abbrev pub is_quiet_unary : Unary → Bool
@@ -70,7 +70,7 @@ is_quiet_primitive (selected k n) = true
 is_quiet_primitive (accumulated k i f) = is_quiet_expression i && is_quiet_function f
 is_quiet_primitive (fused f) = is_quiet_chain f
 
--- a term whose constants, functions and parts are quiet; a switch isn't, nor is a named process or a call
+-- a term whose constants, functions and parts are quiet; a switch isn't, nor is a named process, a call or a collection
 abbrev pub is_quiet : Term → Bool
 is_quiet (primitive p) = is_quiet_primitive p
 is_quiet (reference r) = false
@@ -80,4 +80,7 @@ is_quiet (headed h i t) = is_quiet_expression i && is_quiet t
 is_quiet (transformed f t) = is_quiet_function f && is_quiet t
 is_quiet (switching w t p u) = false
 is_quiet (keeping w t q k p u) = false
+is_quiet (gathered i) = false
+is_quiet (releasing w i q k p u) = false
+is_quiet (editing w i k p u) = false
 is_quiet (staged x f g) = is_quiet f && is_quiet g

@@ -1,32 +1,45 @@
 -- A copy of a node stands for the same.
-use Rattle.std.proofs.Common.{◌≡◌, ℕ, suc, ◌+◌, ◌<◌, Bool, true, false, List, [], ◌∷◌, ◌++◌, length, get_or, take, String, string_bytes, Vec, Option, Some, None, Result, Ok, Err, IfOk, refl, subst, sym, ◌∙◌, ap, arith}
+use Rattle.std.proofs.Common.{◌≡◌, ℕ, suc, ◌+◌, ◌<◌, Bool, true, false, List, [], ◌∷◌, ◌++◌, length, get_or, set, take, String, string_bytes, Vec, Option, Some, None, Result, Ok, Err, IfOk, refl, subst, sym, ◌∙◌, ap, map, arith}
 use Rattle.std.proofs.Math.Seq.{take-suc}
+use Rattle.std.proofs.lemmas.List.{take_more_set}
 use Rattle.std.specs.declared.alloc.Global.{Global}
 use Rattle.std.specs.declared.rc.Rc.{Rc}
 use Rattle.sf_term.specs.declared.form.Join.{Join}
 use Rattle.sf_func.specs.Registries.{AnswersByName}
+use Rattle.sf_law.specs.declared.node.PlanCollection.{PlanCollection}
 use Rattle.sf_law.specs.declared.plan.Plan.{Plan}
-use Rattle.sf_term.specs.Trees.{whole, rest, Term, Primitive, primitive, probe, staged}
-use Rattle.sf_expr.specs.Evaluation.{Scope}
-use Rattle.sf_value.specs.Values.{Data}
-use Rattle.sf_mean.specs.Lives.{Step, Life, Process, resumed, Environment, after, frozen}
-use Rattle.sf_mean.specs.Meaning.{Network, Made, Watched, Takeover, fired, stands_after, Since, watched as was_watched, had_fired}
+use Rattle.sf_law.specs.Entries.{IsCodedCollection}
+use Rattle.sf_law.specs.Arena.{plan_collection, plan_expressions, network_of_plan}
+use Rattle.sf_expr.specs.Expressions.{Pattern}
+use Rattle.sf_expr.specs.Patterns.{pattern_of}
+use Rattle.sf_expr.specs.Arena.{placed_at, name_at}
+use Rattle.sf_term.specs.Trees.{whole, rest, Term, Primitive, primitive, probe, staged, gathered, editing, Collection}
+use Rattle.sf_expr.specs.Evaluation.{Scope, answer}
+use Rattle.sf_value.specs.declared.value.Key.{Key}
+use Rattle.sf_value.specs.View.{key_of}
+use Rattle.sf_value.specs.Values.{Name, Data}
+use Rattle.sf_mean.specs.Lives.{Step, Life, Process, closure, resumed, Environment, after, frozen, Members, no_members, member, each_frozen}
+use Rattle.sf_mean.specs.Meaning.{Network, Made, members_made, Tables, edit_of, which_run, Outputs, Watched, Takeover, fired, stands_after, Since, watched as was_watched, had_fired}
 use Rattle.sf_prim.specs.declared.prim_state.PrimState.{PrimState}
 use Rattle.sf_prim.specs.Keeping.{Remembers}
 use Rattle.sf_state.specs.declared.state.State.{State}
-use Rattle.sf_state.specs.declared.state.State.TheVariants.{Unborn, Primitive as SPrimitive, Live' as Alive', Switch' as Watching', Keeping', Frozen'}
+use Rattle.sf_state.specs.declared.state.State.TheVariants.{Unborn, Primitive as SPrimitive, Live' as Alive', Switch' as Watching', Keeping', Gathering', Frozen'}
 use Rattle.sf_state.specs.declared.state.Live.{Live}
 use Rattle.sf_state.specs.declared.state.Live.{items_hidden-the_row-State-1}
-use Rattle.sf_state.specs.declared.state.Live.TheVariants.{Probe as LProbe, Join as LJoin, Pipeline as LPipeline, Wrap as LWrap}
+use Rattle.sf_state.specs.declared.state.Live.TheVariants.{Probe as LProbe, Join as LJoin, Pipeline as LPipeline, Wrap as LWrap, Gathered as LGathered}
 use Rattle.sf_state.specs.declared.state.Wrap.{Wrap}
 use Rattle.sf_state.specs.declared.state.Process.{Process as SProcess}
 use Rattle.sf_state.specs.declared.state.Switch.{Switch}
 use Rattle.sf_state.specs.declared.state.Keeping.{Keeping}
+use Rattle.sf_state.specs.declared.state.Gathering.{Gathering}
+use Rattle.sf_state.specs.declared.state.Gathering.TheVariants.{Releasing as GReleasing, Editing as GEditing}
+use Rattle.sf_state.specs.declared.state.Releasing.{Releasing}
+use Rattle.sf_state.specs.declared.state.Editing.{Editing}
 use Rattle.sf_state.specs.declared.state.Frozen.{Frozen}
 use Rattle.sf_state.specs.declared.state.Kept.{Kept}
-use Rattle.sf_state.specs.declared.state.Kept.TheVariants.{Primitive as KPrimitive, Live' as KLive', Switch' as KSwitch', Keeping' as KKeeping'}
+use Rattle.sf_state.specs.declared.state.Kept.TheVariants.{Primitive as KPrimitive, Live' as KLive', Switch' as KSwitch', Keeping' as KKeeping', Gathering' as KGathering'}
 use Rattle.sf_state.specs.declared.env.Env.{Env}
-use Rattle.sf_state.specs.Standing.{Wraps, kept_state, Turned, fired_to, kept_to, ran, went_on, was_alike, Stands, itself, took_over, StandsItself, unborn, recalling, recalls, alive, watching, keeping_on, was_frozen, Waits, waits_so, recurs_so, WaitsKeeping, keeps_so, Settles, settles, Ready, ready, Lives, lives_probe, lives_join, lives_pipeline, lives_wrap, StagesStand, last_stands, stage_stands, IsProcess, is_closure, IsNames, AllFollow, none_follow, more_follow}
+use Rattle.sf_state.specs.Standing.{Wraps, kept_state, Turned, fired_to, kept_to, released_to, ran, went_on, was_alike, Stands, itself, took_over, StandsItself, unborn, recalling, recalls, alive, watching, keeping_on, gathering_on, was_frozen, Waits, waits_so, recurs_so, WaitsKeeping, keeps_so, WaitsGathered, releases_so, edits_so, Settles, settles, Ready, ready, Lives, lives_probe, lives_join, lives_pipeline, lives_wrap, lives_gathered, keys_in, Gathers, gathers, EachStands, none_stands, one_stands, StagesStand, last_stands, stage_stands, IsProcess, is_closure, IsNames, AllFollow, none_follow, more_follow, AllFreeze, none_freeze, more_freeze}
 
 -- whether a life has a step
 abbrev pub has_step : Life → Bool
@@ -50,6 +63,7 @@ after_begun h d s (r ∷ L) = refl
 turned_begun : {n : Network} {P Q : Process} {L M : Life} → Turned n P L Q M → has_step L ≡ has_step M
 turned_begun (fired_to S O) = since_begun S
 turned_begun (kept_to S O) = since_begun S
+turned_begun (released_to h S O) = since_begun S
 turned_begun (ran h O) = refl
 turned_begun (went_on {h = h} {d = d} {s = s} {L = L} O) = sym (after_begun h d s L)
 turned_begun (was_alike A O) = refl
@@ -120,6 +134,37 @@ module _ (φ : AnswersByName) (p : Plan) where
       step : (P : Process) (L : Life) → StandsItself φ p (Keeping' names at s.shown s.first s.source s.before s.observer s.name s.pattern s.body) P L → StandsItself φ p (Keeping' around at' r.shown r.first r.source r.before r.observer r.name r.pattern r.body) P L
       step P L (keeping_on N K) = keeping_on (h _ N) (f _ _ K)
 
+  -- the same of members that wait
+  abbrev pub GatheringFollows : Gathering → Gathering → Type 0
+  GatheringFollows g h = (P : Process) (L : Life) → WaitsGathered φ p g P L → WaitsGathered φ p h P L
+
+  pub same_gathers : (g h : Gathering) → h ≡ g → GatheringFollows g h
+  same_gathers g h e P L S = subst (λ (g : Gathering). WaitsGathered φ p g P L) (sym e) S
+
+  pub gathering_follows : {at at' : _} (names around : Env) (g h : Gathering) → NamesFollow names around → GatheringFollows g h → Follows (Gathering' names at g) (Gathering' around at' h)
+  gathering_follows {at} {at'} names around g h n f = itself_follows (Gathering' names at g) (Gathering' around at' h) step
+    where
+      step : (P : Process) (L : Life) → StandsItself φ p (Gathering' names at g) P L → StandsItself φ p (Gathering' around at' h) P L
+      step P L (gathering_on N W) = gathering_on (n _ N) (f _ _ W)
+
+  -- the same members in other nodes
+  abbrev pub MembersFollow : Live → Live → Type 0
+  MembersFollow l m = (ms : Members) (L : Life) → Gathers φ p l ms L → Gathers φ p m ms L
+
+  pub releasing_follows : (s : Releasing) (l x : Live) (o : State) → MembersFollow s.members l → Follows s.observer o
+      → GatheringFollows (GReleasing s) (GReleasing (record { shown = s.shown; members = l; before = x; observer = o; name = s.name; pattern = s.pattern; body = s.body }))
+  releasing_follows s l x o f g P L (releases_so h S Z Y G A) = releases_so h S Z Y (f _ _ G) (g _ _ A)
+
+  -- the edit may stand under another pointer
+  pub editing_follows : (s : Editing) (l : Live) (c : Rc PlanCollection Global) → c.value ≡ s.edit.value → MembersFollow s.members l → GatheringFollows (GEditing s) (GEditing (record { shown = s.shown; members = l; name = s.name; pattern = s.pattern; edit = c }))
+  editing_follows s l c same f P L (edits_so {i = i} {e = e} {ms = ms} {qs = qs} {L = K} {zs = zs} C h R Z Y G) =
+      let k : Name = name_at (plan_expressions p) s.name in
+      let q : Pattern = pattern_of (placed_at (plan_expressions p) s.pattern) in
+      let edited : PlanCollection → Process = λ v. closure (editing s.shown i k q (plan_collection p v)) e in
+      let waits : PlanCollection → Type 0 = λ v. IsCodedCollection (plan_expressions p) v → which_run (edit_of φ k q (plan_collection p v) e) ms K ≡ answer qs → Outputs (network_of_plan φ p) (edited v) K zs
+      → WaitsGathered φ p (GEditing (record { shown = s.shown; members = l; name = s.name; pattern = s.pattern; edit = c })) (edited v) K in
+      subst waits same (λ C R Z. edits_so C h R Z Y (f _ _ G)) C R Z
+
   -- the same frozen part under another pointer
   pub frozen_follows : {at at' : _} (f g : Frozen) → g ≡ f → Follows (Frozen' at f.wait f.names f.node) (Frozen' at' g.wait g.names g.node)
   frozen_follows {at} {at'} f g same = subst (λ (g : Frozen). Follows (Frozen' at f.wait f.names f.node) (Frozen' at' g.wait g.names g.node)) (sym same)
@@ -166,6 +211,57 @@ module _ (φ : AnswersByName) (p : Plan) where
   pipeline_follows v w fs P x L (ready h O (lives_pipeline {f = f} {g = g} {e = e} {L = K} S)) =
       ready h O (pipeline_lives w (stages_follow fs (subst (λ (bs : List State). StagesStand φ p bs (staged rest f g) e K) (items_hidden-the_row-State-1 v) S)))
 
+  -- ## Members
+
+  each_follows : {bs cs : List State} {ms : Members} {L : Life} → AllFollow φ p bs cs → EachStands φ p bs ms L → EachStands φ p cs ms L
+  each_follows none_follow none_stands = none_stands
+  each_follows (more_follow f fs) (one_stands A S) = one_stands (f _ _ A) (each_follows fs S)
+
+  -- states under keys have the members where each stands for its own
+  pub gathers_where : (keys : Rc (Vec Key Global) Global) (v : Vec State Global) {ms : Members} {L : Life} → map key_of keys.value.items ≡ keys_in ms → EachStands φ p v.items ms L → Gathers φ p (LGathered keys v) ms L
+  gathers_where keys v {ms} {L} K S = gathers K (subst (λ (bs : List State). EachStands φ p bs ms L) (sym (items_hidden-the_row-State-1 v)) S)
+
+  pub each_where : (keys : Rc (Vec Key Global) Global) (v : Vec State Global) {ms : Members} {L : Life} → Gathers φ p (LGathered keys v) ms L → (map key_of keys.value.items ≡ keys_in ms) × EachStands φ p v.items ms L
+  each_where keys v {ms} {L} (gathers K S) = (K, subst (λ (bs : List State). EachStands φ p bs ms L) (items_hidden-the_row-State-1 v) S)
+
+  -- members of which each follows have the same keys
+  pub members_follow : (keys under : Rc (Vec Key Global) Global) (v w : Vec State Global) → under.value ≡ keys.value → AllFollow φ p v.items w.items → MembersFollow (LGathered keys v) (LGathered under w)
+  members_follow keys under v w same fs ms L G =
+      let E = each_where keys v G in
+      gathers_where under w (ap (λ (l : Vec Key Global). map key_of l.items) same ∙ E.0) (each_follows fs E.1)
+
+  -- a node with the same members is the same part
+  members_live : {m : Live} {i : Collection} {e : Environment} {ms : Members} {L : Life} {ys : List Data} → Tables (network_of_plan φ p) ms L ys → Gathers φ p m ms L → Lives φ p m (gathered i) e (members_made ms) L
+  members_live Y (gathers K S) = lives_gathered Y (gathers K S)
+
+  pub gathered_follows : (keys : Rc (Vec Key Global) Global) (v : Vec State Global) (m : Live) → MembersFollow (LGathered keys v) m → NodeFollows (LGathered keys v) m
+  gathered_follows keys v m f P x L (ready h O (lives_gathered Y G)) = ready h O (members_live Y (f _ _ G))
+
+  frozen_keys : (ms : Members) (L : Life) (d : ℕ) → keys_in (each_frozen ms L d) ≡ keys_in ms
+  frozen_keys no_members L d = refl
+  frozen_keys (member k P ms) L d = ap (λ ks. k ∷ ks) (frozen_keys ms L d)
+
+  each_freezes : {d : ℕ} {bs cs : List State} {ms : Members} {L : Life} → AllFreeze φ p d bs cs → EachStands φ p bs ms L → EachStands φ p cs (each_frozen ms L d) []
+  each_freezes none_freeze none_stands = none_stands
+  each_freezes (more_freeze f fs) (one_stands A S) = one_stands (f _ _ A) (each_freezes fs S)
+
+  pub members_freeze : (d : ℕ) (keys under : Rc (Vec Key Global) Global) (v w : Vec State Global) → under.value ≡ keys.value → AllFreeze φ p d v.items w.items → (ms : Members) (L : Life) → Gathers φ p (LGathered keys v) ms L → Gathers φ p (LGathered under w) (each_frozen ms L d) []
+  members_freeze d keys under v w same fs ms L G =
+      let E = each_where keys v G in
+      gathers_where under w (ap (λ (l : Vec Key Global). map key_of l.items) same ∙ E.0 ∙ sym (frozen_keys ms L d)) (each_freezes fs E.1)
+
+  freeze_push : {d : ℕ} {bs cs : List State} (a b : State) → AllFreeze φ p d bs cs → ((P : Process) (L : Life) → Stands φ p a P L → Stands φ p b (frozen P L d) []) → AllFreeze φ p d (bs ++ a ∷ []) (cs ++ b ∷ [])
+  freeze_push a b none_freeze f = more_freeze f none_freeze
+  freeze_push a b (more_freeze g fs) f = more_freeze g (freeze_push a b fs f)
+
+  -- one more state is frozen
+  pub freeze_next : (d : ℕ) (bs cs ds : List State) (i : ℕ) (a b : State) → AllFreeze φ p d (take i bs) cs → i < length bs → a ≡ get_or bs i a → ((P : Process) (L : Life) → Stands φ p a P L → Stands φ p b (frozen P L d) []) → ds ≡ cs ++ b ∷ [] → AllFreeze φ p d (take (i + 1) bs) ds
+  freeze_next d bs cs ds i a b fs h e f ed =
+      let n : take (i + 1) bs ≡ take i bs ++ a ∷ [] = let more : i + 1 ≡ suc i = omega arith in ap (λ k. take k bs) more ∙ take-suc bs i a h ∙ ap (λ x. take i bs ++ x ∷ []) (sym e) in
+      rw (n, ed) (freeze_push a b fs f)
+
+  -- ## States one after another
+
   follow_push : {bs cs : List State} (a b : State) → AllFollow φ p bs cs → Follows a b → AllFollow φ p (bs ++ a ∷ []) (cs ++ b ∷ [])
   follow_push a b none_follow f = more_follow f none_follow
   follow_push a b (more_follow g fs) f = more_follow g (follow_push a b fs f)
@@ -175,6 +271,10 @@ module _ (φ : AnswersByName) (p : Plan) where
   follow_next bs cs ds i a b fs h e f ed =
       let n : take (i + 1) bs ≡ take i bs ++ a ∷ [] = let more : i + 1 ≡ suc i = omega arith in ap (λ k. take k bs) more ∙ take-suc bs i a h ∙ ap (λ x. take i bs ++ x ∷ []) (sym e) in
       rw (n, ed) (follow_push a b fs f)
+
+  -- a state in the place of one follows
+  pub follow_set : (bs cs ds : List State) (i : ℕ) (a b : State) → AllFollow φ p (take i bs) (take i cs) → i < length bs → i < length cs → a ≡ get_or bs i a → Follows a b → ds ≡ set cs i b → AllFollow φ p (take (i + 1) bs) (take (i + 1) ds)
+  follow_set bs cs ds i a b fs h k e f ed = follow_next bs (take i cs) (take (i + 1) ds) i a b fs h e f (ap (λ (xs : List State). take (i + 1) xs) ed ∙ take_more_set cs i b k)
 
   -- ## Freezing
 
@@ -231,6 +331,12 @@ module _ (φ : AnswersByName) (p : Plan) where
       step : (P : Process) (L : Life) → StandsItself φ p (Keeping' names at s.shown s.first s.source s.before s.observer s.name s.pattern s.body) P L → has_step L ≡ true
       step P L (keeping_on N K) = refl
 
+  pub gathering_lived : {at : _} (names : Env) (g : Gathering) → HasLived (Gathering' names at g)
+  gathering_lived {at} names g = itself_lived (Gathering' names at g) step
+    where
+      step : (P : Process) (L : Life) → StandsItself φ p (Gathering' names at g) P L → has_step L ≡ true
+      step P L (gathering_on N W) = refl
+
   -- b stands for what a stands for, frozen
   abbrev pub Freezes : State → State → ℕ → Type 0
   Freezes a b d = (P : Process) (L : Life) → Stands φ p a P L → Stands φ p b (frozen P L d) []
@@ -251,6 +357,7 @@ module _ (φ : AnswersByName) (p : Plan) where
   kept_around names around (KLive' at l) N = alive_follows names around l l N (λ P x L R. R)
   kept_around names around (KSwitch' at w a q b) N = let s : Switch = record { form = w; running = a; pattern = q; body = b } in watching_follows names around s s N (λ P L S. S)
   kept_around names around (KKeeping' at w f a x o i q b) N = let s : Keeping = record { shown = w; first = f; source = a; before = x; observer = o; name = i; pattern = q; body = b } in keeping_follows names around s s N (λ P L S. S)
+  kept_around names around (KGathering' at g) N = gathering_follows names around g g N (λ P L S. S)
 
   -- a frozen node with the same names
   pub node_freezes : {at : _} (d : ℕ) (names around : Env) (k : Kept) (f : Frozen) → NamesFollow names around → f ≡ record { wait = d; names = around; node = k }

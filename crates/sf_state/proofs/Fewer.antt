@@ -1,13 +1,13 @@
 -- Names of which only some are kept.
-use Rattle.std.proofs.Common.{◌≡◌, false, Option, Some, None, IsTrue, sym, subst}
+use Rattle.std.proofs.Common.{◌≡◌, false, [], Option, Some, None, IsTrue, sym, subst}
 use Rattle.std.specs.Prelude.{IfSome}
 use Rattle.sf_value.specs.Values.{Name, Data, first_of, second_of}
 use Rattle.sf_func.specs.Registries.{AnswersByName}
 use Rattle.sf_expr.specs.Expressions.{Pattern, unnamed, named, both}
-use Rattle.sf_mean.specs.Lives.{Process, closure, Environment, bind, running}
+use Rattle.sf_mean.specs.Lives.{Process, closure, Environment, bind, running, collected, Members}
 use Rattle.sf_coincidence.specs.Mentions.{BindsOthers}
 use Rattle.sf_coincidence.specs.Alike.{AlikeAt, of_closures}
-use Rattle.sf_coincidence.proofs.Same.{alike_itself, alike_back, at_itself, at_bound, at_running, at_other_value, at_other_process}
+use Rattle.sf_coincidence.proofs.Same.{alike_itself, members_themselves, alike_back, at_itself, at_bound, at_running, at_collected, at_other_value, at_other_process, at_other_members}
 use Rattle.sf_law.specs.declared.node.PlanId.{PlanId}
 use Rattle.sf_law.specs.declared.plan.Plan.{Plan}
 use Rattle.sf_law.specs.declared.mentioned.Mentioned.{Mentioned}
@@ -19,8 +19,9 @@ use Rattle.sf_expr.specs.Patterns.{pattern_of}
 use Rattle.sf_state.specs.declared.env.Env.{Env}
 use Rattle.sf_state.specs.declared.env.Binding.{Binding}
 use Rattle.sf_state.specs.declared.env.Running.{Running}
-use Rattle.sf_state.specs.declared.env.Env.TheVariants.{Empty as SEmpty, Bound', Running'}
-use Rattle.sf_state.specs.Standing.{closed_over, HasMentioned, has_mentioned, IsNames, is_empty, is_bound, is_running, IsHanded, IsProcess, is_closure}
+use Rattle.sf_state.specs.declared.env.Collected.{Collected}
+use Rattle.sf_state.specs.declared.env.Env.TheVariants.{Empty as SEmpty, Bound', Running', Collected'}
+use Rattle.sf_state.specs.Standing.{closed_over, HasMentioned, has_mentioned, IsNames, is_empty, is_bound, is_running, is_collected, Gathers, IsHanded, IsProcess, is_closure}
 
 -- a name that a pattern doesn't bind stands for alike inside it and around it
 outside : {x : Name} {d e : Environment} (q : Pattern) (v : Data) → BindsOthers q x → AlikeAt x d e → AlikeAt x d (bind q v e)
@@ -45,6 +46,10 @@ module _ (φ : AnswersByName) (p : Plan) where
   pub process_falls : {m : Mentioned} {names : Env} {e : Environment} (k : Name) (P : Process) → ((x : Name) → IsTrue (is_mentioned m x) → BindsOthers (named k) x) → HasMentioned φ p m names e → HasMentioned φ p m names (running k P e)
   process_falls k P h (has_mentioned N A) = has_mentioned N (λ x j. at_other_process x k P (not_bound (named k) x (h x j)) (A x j))
 
+  -- so do members
+  pub members_fall : {m : Mentioned} {names : Env} {e : Environment} (k : Name) (ms : Members) → ((x : Name) → IsTrue (is_mentioned m x) → BindsOthers (named k) x) → HasMentioned φ p m names e → HasMentioned φ p m names (collected k ms e)
+  members_fall k ms h (has_mentioned N A) = has_mentioned N (λ x j. at_other_members x k ms (not_bound (named k) x (h x j)) (A x j))
+
   -- a term has what it mentions
   pub term_closed : {m : Mentioned} {names : Env} {e : Environment} (a : PlanId) → Covers m (plan_tree p a) → HasMentioned φ p m names e → IsProcess φ p (closed_over a names) (closure (plan_tree p a) e)
   term_closed a C (has_mentioned N A) = is_closure (alike_back (of_closures (λ x h. A x (C x h)))) N
@@ -59,6 +64,11 @@ module _ (φ : AnswersByName) (p : Plan) where
       → (e : Environment) → IsNames φ p (Running' at r.name r.handed.process r.handed.base.term r.handed.base.names r.around) e → C e
   inside_process r C h e (is_running {P = P} {e = around} A B N) = h around P (A, B) N
 
+  -- and inside members under theirs
+  pub inside_members : {at : _} (c : Collected) (C : Environment → Type 0) → ((e : Environment) (ms : Members) → Gathers φ p c.members ms [] → IsNames φ p c.around e → C (collected (name_at (plan_expressions p) c.name) ms e))
+      → (e : Environment) → IsNames φ p (Collected' at c.name c.members c.around) e → C e
+  inside_members c C h e (is_collected {ms = ms} {e = around} G N) = h around ms G N
+
   -- a pattern over fewer names
   pub over_fewer : {at : _} {m l : Mentioned} {e : Environment} (b : Binding) → ((x : Name) → IsTrue (is_mentioned m x) → BindsOthers (pattern_of (placed_at (plan_expressions p) b.pattern)) x → IsTrue (is_mentioned l x))
       → HasMentioned φ p l b.around e → HasMentioned φ p m (Bound' at b.pattern b.value b.around) (bind (pattern_of (placed_at (plan_expressions p) b.pattern)) b.value.value e)
@@ -71,6 +81,13 @@ module _ (φ : AnswersByName) (p : Plan) where
   process_over_fewer {P = P} r h H (has_mentioned N A) =
       let k = name_at (plan_expressions p) r.name in
       has_mentioned (is_running H.0 H.1 N) (λ x w. at_running k (alike_itself P) (λ free. A x (h x w (others (named k) x free))))
+
+  -- members over fewer names
+  pub members_over_fewer : {at : _} {m l : Mentioned} {e : Environment} {ms : Members} (c : Collected) → ((x : Name) → IsTrue (is_mentioned m x) → BindsOthers (named (name_at (plan_expressions p) c.name)) x → IsTrue (is_mentioned l x))
+      → Gathers φ p c.members ms [] → HasMentioned φ p l c.around e → HasMentioned φ p m (Collected' at c.name c.members c.around) (collected (name_at (plan_expressions p) c.name) ms e)
+  members_over_fewer {ms = ms} c h G (has_mentioned N A) =
+      let k = name_at (plan_expressions p) c.name in
+      has_mentioned (is_collected G N) (λ x w. at_collected k (members_themselves ms) (λ free. A x (h x w (others (named k) x free))))
 
   -- a binding that was made over fewer names
   pub over_made : {at : _} {m l : Mentioned} {e : Environment} (b c : Binding) → c ≡ b → (d : Data) → b.value.value ≡ d
@@ -88,6 +105,13 @@ module _ (φ : AnswersByName) (p : Plan) where
   process_made {at} {m} {e = e} {P = P} r c same h H K =
       subst (λ (c : Running). HasMentioned φ p m (Running' at c.name c.handed.process c.handed.base.term c.handed.base.names c.around) (running (name_at (plan_expressions p) r.name) P e)) (sym same) (process_over_fewer r h H K)
 
+  -- and of members under theirs
+  pub members_made : {at : _} {m l : Mentioned} {e : Environment} {ms : Members} (b c : Collected) → c ≡ b
+      → ((x : Name) → IsTrue (is_mentioned m x) → BindsOthers (named (name_at (plan_expressions p) b.name)) x → IsTrue (is_mentioned l x)) → Gathers φ p b.members ms [] → HasMentioned φ p l b.around e
+      → HasMentioned φ p m (Collected' at c.name c.members c.around) (collected (name_at (plan_expressions p) b.name) ms e)
+  members_made {at} {m} {e = e} {ms = ms} b c same h G K =
+      subst (λ (c : Collected). HasMentioned φ p m (Collected' at c.name c.members c.around) (collected (name_at (plan_expressions p) b.name) ms e)) (sym same) (members_over_fewer b h G K)
+
   -- what is left, where it is less, is so inside what falls away
   pub pattern_fell : (m : Mentioned) (e : Environment) (q : Pattern) (v : Data) (left : Option Env) → ((x : Name) → IsTrue (is_mentioned m x) → BindsOthers q x) → IfSome left (λ names. HasMentioned φ p m names e) → IfSome left (λ names. HasMentioned φ p m names (bind q v e))
   pattern_fell m e q v (Some names) h H = pattern_falls q v h H
@@ -96,6 +120,10 @@ module _ (φ : AnswersByName) (p : Plan) where
   pub process_fell : (m : Mentioned) (e : Environment) (k : Name) (P : Process) (left : Option Env) → ((x : Name) → IsTrue (is_mentioned m x) → BindsOthers (named k) x) → IfSome left (λ names. HasMentioned φ p m names e) → IfSome left (λ names. HasMentioned φ p m names (running k P e))
   process_fell m e k P (Some names) h H = process_falls k P h H
   process_fell m e k P None h H = tt
+
+  pub members_fell : (m : Mentioned) (e : Environment) (k : Name) (ms : Members) (left : Option Env) → ((x : Name) → IsTrue (is_mentioned m x) → BindsOthers (named k) x) → IfSome left (λ names. HasMentioned φ p m names e) → IfSome left (λ names. HasMentioned φ p m names (collected k ms e))
+  members_fell m e k ms (Some names) h H = members_fall k ms h H
+  members_fell m e k ms None h H = tt
 
   -- no names are left, where nothing is mentioned
   pub emptied_kept : (m : Mentioned) (e : Environment) (left : Option Env) → ((x : Name) → is_mentioned m x ≡ false) → IfSome left (λ names. names ≡ SEmpty) → IfSome left (λ names. HasMentioned φ p m names e)

@@ -16,27 +16,31 @@ use Rattle.sf_expr.specs.declared.exprs.NameId.{NameId}
 use Rattle.sf_expr.specs.declared.exprs.PatternId.{PatternId}
 use Rattle.sf_expr.specs.Arena.{name_at, placed_at}
 use Rattle.sf_code.specs.Names.{ValuesByName, value_named, scope_with}
-use Rattle.sf_mean.specs.Lives.{Process, Environment, empty, known, running, bind, passing, process_of, scope_around}
+use Rattle.sf_mean.specs.Lives.{Process, base, Environment, empty, known, running, collected, Members, no_members, bind, passing, process_of, members_of, scope_around}
+use Rattle.sf_law.specs.declared.node.PlanId.{PlanId}
 use Rattle.sf_law.specs.declared.plan.Plan.{Plan}
 use Rattle.sf_law.specs.Arena.{plan_expressions, plan_asks, header_at}
 use Rattle.sf_law.specs.Places.{names_of_parameters, last_parameter}
 use Rattle.sf_state.specs.declared.state.State.{State}
+use Rattle.sf_state.specs.declared.state.Live.{Live}
 use Rattle.sf_state.specs.declared.env.Env.{Env}
-use Rattle.sf_state.specs.declared.env.Env.TheVariants.{Bound', Running', Called as ECalled}
+use Rattle.sf_state.specs.declared.env.Env.TheVariants.{Bound', Running', Collected', Called as ECalled}
 use Rattle.sf_state.specs.declared.env.Call.{Call, items-the_row-Given, items_hidden-the_row-Given-0}
 use Rattle.sf_state.specs.declared.env.Handed.{Handed}
 use Rattle.sf_state.specs.declared.env.Given.{Given}
-use Rattle.sf_state.specs.declared.env.Given.TheVariants.{Value as GValue, Process' as GProcess'}
+use Rattle.sf_state.specs.declared.env.Given.TheVariants.{Value as GValue, Process' as GProcess', Members as GMembers}
 use Rattle.sf_state.specs.declared.env.Binding.{Binding}
 use Rattle.sf_state.specs.declared.env.Running.{Running}
+use Rattle.sf_state.specs.declared.env.Collected.{Collected}
 use Rattle.sf_state.specs.declared.state.Process.{Process as SProcess}
-use Rattle.sf_state.specs.Names.{given_value, handed_of, given_at, values_given, values_inside, values_around}
-use Rattle.sf_state.specs.Standing.{IsNames, is_empty, is_bound, is_running, is_called, AreGiven, nothing_given, value_is_given, process_is_given, IsHanded, IsFound}
+use Rattle.sf_state.specs.Names.{given_value, handed_of, given_members, given_at, values_given, values_inside, values_around}
+use Rattle.sf_state.specs.Standing.{IsNames, is_empty, is_bound, is_running, is_collected, is_called, closed_over, IsProcess, Stands, AreGiven, nothing_given, value_is_given, process_is_given, members_are_given, Gathers, AreFound, IsHanded, IsFound}
 
 pub functions_around : (φ : AnswersByName) (e : Environment) → functions_in (scope_around φ e) ≡ φ
 functions_around φ empty = refl
 functions_around φ (known x d e) = functions_around φ e
 functions_around φ (running x P e) = functions_around φ e
+functions_around φ (collected x ms e) = functions_around φ e
 
 -- the scope inside a pattern
 values_bound : (φ : AnswersByName) (q : Pattern) (d : Data) (vs : ValuesByName) → scope_with (values_inside q d vs) φ ≡ bound_in q d (scope_with vs φ)
@@ -54,6 +58,7 @@ scope_given : (φ : AnswersByName) (p : Plan) (xs : List Name) (gs : List Given)
 scope_given φ p xs gs d e nothing_given vs h = h
 scope_given φ p xs gs d e (value_is_given {x = x} {xs = ys} {v = v} {gs = hs} {d = b} G) vs h = scope_given φ p ys hs (known x v b) e G ((x, Some v) ∷ vs) (ap (value_name x v) h)
 scope_given φ p xs gs d e (process_is_given {x = x} {xs = ys} {gs = hs} {P = P} {d = b} A B G) vs h = scope_given φ p ys hs (running x P b) e G ((x, None) ∷ vs) (ap (other_name x) h)
+scope_given φ p xs gs d e (members_are_given {x = x} {xs = ys} {gs = hs} {ms = ms} {d = b} A G) vs h = scope_given φ p ys hs (collected x ms b) e G ((x, None) ∷ vs) (ap (other_name x) h)
 
 -- the scope of the values is that of the environment
 pub scope_is : (φ : AnswersByName) (p : Plan) (names : Env) (e : Environment) → IsNames φ p names e → scope_with (values_around p names) φ ≡ scope_around φ e
@@ -64,44 +69,65 @@ scope_is φ p names e (is_bound {q = i} {v = v} {names = outer} {e = around} N) 
     ∙ ap (bound_in q v.value) (scope_is φ p outer around N)
     ∙ sym (environment_bound φ q v.value around)
 scope_is φ p names e (is_running {k = k} {names = outer} {e = around} A B N) = ap (other_name (name_at (plan_expressions p) k)) (scope_is φ p outer around N)
+scope_is φ p names e (is_collected {k = k} {names = outer} {e = around} G N) = ap (other_name (name_at (plan_expressions p) k)) (scope_is φ p outer around N)
 scope_is φ p names e (is_called {g = g} {row = row} G) = scope_given φ p (names_of_parameters (plan_expressions p) (header_at p g).parameters) (items-the_row-Given _ row) empty e G [] refl
 
 -- what stands behind a value under the same name
-hidden_by : Option Data → Process → Process
-hidden_by (Some d) P = passing
-hidden_by None P = P
+hidden_by : {A : Type 0} → A → Option Data → A → A
+hidden_by none (Some d) a = none
+hidden_by none None a = a
 
--- a value of a pattern hides a process of the same name
-process_bound : (x : Name) (q : Pattern) (d : Data) (vs : ValuesByName) (e : Environment) (P : Process) → process_of x e ≡ hidden_by (value_named vs x) P → process_of x (bind q d e) ≡ hidden_by (value_named (values_inside q d vs) x) P
-unfolding hidden_by
-process_bound x unnamed d vs e P h = h
-process_bound x (named y) d vs e P h = by_test (bytes_eq x y)
-  where
-    by_test : (b : Bool) → cond b passing (process_of x e) ≡ hidden_by (cond b (Some d) (value_named vs x)) P
-    by_test true = refl
-    by_test false = h
-process_bound x (both p q) d vs e P h = process_bound x q (second_of d) (values_inside p (first_of d) vs) (bind p (first_of d) e) P (process_bound x p (first_of d) vs e P h)
+-- What stands under a name, as a process or as members, which a value of the same name hides.
+module _ {A : Type 0} (none : A) (x : Name) (under : Environment → A) (hides : (y : Name) (d : Data) (e : Environment) → under (known y d e) ≡ cond (bytes_eq x y) none (under e)) where
+  -- a value of a pattern hides it
+  under_bound : (q : Pattern) (d : Data) (vs : ValuesByName) (e : Environment) (a : A) → under e ≡ hidden_by none (value_named vs x) a → under (bind q d e) ≡ hidden_by none (value_named (values_inside q d vs) x) a
+  unfolding hidden_by
+  under_bound unnamed d vs e a h = h
+  under_bound (named y) d vs e a h = hides y d e ∙ by_test (bytes_eq x y)
+    where
+      by_test : (b : Bool) → cond b none (under e) ≡ hidden_by none (cond b (Some d) (value_named vs x)) a
+      by_test true = refl
+      by_test false = h
+  under_bound (both p q) d vs e a h = under_bound q (second_of d) (values_inside p (first_of d) vs) (bind p (first_of d) e) a (under_bound p (first_of d) vs e a h)
 
-process_inside : (x : Name) (q : Pattern) (d : Data) (e : Environment) → process_of x (bind q d e) ≡ hidden_by (value_named (values_inside q d []) x) (process_of x e)
-unfolding hidden_by
-process_inside x q d e = process_bound x q d [] e (process_of x e) refl
+  under_inside : (q : Pattern) (d : Data) (e : Environment) → under (bind q d e) ≡ hidden_by none (value_named (values_inside q d []) x) (under e)
+  unfolding hidden_by
+  under_inside q d e = under_bound q d [] e (under e) refl
+
+  module _ (φ : AnswersByName) (p : Plan) where
+    -- none stands under a name of a pattern
+    under_value : {at : _} (i : PatternId) (v : Rc Value Global) (names : Env) (d : Data) (e : Environment) → value_named (values_inside (pattern_of (placed_at (plan_expressions p) i)) v.value []) x ≡ Some d
+        → IsNames φ p (Bound' at i v names) e → under e ≡ none
+    unfolding hidden_by
+    under_value i v names d e h (is_bound {e = around} N) = under_inside (pattern_of (placed_at (plan_expressions p) i)) v.value around ∙ ap (λ o. hidden_by none o (under around)) h
+
+    -- behind a pattern without the name stands what stands around it
+    under_pattern : {at : _} (C : A → Type 0) (i : PatternId) (v : Rc Value Global) (names : Env) (e : Environment) → value_named (values_inside (pattern_of (placed_at (plan_expressions p) i)) v.value []) x ≡ None
+        → ((e : Environment) → IsNames φ p names e → C (under e)) → IsNames φ p (Bound' at i v names) e → C (under e)
+    unfolding hidden_by
+    under_pattern C i v names e h outside (is_bound {e = around} N) =
+        subst C (sym (under_inside (pattern_of (placed_at (plan_expressions p) i)) v.value around ∙ ap (λ o. hidden_by none o (under around)) h)) (outside around N)
 
 module _ (φ : AnswersByName) (p : Plan) where
   -- the part of a value under a name of a pattern, if there is one
   abbrev pub part_of : PatternId → Data → Name → Option Data
   part_of i d x = value_named (values_inside (pattern_of (placed_at (plan_expressions p) i)) d []) x
 
-  -- no process stands under a name of a pattern
+  -- no process and no members stand under a name of a pattern
   pub found_value : {at : _} (x : Name) (i : PatternId) (v : Rc Value Global) (names : Env) (d : Data) (e : Environment) → part_of i v.value x ≡ Some d → IsNames φ p (Bound' at i v names) e → process_of x e ≡ passing
-  unfolding hidden_by
-  found_value x i v names d e h (is_bound {e = around} N) = process_inside x (pattern_of (placed_at (plan_expressions p) i)) v.value around ∙ ap (λ o. hidden_by o (process_of x around)) h
+  found_value x = under_value passing x (process_of x) (λ y d e. refl) φ p
+
+  pub members_value : {at : _} (x : Name) (i : PatternId) (v : Rc Value Global) (names : Env) (d : Data) (e : Environment) → part_of i v.value x ≡ Some d → IsNames φ p (Bound' at i v names) e → members_of x e ≡ no_members
+  members_value x = under_value no_members x (members_of x) (λ y d e. refl) φ p
 
   -- behind a pattern without a name stands what stands around it
   pub found_outside : {at : _} (x : Name) (i : PatternId) (v : Rc Value Global) (names : Env) (found : Option Handed) (e : Environment) → part_of i v.value x ≡ None
       → ((e : Environment) → IsNames φ p names e → IsFound φ p x found (process_of x e)) → IsNames φ p (Bound' at i v names) e → IsFound φ p x found (process_of x e)
-  unfolding hidden_by
-  found_outside x i v names found e h outside (is_bound {e = around} N) =
-      subst (λ P. IsFound φ p x found P) (sym (process_inside x (pattern_of (placed_at (plan_expressions p) i)) v.value around ∙ ap (λ o. hidden_by o (process_of x around)) h)) (outside around N)
+  found_outside x i v names found = under_pattern passing x (process_of x) (λ y d e. refl) φ p (IsFound φ p x found) i v names
+
+  pub members_outside : {at : _} (x : Name) (i : PatternId) (v : Rc Value Global) (names : Env) (found : Option Live) (e : Environment) → part_of i v.value x ≡ None
+      → ((e : Environment) → IsNames φ p names e → AreFound φ p found (members_of x e)) → IsNames φ p (Bound' at i v names) e → AreFound φ p found (members_of x e)
+  members_outside x i v names found = under_pattern no_members x (members_of x) (λ y d e. refl) φ p (AreFound φ p found) i v names
 
   -- under its name stands a process
   pub found_there : {at : _} (x : Name) (r : Running) (e : Environment) → bytes_eq x (name_at (plan_expressions p) r.name) ≡ true
@@ -114,6 +140,34 @@ module _ (φ : AnswersByName) (p : Plan) where
   pub found_further : {at : _} (x : Name) (k : NameId) (a : State) (b : SProcess) (names : Env) (found : Option Handed) (e : Environment) → bytes_eq x (name_at (plan_expressions p) k) ≡ false
       → ((e : Environment) → IsNames φ p names e → IsFound φ p x found (process_of x e)) → IsNames φ p (Running' at k a b.term b.names names) e → IsFound φ p x found (process_of x e)
   found_further x k a b names found e h outside (is_running {P = P} {e = around} A B N) = subst (λ c. IsFound φ p x found (cond c P (process_of x around))) (sym h) (outside around N)
+
+  -- under the name of members stands no process
+  pub found_members : {at : _} (x : Name) (k : NameId) (l : Live) (names : Env) (e : Environment) → bytes_eq x (name_at (plan_expressions p) k) ≡ true → IsNames φ p (Collected' at k l names) e → process_of x e ≡ passing
+  found_members x k l names e h (is_collected {e = around} G N) = ap (λ c. cond c passing (process_of x around)) h
+
+  -- behind members of another name
+  pub found_behind : {at : _} (x : Name) (k : NameId) (l : Live) (names : Env) (found : Option Handed) (e : Environment) → bytes_eq x (name_at (plan_expressions p) k) ≡ false
+      → ((e : Environment) → IsNames φ p names e → IsFound φ p x found (process_of x e)) → IsNames φ p (Collected' at k l names) e → IsFound φ p x found (process_of x e)
+  found_behind x k l names found e h outside (is_collected {e = around} G N) = subst (λ c. IsFound φ p x found (cond c passing (process_of x around))) (sym h) (outside around N)
+
+  -- under their name stand members
+  pub members_there : {at : _} (x : Name) (c : Collected) (e : Environment) → bytes_eq x (name_at (plan_expressions p) c.name) ≡ true
+      → IsNames φ p (Collected' at c.name c.members c.around) e → AreFound φ p (Some c.members) (members_of x e)
+  members_there x c e h (is_collected {ms = ms} {e = around} G N) = subst (λ b. AreFound φ p (Some c.members) (cond b ms (members_of x around))) (sym h) G
+
+  -- behind members of another name
+  pub members_further : {at : _} (x : Name) (k : NameId) (l : Live) (names : Env) (found : Option Live) (e : Environment) → bytes_eq x (name_at (plan_expressions p) k) ≡ false
+      → ((e : Environment) → IsNames φ p names e → AreFound φ p found (members_of x e)) → IsNames φ p (Collected' at k l names) e → AreFound φ p found (members_of x e)
+  members_further x k l names found e h outside (is_collected {ms = ms} {e = around} G N) = subst (λ c. AreFound φ p found (cond c ms (members_of x around))) (sym h) (outside around N)
+
+  -- under the name of a process stand no members
+  pub members_process : {at : _} (x : Name) (k : NameId) (a : State) (b : SProcess) (names : Env) (e : Environment) → bytes_eq x (name_at (plan_expressions p) k) ≡ true → IsNames φ p (Running' at k a b.term b.names names) e → members_of x e ≡ no_members
+  members_process x k a b names e h (is_running {e = around} A B N) = ap (λ c. cond c no_members (members_of x around)) h
+
+  -- behind a process of another name
+  pub members_behind : {at : _} (x : Name) (k : NameId) (a : State) (b : SProcess) (names : Env) (found : Option Live) (e : Environment) → bytes_eq x (name_at (plan_expressions p) k) ≡ false
+      → ((e : Environment) → IsNames φ p names e → AreFound φ p found (members_of x e)) → IsNames φ p (Running' at k a b.term b.names names) e → AreFound φ p found (members_of x e)
+  members_behind x k a b names found e h outside (is_running {e = around} A B N) = subst (λ c. AreFound φ p found (cond c no_members (members_of x around))) (sym h) (outside around N)
 
   -- the same names under another pointer
   names_moved : {at at' : _} {b : Binding} {e : Environment} → IsNames φ p (Bound' at b.pattern b.value b.around) e → IsNames φ p (Bound' at' b.pattern b.value b.around) e
@@ -128,6 +182,12 @@ module _ (φ : AnswersByName) (p : Plan) where
   pub running_follows : {at at' : _} (b c : Running) → c ≡ b → (e : Environment) → IsNames φ p (Running' at b.name b.handed.process b.handed.base.term b.handed.base.names b.around) e → IsNames φ p (Running' at' c.name c.handed.process c.handed.base.term c.handed.base.names c.around) e
   running_follows {at' = at'} b c same e N = subst (λ (c : Running). IsNames φ p (Running' at' c.name c.handed.process c.handed.base.term c.handed.base.names c.around) e) (sym same) (running_moved N)
 
+  collected_moved : {at at' : _} {b : Collected} {e : Environment} → IsNames φ p (Collected' at b.name b.members b.around) e → IsNames φ p (Collected' at' b.name b.members b.around) e
+  collected_moved (is_collected G N) = is_collected G N
+
+  pub collected_follows : {at at' : _} (b c : Collected) → c ≡ b → (e : Environment) → IsNames φ p (Collected' at b.name b.members b.around) e → IsNames φ p (Collected' at' c.name c.members c.around) e
+  collected_follows {at' = at'} b c same e N = subst (λ (c : Collected). IsNames φ p (Collected' at' c.name c.members c.around) e) (sym same) (collected_moved N)
+
   -- a pattern's names around a part, once they are bound
   pub names_bound_inside : {at : _} (b c : Binding) → c ≡ b → (e : Environment) → IsNames φ p b.around e → IsNames φ p (Bound' at c.pattern c.value c.around) (bind (pattern_of (placed_at (plan_expressions p) b.pattern)) b.value.value e)
   names_bound_inside {at} b c same e N = subst (λ (c : Binding). IsNames φ p (Bound' at c.pattern c.value c.around) (bind (pattern_of (placed_at (plan_expressions p) b.pattern)) b.value.value e)) (sym same) (is_bound N)
@@ -135,6 +195,10 @@ module _ (φ : AnswersByName) (p : Plan) where
   -- the same of a process under its name
   pub names_running_inside : {at : _} (b c : Running) → c ≡ b → (e : Environment) (P : Process) → IsNames φ p b.around e → IsHanded φ p (name_at (plan_expressions p) b.name) b.handed P → IsNames φ p (Running' at c.name c.handed.process c.handed.base.term c.handed.base.names c.around) (running (name_at (plan_expressions p) b.name) P e)
   names_running_inside {at} b c same e P N H = subst (λ (c : Running). IsNames φ p (Running' at c.name c.handed.process c.handed.base.term c.handed.base.names c.around) (running (name_at (plan_expressions p) b.name) P e)) (sym same) (is_running H.0 H.1 N)
+
+  -- and of members
+  pub names_collected_inside : {at : _} (b c : Collected) → c ≡ b → (e : Environment) (ms : Members) → IsNames φ p b.around e → Gathers φ p b.members ms [] → IsNames φ p (Collected' at c.name c.members c.around) (collected (name_at (plan_expressions p) b.name) ms e)
+  names_collected_inside {at} b c same e ms N G = subst (λ (c : Collected). IsNames φ p (Collected' at c.name c.members c.around) (collected (name_at (plan_expressions p) b.name) ms e)) (sym same) (is_collected G N)
 
 -- ## What is given side by side
 
@@ -167,50 +231,72 @@ module _ (x : Name) where
       each None = refl
       each (Some i) = refl
 
-  module _ (φ : AnswersByName) (p : Plan) where
-    -- a name that has no place stands for what it stood for
-    process_past : (xs : List Name) (gs : List Given) (d e : Environment) → AreGiven φ p xs gs d e → last_parameter x xs ≡ None → process_of x e ≡ process_of x d
-    process_past xs gs d e nothing_given h = refl
-    process_past xs gs d e (value_is_given {x = y} {xs = ys} {v = v} {gs = hs} {d = b} G) h = each (bytes_eq x y) (last_parameter x ys) h (process_past ys hs (known y v b) e G)
-      where
-        each : (c : Bool) (o : Option ℕ) → place_behind c o ≡ None → (o ≡ None → process_of x e ≡ cond c passing (process_of x b)) → process_of x e ≡ process_of x d
-        each true None h rest = absurd cc
-        each false None h rest = rest refl
-        each c (Some i) h rest = absurd cc
-    process_past xs gs d e (process_is_given {x = y} {xs = ys} {gs = hs} {P = P} {d = b} A B G) h = each (bytes_eq x y) (last_parameter x ys) h (process_past ys hs (running y P b) e G)
-      where
-        each : (c : Bool) (o : Option ℕ) → place_behind c o ≡ None → (o ≡ None → process_of x e ≡ cond c P (process_of x b)) → process_of x e ≡ process_of x d
-        each true None h rest = absurd cc
-        each false None h rest = rest refl
-        each c (Some i) h rest = absurd cc
+-- what stands under a name after one that is given: where it is given further, the same as before
+given_past : {A : Type 0} (c : Bool) (o : Option ℕ) (own around last : A) → place_behind c o ≡ None → (o ≡ None → last ≡ cond c own around) → last ≡ around
+given_past true None own around last h past = absurd cc
+given_past false None own around last h past = past refl
+given_past c (Some i) own around last h past = absurd cc
 
-    -- one that has stands for the process that is given there, if one is
-    process_placed : (xs : List Name) (gs : List Given) (d e : Environment) (i : ℕ) → AreGiven φ p xs gs d e → last_parameter x xs ≡ Some i → IsFound φ p x (handed_of (slice_get gs i)) (process_of x e)
-    process_placed xs gs d e i nothing_given h = absurd cc
-    process_placed xs gs d e i (value_is_given {x = y} {xs = ys} {v = v} {gs = hs} {d = b} G) h =
-        each (bytes_eq x y) (last_parameter x ys) h (process_past ys hs (known y v b) e G) (λ j. process_placed ys hs (known y v b) e j G)
-      where
-        each : (c : Bool) (o : Option ℕ) → place_behind c o ≡ Some i → (o ≡ None → process_of x e ≡ cond c passing (process_of x b)) → ((j : ℕ) → o ≡ Some j → IsFound φ p x (handed_of (slice_get hs j)) (process_of x e))
-            → IsFound φ p x (handed_of (slice_get (GValue v ∷ hs) i)) (process_of x e)
-        each true None h past rest = let z : 0 ≡ i = cc in subst (λ k. IsFound φ p x (handed_of (slice_get (GValue v ∷ hs) k)) (process_of x e)) z (past refl)
-        each false None h past rest = absurd cc
-        each c (Some j) h past rest = let z : suc j ≡ i = cc in subst (λ k. IsFound φ p x (handed_of (slice_get (GValue v ∷ hs) k)) (process_of x e)) z (rest j refl)
-    process_placed xs gs d e i (process_is_given {x = y} {xs = ys} {a = a} {b = t} {inner = inner} {gs = hs} {P = P} {d = b} A B G) h =
-        each (bytes_eq x y) (last_parameter x ys) (λ equal. (bytes_eq-Decides x y).0 equal) h (process_past ys hs (running y P b) e G) (λ j. process_placed ys hs (running y P b) e j G)
-      where
-        each : (c : Bool) (o : Option ℕ) → (c ≡ true → x ≡ y) → place_behind c o ≡ Some i → (o ≡ None → process_of x e ≡ cond c P (process_of x b)) → ((j : ℕ) → o ≡ Some j → IsFound φ p x (handed_of (slice_get hs j)) (process_of x e))
-            → IsFound φ p x (handed_of (slice_get (GProcess' a t inner ∷ hs) i)) (process_of x e)
-        each true None same h past rest = let z : 0 ≡ i = cc in subst (λ k. IsFound φ p x (handed_of (slice_get (GProcess' a t inner ∷ hs) k)) (process_of x e)) z (subst (λ Q. IsFound φ p x (handed_of (Some (GProcess' a t inner))) Q) (sym (past refl)) (A, λ asked. B (subst (λ k. IsTrue (plan_asks p k)) (same refl) asked)))
-        each false None same h past rest = absurd cc
-        each c (Some j) same h past rest = let z : suc j ≡ i = cc in subst (λ k. IsFound φ p x (handed_of (slice_get (GProcess' a t inner ∷ hs) k)) (process_of x e)) z (rest j refl)
+-- at the last place of the name stands what is given there
+given_there : {A : Type 0} (C : Option Given → A → Type 0) (g : Given) (gs : List Given) (c : Bool) (o : Option ℕ) (i : ℕ) (own around last : A) → place_behind c o ≡ Some i → (c ≡ true → C (Some g) own)
+    → (o ≡ None → last ≡ cond c own around) → ((j : ℕ) → o ≡ Some j → C (slice_get gs j) last) → C (slice_get (g ∷ gs) i) last
+given_there C g gs true None i own around last h there past rest = let z : 0 ≡ i = cc in subst (λ k. C (slice_get (g ∷ gs) k) last) z (subst (C (Some g)) (sym (past refl)) (there refl))
+given_there C g gs false None i own around last h there past rest = absurd cc
+given_there C g gs c (Some j) i own around last h there past rest = let z : suc j ≡ i = cc in subst (λ k. C (slice_get (g ∷ gs) k) last) z (rest j refl)
 
-    -- the process of a name is the one that is given at its last place
-    pub process_of_place : (xs : List Name) (gs : List Given) (e : Environment) → AreGiven φ p xs gs empty e → IsFound φ p x (handed_of (given_at (last_parameter x xs) gs)) (process_of x e)
-    process_of_place xs gs e G = each (last_parameter x xs) (process_past xs gs empty e G) (λ i. process_placed xs gs empty e i G)
+-- What stands under a name inside what is given, as a process or as members: a process stands there as one thing, members as
+-- another, a value as none.
+module _ (φ : AnswersByName) (p : Plan) (x : Name) {A : Type 0} (none : A) (of_process : Process → A) (of_members : Members → A) (under : Environment → A)
+    (C : Option Given → A → Type 0)
+    (at_value : (y : Name) (d : Data) (e : Environment) → under (known y d e) ≡ cond (bytes_eq x y) none (under e))
+    (at_process : (y : Name) (P : Process) (e : Environment) → under (running y P e) ≡ cond (bytes_eq x y) (of_process P) (under e))
+    (at_members : (y : Name) (ms : Members) (e : Environment) → under (collected y ms e) ≡ cond (bytes_eq x y) (of_members ms) (under e)) where
+  -- a name that has no place stands for what it stood for
+  under_past : (xs : List Name) (gs : List Given) (d e : Environment) → AreGiven φ p xs gs d e → last_parameter x xs ≡ None → under e ≡ under d
+  under_past xs gs d e nothing_given h = refl
+  under_past xs gs d e (value_is_given {x = y} {xs = ys} {v = v} {gs = hs} {d = b} G) h =
+      given_past (bytes_eq x y) (last_parameter x ys) none (under b) (under e) h (λ n. under_past ys hs (known y v b) e G n ∙ at_value y v b)
+  under_past xs gs d e (process_is_given {x = y} {xs = ys} {gs = hs} {P = P} {d = b} A B G) h =
+      given_past (bytes_eq x y) (last_parameter x ys) (of_process P) (under b) (under e) h (λ n. under_past ys hs (running y P b) e G n ∙ at_process y P b)
+  under_past xs gs d e (members_are_given {x = y} {xs = ys} {gs = hs} {ms = ms} {d = b} M G) h =
+      given_past (bytes_eq x y) (last_parameter x ys) (of_members ms) (under b) (under e) h (λ n. under_past ys hs (collected y ms b) e G n ∙ at_members y ms b)
+
+  module _ (value_is : (v : Data) → C (Some (GValue v)) none)
+      (process_is : (y : Name) (a : State) (b : PlanId) (inner : Env) (P : Process) → x ≡ y → Stands φ p a P [] → (IsTrue (plan_asks p y) → IsProcess φ p (closed_over b inner) (base P)) → C (Some (GProcess' a b inner)) (of_process P))
+      (members_are : (l : Live) (ms : Members) → Gathers φ p l ms [] → C (Some (GMembers l)) (of_members ms)) where
+    -- one that has stands for what is given there
+    under_placed : (xs : List Name) (gs : List Given) (d e : Environment) (i : ℕ) → AreGiven φ p xs gs d e → last_parameter x xs ≡ Some i → C (slice_get gs i) (under e)
+    under_placed xs gs d e i nothing_given h = absurd cc
+    under_placed xs gs d e i (value_is_given {x = y} {xs = ys} {v = v} {gs = hs} {d = b} G) h =
+        given_there C (GValue v) hs (bytes_eq x y) (last_parameter x ys) i none (under b) (under e) h (λ same. value_is v)
+        (λ n. under_past ys hs (known y v b) e G n ∙ at_value y v b) (λ j. under_placed ys hs (known y v b) e j G)
+    under_placed xs gs d e i (process_is_given {x = y} {xs = ys} {a = a} {b = t} {inner = inner} {gs = hs} {P = P} {d = b} A B G) h =
+        given_there C (GProcess' a t inner) hs (bytes_eq x y) (last_parameter x ys) i (of_process P) (under b) (under e) h (λ same. process_is y a t inner P ((bytes_eq-Decides x y).0 same) A B)
+        (λ n. under_past ys hs (running y P b) e G n ∙ at_process y P b) (λ j. under_placed ys hs (running y P b) e j G)
+    under_placed xs gs d e i (members_are_given {x = y} {xs = ys} {l = l} {gs = hs} {ms = ms} {d = b} M G) h =
+        given_there C (GMembers l) hs (bytes_eq x y) (last_parameter x ys) i (of_members ms) (under b) (under e) h (λ same. members_are l ms M)
+        (λ n. under_past ys hs (collected y ms b) e G n ∙ at_members y ms b) (λ j. under_placed ys hs (collected y ms b) e j G)
+
+    -- a name stands for what is given at its last place
+    under_place : (xs : List Name) (gs : List Given) (e : Environment) → C None (under empty) → AreGiven φ p xs gs empty e → C (given_at (last_parameter x xs) gs) (under e)
+    under_place xs gs e without G = each (last_parameter x xs) (under_past xs gs empty e G) (λ i. under_placed xs gs empty e i G)
       where
-        each : (o : Option ℕ) → (o ≡ None → process_of x e ≡ passing) → ((i : ℕ) → o ≡ Some i → IsFound φ p x (handed_of (slice_get gs i)) (process_of x e)) → IsFound φ p x (handed_of (given_at o gs)) (process_of x e)
-        each None past there = past refl
+        each : (o : Option ℕ) → (o ≡ None → under e ≡ under empty) → ((i : ℕ) → o ≡ Some i → C (slice_get gs i) (under e)) → C (given_at o gs) (under e)
+        each None past there = subst (C None) (sym (past refl)) without
         each (Some i) past there = there i refl
+
+module _ (φ : AnswersByName) (p : Plan) (x : Name) where
+  -- the process of a name is the one that is given at its last place
+  pub process_of_place : (xs : List Name) (gs : List Given) (e : Environment) → AreGiven φ p xs gs empty e → IsFound φ p x (handed_of (given_at (last_parameter x xs) gs)) (process_of x e)
+  process_of_place xs gs e G =
+      under_place φ p x passing (λ P. P) (λ ms. passing) (process_of x) (λ o P. IsFound φ p x (handed_of o) P) (λ y d e. refl) (λ y P e. refl) (λ y ms e. refl)
+      (λ v. refl) (λ y a b inner P same A B. (A, λ asked. B (subst (λ k. IsTrue (plan_asks p k)) same asked))) (λ l ms M. refl) xs gs e refl G
+
+  -- and its members
+  pub members_of_place : (xs : List Name) (gs : List Given) (e : Environment) → AreGiven φ p xs gs empty e → AreFound φ p (given_members (given_at (last_parameter x xs) gs)) (members_of x e)
+  members_of_place xs gs e G =
+      under_place φ p x no_members (λ P. no_members) (λ ms. ms) (members_of x) (λ o ms. AreFound φ p (given_members o) ms) (λ y d e. refl) (λ y P e. refl) (λ y ms e. refl)
+      (λ v. refl) (λ y a b inner P same A B. refl) (λ l ms M. M) xs gs e refl G
 
 -- the names of a call
 abbrev pub names_called : Plan → Call → List Name
@@ -231,7 +317,10 @@ module _ (φ : AnswersByName) (p : Plan) where
   called_follows r s same e N = called_of r.value s same e (called_gives r e N)
 
   pub found_called : (x : Name) (r : Rc Call Global) (e : Environment) → IsNames φ p (ECalled r) e → IsFound φ p x (handed_of (given_at (last_parameter x (names_called p r.value)) r.value.arguments.items)) (process_of x e)
-  found_called x r e N = process_of_place x φ p (names_called p r.value) r.value.arguments.items e (called_gives r e N)
+  found_called x r e N = process_of_place φ p x (names_called p r.value) r.value.arguments.items e (called_gives r e N)
+
+  pub members_called : (x : Name) (r : Rc Call Global) (e : Environment) → IsNames φ p (ECalled r) e → AreFound φ p (given_members (given_at (last_parameter x (names_called p r.value)) r.value.arguments.items)) (members_of x e)
+  members_called x r e N = members_of_place φ p x (names_called p r.value) r.value.arguments.items e (called_gives r e N)
 
 pub value_called : (p : Plan) (x : Name) (r : Rc Call Global) → given_value (given_at (last_parameter x (names_called p r.value)) r.value.arguments.items) ≡ value_named (values_around p (ECalled r)) x
 value_called p x r = ap (λ (gs : List Given). given_value (given_at (last_parameter x (names_called p r.value)) gs)) (sym (items_hidden-the_row-Given-0 r.value.arguments)) ∙ value_of_place x (names_called p r.value) _

@@ -13,8 +13,9 @@ use Rattle.sf_state.specs.declared.env.Env.{Env}
 use Rattle.sf_state.specs.declared.env.Call.{items-the_row-Given}
 use Rattle.sf_state.specs.declared.env.Handed.{Handed}
 use Rattle.sf_state.specs.declared.env.Given.{Given}
-use Rattle.sf_state.specs.declared.env.Given.TheVariants.{Value, Process'}
-use Rattle.sf_state.specs.declared.env.Env.TheVariants.{Empty as SEmpty, Bound', Running', Called'}
+use Rattle.sf_state.specs.declared.env.Given.TheVariants.{Value, Process', Members}
+use Rattle.sf_state.specs.declared.state.Live.{Live}
+use Rattle.sf_state.specs.declared.env.Env.TheVariants.{Empty as SEmpty, Bound', Running', Collected', Called'}
 
 -- the first of two that is there
 abbrev pub found_or : {A : Type 0} → Option A → Option A → Option A
@@ -32,12 +33,21 @@ abbrev pub given_value : Option Given → Option Data
 given_value None = None
 given_value (Some (Value v)) = Some v
 given_value (Some (Process' a b inner)) = None
+given_value (Some (Members l)) = None
 
 -- the process that is given, if one is
 abbrev pub handed_of : Option Given → Option Handed
 handed_of None = None
 handed_of (Some (Value v)) = None
 handed_of (Some (Process' a b inner)) = Some (record { process = a; base = record { term = b; names = inner } })
+handed_of (Some (Members l)) = None
+
+-- the members that are given, if they are
+abbrev pub given_members : Option Given → Option Live
+given_members None = None
+given_members (Some (Value v)) = None
+given_members (Some (Process' a b inner)) = None
+given_members (Some (Members l)) = Some l
 
 -- what is given at a place, if there is one
 abbrev pub given_at : Option ℕ → List Given → Option Given
@@ -55,4 +65,5 @@ abbrev pub values_around : Plan → Env → ValuesByName
 values_around p SEmpty = []
 values_around p (Bound' at q v names) = values_inside (pattern_of (placed_at (plan_expressions p) q)) v.value (values_around p names)
 values_around p (Running' at k a b inner names) = (name_at (plan_expressions p) k, None) ∷ values_around p names
+values_around p (Collected' at k l names) = (name_at (plan_expressions p) k, None) ∷ values_around p names
 values_around p (Called' at g shape row) = values_given (names_of_parameters (plan_expressions p) (header_at p g).parameters) (items-the_row-Given _ row) []

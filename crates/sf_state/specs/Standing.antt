@@ -1,9 +1,11 @@
 -- What states stand for.
-use Rattle.std.specs.Prelude.{◌≡◌, ℕ, Bool, true, false, IsTrue, List, [], ◌∷◌, Option, Some, None, Result, Ok, Err, String, string_bytes}
+use Rattle.std.specs.Prelude.{◌≡◌, ℕ, Bool, true, false, IsTrue, List, [], ◌∷◌, map, Option, Some, None, Result, Ok, Err, String, string_bytes, Vec}
 use Rattle.std.specs.declared.alloc.Global.{Global}
 use Rattle.std.specs.declared.rc.Rc.{Rc}
 use Rattle.sf_value.specs.declared.value.Value.{Value}
-use Rattle.sf_value.specs.Values.{Name, Data, first_of}
+use Rattle.sf_value.specs.declared.value.Key.{Key}
+use Rattle.sf_value.specs.View.{key_of}
+use Rattle.sf_value.specs.Values.{Name, KeyData, Data, first_of}
 use Rattle.sf_value.specs.declared.fault.ValueFault.{ValueFault}
 use Rattle.sf_func.specs.Registries.{AnswersByName}
 use Rattle.sf_expr.specs.Expressions.{Pattern, Expression, Function}
@@ -19,38 +21,43 @@ use Rattle.sf_term.specs.declared.form.Heading.TheVariants.{LoopPre, Initialized
 use Rattle.sf_term.specs.declared.form.Observation.{Observation}
 use Rattle.sf_term.specs.declared.form.Switching.{Switching}
 use Rattle.sf_term.specs.declared.form.Switching.TheVariants.{Basic, Recurring}
-use Rattle.sf_term.specs.Trees.{Primitive, probe, whole, rest, Term, primitive, Reference, reference, joined, sided, headed, transformed, switching, keeping, staged}
-use Rattle.sf_mean.specs.Lives.{Step, Life, Process, closure, resumed, Environment, empty, known, running, base, bind, passing, scope_around, first_input, with_inputs, relay, observed_life, after, fed_back, older, fed}
+use Rattle.sf_term.specs.Trees.{Primitive, probe, whole, rest, Term, primitive, Reference, reference, joined, sided, headed, transformed, switching, keeping, gathered, releasing, editing, staged, Collection}
+use Rattle.sf_mean.specs.Lives.{Step, Life, Process, closure, resumed, frozen, Environment, empty, known, running, collected, Members, no_members, member, base, bind, passing, scope_around, first_input, with_inputs, relay, observed_life, after, fed_back, older, fed}
 use Rattle.sf_mean.specs.Formulas.{at_first, with_first, side_of}
-use Rattle.sf_mean.specs.Meaning.{Network, Made, value_made, newest_or, referred, make, left_life, right_life, itself as watched_itself, observed, waits, fired, body_of, body_with, whenever, last_event, since_event, what_runs, Outputs, Loops, Since}
+use Rattle.sf_mean.specs.Collections.{collect}
+use Rattle.sf_mean.specs.Meaning.{Network, Made, value_made, members_made, newest_or, referred, make, left_life, right_life, itself as watched_itself, observed, observed_members, waits, fired, body_of, body_with, body_with_members, whenever, last_event, since_event, since_edit, edit_of, what_runs, which_run, Outputs, Tables, Loops, Since}
 use Rattle.sf_coincidence.specs.Alike.{Alike, AlikeAt}
 use Rattle.sf_law.specs.declared.node.PlanId.{PlanId}
+use Rattle.sf_law.specs.declared.node.PlanCollection.{PlanCollection}
 use Rattle.sf_law.specs.declared.node.TemplateId.{TemplateId}
 use Rattle.sf_law.specs.declared.mentioned.Mentioned.{Mentioned}
 use Rattle.sf_law.specs.Mentioned.{is_mentioned}
 use Rattle.sf_law.specs.Places.{names_of_parameters}
 use Rattle.sf_law.specs.declared.plan.Plan.{Plan}
-use Rattle.sf_law.specs.Arena.{plan_tree, plan_expressions, plan_asks, header_at, network_of_plan}
+use Rattle.sf_law.specs.Entries.{IsCodedCollection}
+use Rattle.sf_law.specs.Arena.{plan_tree, plan_collection, plan_expressions, plan_asks, header_at, network_of_plan}
 use Rattle.sf_prim.specs.declared.prim_state.PrimState.{PrimState}
 use Rattle.sf_prim.specs.Keeping.{Remembers}
 use Rattle.sf_state.specs.declared.state.State.{State}
-use Rattle.sf_state.specs.declared.state.State.TheVariants.{Unborn, Unborn', Primitive as SPrimitive, Live' as Alive', Switch' as Watching', Keeping', Frozen'}
+use Rattle.sf_state.specs.declared.state.State.TheVariants.{Unborn, Unborn', Primitive as SPrimitive, Live' as Alive', Switch' as Watching', Keeping', Gathering', Frozen'}
 use Rattle.sf_state.specs.declared.state.Live.{Live}
-use Rattle.sf_state.specs.declared.state.Live.TheVariants.{Probe as LProbe, Join as LJoin, Pipeline' as LPipeline', Wrap as LWrap}
+use Rattle.sf_state.specs.declared.state.Live.TheVariants.{Probe as LProbe, Join as LJoin, Pipeline' as LPipeline', Wrap as LWrap, Gathered' as LGathered'}
 use Rattle.sf_state.specs.declared.state.Live.{items-the_row-State}
 use Rattle.sf_state.specs.declared.state.Wrap.{Wrap}
 use Rattle.sf_state.specs.declared.state.Wrap.TheVariants.{First, Second, Loop, Initialized, Replaced, Followed}
 use Rattle.sf_state.specs.declared.state.Process.{Process as SProcess}
 use Rattle.sf_state.specs.declared.state.Switch.{Switch}
 use Rattle.sf_state.specs.declared.state.Keeping.{Keeping}
+use Rattle.sf_state.specs.declared.state.Gathering.{Gathering}
+use Rattle.sf_state.specs.declared.state.Gathering.TheVariants.{Releasing' as GReleasing', Editing' as GEditing'}
 use Rattle.sf_state.specs.declared.state.Kept.{Kept}
-use Rattle.sf_state.specs.declared.state.Kept.TheVariants.{Primitive as KPrimitive, Live' as KLive', Switch' as KSwitch', Keeping' as KKeeping'}
+use Rattle.sf_state.specs.declared.state.Kept.TheVariants.{Primitive as KPrimitive, Live' as KLive', Switch' as KSwitch', Keeping' as KKeeping', Gathering' as KGathering'}
 use Rattle.sf_state.specs.declared.env.Env.{Env}
 use Rattle.sf_state.specs.declared.env.Handed.{Handed}
 use Rattle.sf_state.specs.declared.env.Given.{Given}
-use Rattle.sf_state.specs.declared.env.Given.TheVariants.{Value as GValue, Process' as GProcess'}
+use Rattle.sf_state.specs.declared.env.Given.TheVariants.{Value as GValue, Process' as GProcess', Members as GMembers}
 use Rattle.sf_state.specs.declared.env.Call.{items-the_row-Given}
-use Rattle.sf_state.specs.declared.env.Env.TheVariants.{Empty as SEmpty, Bound', Running', Called'}
+use Rattle.sf_state.specs.declared.env.Env.TheVariants.{Empty as SEmpty, Bound', Running', Collected', Called'}
 
 -- a value or a fault, as what an expression is worth
 abbrev pub worth_given : Result Data ValueFault → Evaluated Data
@@ -95,6 +102,7 @@ kept_state names (KPrimitive i) = SPrimitive i
 kept_state names (KLive' at l) = Alive' names at l
 kept_state names (KSwitch' at w a q b) = Watching' names at w a q b
 kept_state names (KKeeping' at w t a x o k q b) = Keeping' names at w t a x o k q b
+kept_state names (KGathering' at g) = Gathering' names at g
 
 -- whether a state is frozen
 abbrev pub is_frozen : State → Bool
@@ -103,6 +111,7 @@ is_frozen (SPrimitive i) = false
 is_frozen (Alive' names at l) = false
 is_frozen (Watching' names at w a q b) = false
 is_frozen (Keeping' names at w t a x o k q b) = false
+is_frozen (Gathering' names at g) = false
 is_frozen (Frozen' at d names k) = true
 
 -- A primitive recalls what it needs of a life.
@@ -120,6 +129,11 @@ pub data Turned (n : Network) : Process → Life → Process → Life → Type 0
   kept_to : {w : Observation} {t r u : Term} {k : Name} {q : Pattern} {e : Environment} {B : Process} {L M : Life} {ys : List Data}
       → Since n (observed (closure t e) r e) (body_with k (closure t e) q u e) L (fired B M) → Outputs n (closure (keeping w t r k q u) e) L ys
       → Turned n (closure (keeping w t r k q u) e) L B M
+  -- members that have given way, and the body
+  released_to : {w : Observation} {i : Collection} {r u : Term} {k : Name} {q : Pattern} {e : Environment} {ms : Members} {B : Process} {L M : Life} {ys : List Data}
+      → collect n.functions i e ≡ answer ms
+      → Since n (observed_members ms r e) (body_with_members k ms q u e) L (fired B M) → Outputs n (closure (releasing w i r k q u) e) L ys
+      → Turned n (closure (releasing w i r k q u) e) L B M
   -- what is referred to, once it has begun
   ran : {r : Reference} {e : Environment} {P : Process} {s : Step} {L : Life} {ys : List Data}
       → referred n r e ≡ answer P → Outputs n (closure (reference r) e) (s ∷ L) ys → Turned n (closure (reference r) e) (s ∷ L) P (s ∷ L)
@@ -128,6 +142,11 @@ pub data Turned (n : Network) : Process → Life → Process → Life → Type 0
       → Outputs n (resumed P h d) (s ∷ L) ys → Turned n (resumed P h d) (s ∷ L) P (after h d (s ∷ L))
   -- a process that is alike, whatever the other names around it stand for
   was_alike : {P Q : Process} {L : Life} {ys : List Data} → Alike P Q → Outputs n P L ys → Turned n P L Q L
+
+-- the keys of members, in order
+abbrev pub keys_in : Members → List KeyData
+keys_in no_members = []
+keys_in (member k P ms) = k ∷ keys_in ms
 
 mutual
   -- Where functions answer this, names stand for these values and processes.
@@ -138,6 +157,9 @@ mutual
     -- a process that has lived no step, beside what it began as, where that is asked of its name
     is_running : {at : _} {k : NameId} {a : State} {b : PlanId} {inner names : Env} {P : Process} {e : Environment}
         → Stands φ p a P [] → (IsTrue (plan_asks p (name_at (plan_expressions p) k)) → IsProcess φ p (closed_over b inner) (base P)) → IsNames φ p names e → IsNames φ p (Running' at k a b inner names) (running (name_at (plan_expressions p) k) P e)
+    -- members that have lived no step
+    is_collected : {at : _} {k : NameId} {l : Live} {names : Env} {ms : Members} {e : Environment}
+        → Gathers φ p l ms [] → IsNames φ p names e → IsNames φ p (Collected' at k l names) (collected (name_at (plan_expressions p) k) ms e)
     -- what is given for the parameters of a template
     is_called : {at : _} {g : TemplateId} {shape row : _} {e : Environment}
         → AreGiven φ p (names_of_parameters (plan_expressions p) (header_at p g).parameters) (items-the_row-Given _ row) empty e → IsNames φ p (Called' at g shape row) e
@@ -148,6 +170,7 @@ mutual
     value_is_given : {x : Name} {xs : List Name} {v : Data} {gs : List Given} {d e : Environment} → AreGiven φ p xs gs (known x v d) e → AreGiven φ p (x ∷ xs) (GValue v ∷ gs) d e
     process_is_given : {x : Name} {xs : List Name} {a : State} {b : PlanId} {inner : Env} {gs : List Given} {P : Process} {d e : Environment}
         → Stands φ p a P [] → (IsTrue (plan_asks p x) → IsProcess φ p (closed_over b inner) (base P)) → AreGiven φ p xs gs (running x P d) e → AreGiven φ p (x ∷ xs) (GProcess' a b inner ∷ gs) d e
+    members_are_given : {x : Name} {xs : List Name} {l : Live} {gs : List Given} {ms : Members} {d e : Environment} → Gathers φ p l ms [] → AreGiven φ p xs gs (collected x ms d) e → AreGiven φ p (x ∷ xs) (GMembers l ∷ gs) d e
 
   -- what can be run
   pub data IsProcess (φ : AnswersByName) (p : Plan) : SProcess → Process → Type 0 where
@@ -174,6 +197,8 @@ mutual
     keeping_on : {at : _} {names : Env} {w : Observation} {f : PlanId} {a x o : State} {k : NameId} {q : PatternId} {b : PlanId} {t : Term} {e : Environment} {s : Step} {L : Life}
         → IsNames φ p names e → WaitsKeeping φ p (record { shown = w; first = f; source = a; before = x; observer = o; name = k; pattern = q; body = b }) (closure t e) (s ∷ L)
         → StandsItself φ p (Keeping' names at w f a x o k q b) (closure t e) (s ∷ L)
+    gathering_on : {at : _} {names : Env} {g : Gathering} {t : Term} {e : Environment} {s : Step} {L : Life}
+        → IsNames φ p names e → WaitsGathered φ p g (closure t e) (s ∷ L) → StandsItself φ p (Gathering' names at g) (closure t e) (s ∷ L)
     -- frozen after a life, and not stepped since
     was_frozen : {at : _} {d : ℕ} {names : Env} {k : Kept} {P : Process} {s : Step} {h : Life}
         → Stands φ p (kept_state names k) P (s ∷ h) → StandsItself φ p (Frozen' at d names k) (resumed P (s ∷ h) d) []
@@ -205,6 +230,27 @@ mutual
         → Stands φ p s.observer (closure r e) (observed_life L ys)
         → WaitsKeeping φ p s (closure (keeping s.shown (plan_tree p s.first) r (name_at (plan_expressions p) s.name) (pattern_of (placed_at (plan_expressions p) s.pattern)) (plan_tree p s.body)) e) L
 
+  -- Members wait for an event after a life.
+  pub data WaitsGathered (φ : AnswersByName) (p : Plan) : Gathering → Process → Life → Type 0 where
+    -- those of a collection have led that life, and the observer the same with their tables beside the inputs
+    releases_so : {w : Observation} {l before : Live} {o : State} {k : NameId} {q : PatternId} {b : PlanId} {i : Collection} {r : Term} {e : Environment} {ms : Members} {L : Life} {ys zs : List Data}
+        → collect φ i e ≡ answer ms
+        → Since (network_of_plan φ p) (observed_members ms r e) (body_with_members (name_at (plan_expressions p) k) ms (pattern_of (placed_at (plan_expressions p) q)) (plan_tree p b) e) L waits
+        → Outputs (network_of_plan φ p) (closure (releasing w i r (name_at (plan_expressions p) k) (pattern_of (placed_at (plan_expressions p) q)) (plan_tree p b)) e) L zs
+        → Tables (network_of_plan φ p) ms L ys
+        → Gathers φ p l ms L
+        → Stands φ p o (closure r e) (observed_life L ys)
+        → WaitsGathered φ p (GReleasing' w l before o k q b) (closure (releasing w i r (name_at (plan_expressions p) k) (pattern_of (placed_at (plan_expressions p) q)) (plan_tree p b)) e) L
+    -- those of the last edit have led the life since then
+    edits_so : {w : Observation} {l : Live} {k : NameId} {q : PatternId} {c : Rc PlanCollection Global} {i : Collection} {e : Environment} {ms qs : Members} {L : Life} {ys zs : List Data}
+        → IsCodedCollection (plan_expressions p) c.value
+        → collect φ i e ≡ answer ms
+        → which_run (edit_of φ (name_at (plan_expressions p) k) (pattern_of (placed_at (plan_expressions p) q)) (plan_collection p c.value) e) ms L ≡ answer qs
+        → Outputs (network_of_plan φ p) (closure (editing w i (name_at (plan_expressions p) k) (pattern_of (placed_at (plan_expressions p) q)) (plan_collection p c.value)) e) L zs
+        → Tables (network_of_plan φ p) qs (since_edit L) ys
+        → Gathers φ p l qs (since_edit L)
+        → WaitsGathered φ p (GEditing' w l k q c) (closure (editing w i (name_at (plan_expressions p) k) (pattern_of (placed_at (plan_expressions p) q)) (plan_collection p c.value)) e) L
+
   -- a live part stands for a process and a life that has begun
   pub data Settles (φ : AnswersByName) (p : Plan) : Live → Process → Life → Type 0 where
     settles : {l : Live} {P : Process} {s : Step} {L : Life} → Ready φ p l P (first_input s L) (s ∷ L) → Settles φ p l P (s ∷ L)
@@ -234,6 +280,22 @@ mutual
         → Wraps (network_of_plan φ p) w t e m L u K
         → Stands φ p a (closure u e) K
         → Lives φ p (LWrap w a) t e m L
+    -- members, which have all led the life
+    lives_gathered : {keys : Rc (Vec Key Global) Global} {shape row : _} {i : Collection} {e : Environment} {ms : Members} {L : Life} {ys : List Data}
+        → Tables (network_of_plan φ p) ms L ys
+        → Gathers φ p (LGathered' keys shape row) ms L
+        → Lives φ p (LGathered' keys shape row) (gathered i) e (members_made ms) L
+
+  -- A node has these members under their keys, and each has led this life.
+  pub data Gathers (φ : AnswersByName) (p : Plan) : Live → Members → Life → Type 0 where
+    gathers : {keys : Rc (Vec Key Global) Global} {shape row : _} {ms : Members} {L : Life}
+        → map key_of keys.value.items ≡ keys_in ms → EachStands φ p (items-the_row-State _ row) ms L → Gathers φ p (LGathered' keys shape row) ms L
+
+  -- Each state stands for the member at its place, after this life.
+  pub data EachStands (φ : AnswersByName) (p : Plan) : List State → Members → Life → Type 0 where
+    none_stands : {L : Life} → EachStands φ p [] no_members L
+    one_stands : {a : State} {bs : List State} {k : KeyData} {P : Process} {ms : Members} {L : Life}
+        → Stands φ p a P L → EachStands φ p bs ms L → EachStands φ p (a ∷ bs) (member k P ms) L
 
   -- Stages, each on the values of the one before it: two or more, or the last one alone.
   pub data StagesStand (φ : AnswersByName) (p : Plan) : List State → Term → Environment → Life → Type 0 where
@@ -256,8 +318,19 @@ abbrev pub IsFound : AnswersByName → Plan → Name → Option Handed → Proce
 IsFound φ p x (Some h) P = IsHanded φ p x h P
 IsFound φ p x None P = P ≡ passing
 
+-- the members that were found under a name; where none were, there are none
+abbrev pub AreFound : AnswersByName → Plan → Option Live → Members → Type 0
+AreFound φ p (Some l) ms = Gathers φ p l ms []
+AreFound φ p None ms = ms ≡ no_members
+
 -- Each state stands for all that the one at its place stands for.
 pub data AllFollow (φ : AnswersByName) (p : Plan) : List State → List State → Type 0 where
   none_follow : AllFollow φ p [] []
   more_follow : {a b : State} {cs bs : List State}
       → ((P : Process) (L : Life) → Stands φ p a P L → Stands φ p b P L) → AllFollow φ p cs bs → AllFollow φ p (a ∷ cs) (b ∷ bs)
+
+-- Each state stands for what the one at its place is once it is frozen, to go on in the time d.
+pub data AllFreeze (φ : AnswersByName) (p : Plan) (d : ℕ) : List State → List State → Type 0 where
+  none_freeze : AllFreeze φ p d [] []
+  more_freeze : {a b : State} {cs bs : List State}
+      → ((P : Process) (L : Life) → Stands φ p a P L → Stands φ p b (frozen P L d) []) → AllFreeze φ p d cs bs → AllFreeze φ p d (a ∷ cs) (b ∷ bs)

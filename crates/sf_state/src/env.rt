@@ -1,12 +1,12 @@
 //! What names stand for.
-ghost use Rattle.std.specs.Prelude.{◌≡◌, ◌<◌, ◌≤◌, bytes_eq, option_map, IsTrue, IfOk, IfSome};
+ghost use Rattle.std.specs.Prelude.{◌≡◌, ◌<◌, ◌≤◌, [], bytes_eq, option_map, IsTrue, IfOk, IfSome};
 ghost use Rattle.std.specs.Map.{lookup};
 ghost use Rattle.sf_func.specs.Registries.{AnswersByName};
 ghost use Rattle.sf_expr.specs.Arena.{placed_at, name_at};
 ghost use Rattle.sf_expr.specs.Expressions.{unnamed, named};
 ghost use Rattle.sf_expr.specs.Patterns.{pattern_of};
 ghost use Rattle.sf_value.specs.Values.{Name};
-ghost use Rattle.sf_mean.specs.Lives.{Environment, closure, Process as ProcessOf, empty, bind, running, process_of};
+ghost use Rattle.sf_mean.specs.Lives.{Environment, closure, Process as ProcessOf, Members as MembersOf, empty, bind, running, collected, process_of, members_of, each_frozen, Life};
 ghost use Rattle.sf_law.specs.declared.plan.Plan.{Plan as PlanOf};
 ghost use Rattle.sf_law.specs.Arena.{plan_expressions, plan_tree, header_at};
 ghost use Rattle.sf_law.specs.Places.{last_parameter, names_of_parameters};
@@ -15,14 +15,16 @@ ghost use Rattle.sf_state.specs.declared.env.Env.{size-Env};
 ghost use Rattle.sf_state.specs.declared.env.Binding.{size-Binding};
 ghost use Rattle.sf_state.specs.declared.env.Running.{size-Running};
 ghost use Rattle.sf_state.specs.declared.env.Handed.{size-Handed};
+ghost use Rattle.sf_state.specs.declared.env.Collected.{size-Collected};
 ghost use Rattle.sf_state.specs.declared.env.Call.{size-Call};
-ghost use Rattle.sf_state.specs.Names.{found_or, given_at, handed_of, given_value, values_inside, values_around};
+ghost use Rattle.sf_state.specs.declared.env.Given.{size-Given};
+ghost use Rattle.sf_state.specs.Names.{found_or, given_at, handed_of, given_value, given_members, values_inside, values_around};
 ghost use Rattle.sf_coincidence.specs.Mentions.{BindsOthers};
 ghost use Rattle.sf_law.specs.declared.mentioned.Mentioned.{Mentioned as MentionedOf};
 ghost use Rattle.sf_law.specs.Mentioned.{is_mentioned};
-ghost use Rattle.sf_state.specs.Standing.{closed_over, HasMentioned, IsNames, AreGiven, IsHanded, IsFound, IsProcess};
+ghost use Rattle.sf_state.specs.Standing.{closed_over, HasMentioned, IsNames, AreGiven, AreFound, Gathers, IsHanded, IsFound, IsProcess};
 
-use crate::state::{Process, State};
+use crate::state::{Live, Process, State};
 use sf_code::Names;
 use sf_expr::{Exprs, NameId, Pat, PatForm, PatternId};
 use sf_law::{Binder, Mentioned, Plan, PlanId, TemplateId};
@@ -39,11 +41,13 @@ pub enum Env {
     Bound(Rc<Binding>),
     /// That of a process, and those around it. They may be shared.
     Running(Rc<Running>),
+    /// That of members, and those around it. They may be shared.
+    Collected(Rc<Collected>),
     /// Those of a template's parameters, in a call with many. They may be shared.
     Called(Rc<Call>),
 }
 
-// Names may hold a long chain of processes, each with the names around it: they are let go in a loop.
+// Names may hold a long chain of processes and members, each with the names around it: they are let go in a loop.
 impl Drop for Env {
     #[cycle(state)]
     #[inline(always)]
@@ -72,6 +76,10 @@ impl Env {
                     Some(own) => self = own.left(),
                     None => return,
                 },
+                Env::Collected(collected) => match Rc::into_inner(collected) {
+                    Some(own) => self = own.left(),
+                    None => return,
+                },
                 Env::Called(call) => match Rc::into_inner(call) {
                     Some(own) => self = own.left(),
                     None => return,
@@ -81,11 +89,12 @@ impl Env {
     }
 
     // Whether nothing else has them, where there are any.
-    fn is_last(&self) -> bool {
+    pub(crate) fn is_last(&self) -> bool {
         match self {
             Env::Empty => false,
             Env::Bound(binding) => Rc::strong_count(binding) == 1,
             Env::Running(running) => Rc::strong_count(running) == 1,
+            Env::Collected(collected) => Rc::strong_count(collected) == 1,
             Env::Called(call) => Rc::strong_count(call) == 1,
         }
     }
@@ -166,6 +175,31 @@ impl Handed {
     }
 }
 
+impl Collected {
+    // The same members under their name, with fewer names around them, if there are fewer. The error is a want of memory, or too
+    // many owners.
+    fn over(&self, alloc: Global, fewer: Option<Env>) -> Result<Option<Env>, AllocError>
+        ensures { IfOk result (λ names. (φ : AnswersByName) (p : PlanOf) (m l : MentionedOf) (e : Environment) (ms : MembersOf) →
+            ((x : Name) → IsTrue (is_mentioned m x) → BindsOthers (named (name_at (plan_expressions p) self.now.name)) x → IsTrue (is_mentioned l x)) →
+            Gathers φ p self.now.members ms [] → IfSome fewer (λ names. HasMentioned φ p l names e) → IfSome names (λ names. HasMentioned φ p m names (collected (name_at (plan_expressions p) self.now.name) ms e))) }
+    {
+        let around = match fewer {
+            Some(around) => around,
+            None => return Ok(None),
+        };
+        let members = self.members.share_members(alloc)?;
+        let collected = Rc::new(
+            alloc,
+            Collected {
+                name: self.name,
+                members,
+                around,
+            },
+        )?;
+        Ok(Some(Env::Collected(collected)))
+    }
+}
+
 impl Running {
     // Some of the names that it has, once the rest is let go: those that nothing else has, where there are any.
     #[cycle(state)]
@@ -205,6 +239,27 @@ impl Handed {
     }
 }
 
+impl Collected {
+    // The same of members.
+    #[cycle(state)]
+    fn left(self) -> Env
+        ensures { size-Env result < size-Collected self }
+    {
+        let Collected {
+            name: _,
+            members,
+            around,
+        } = self;
+        let names = members.left();
+        if names.is_last() {
+            drop(around);
+            return names;
+        }
+        drop(names);
+        around
+    }
+}
+
 impl Call {
     // The same of a call.
     #[cycle(state)]
@@ -212,15 +267,30 @@ impl Call {
         ensures { size-Env result ≤ size-Call self }
     {
         while let Some(given) = self.arguments.pop() {
-            if let Given::Process(handed) = given {
-                let names = handed.left();
-                if names.is_last() {
-                    return names;
-                }
-                drop(names);
+            let names = given.left();
+            if names.is_last() {
+                return names;
             }
+            drop(names);
         }
         Env::Empty
+    }
+}
+
+impl Given {
+    // The same of what is given.
+    #[cycle(state)]
+    fn left(self) -> Env
+        ensures { size-Env result ≤ size-Given self }
+    {
+        match self {
+            Given::Value(value) => {
+                drop(value);
+                Env::Empty
+            }
+            Given::Process(handed) => handed.left(),
+            Given::Members(members) => members.left(),
+        }
     }
 }
 
@@ -259,6 +329,18 @@ pub struct Handed {
     pub base: Process,
 }
 
+/// The name of members.
+#[derive(Drop)]
+#[cycle(state)]
+pub struct Collected {
+    /// The name, in the expressions of the plan.
+    pub name: NameId,
+    /// The members, of which no step has been lived.
+    pub members: Live,
+    /// The names around it.
+    pub around: Env,
+}
+
 /// What the parameters of a template stand for in a call.
 #[derive(Drop)]
 #[cycle(state)]
@@ -277,6 +359,8 @@ pub enum Given {
     Value(Value),
     /// A process.
     Process(Handed),
+    /// Members, of which no step has been lived.
+    Members(Live),
 }
 
 impl Call {
@@ -293,6 +377,16 @@ impl Call {
     {
         match self.given(plan, name) {
             Some(Given::Process(handed)) => Some(handed),
+            _ => None,
+        }
+    }
+
+    // The same, if that are members.
+    fn members<'r>(&'r self, plan: &Plan, name: &str) -> Option<&'r Live>
+        ensures { option_map (λ l. l.now) result ≡ given_members (given_at (last_parameter name.now (names_of_parameters (plan_expressions plan.now) (header_at plan.now self.now.template).parameters)) self.now.arguments.items) }
+    {
+        match self.given(plan, name) {
+            Some(Given::Members(members)) => Some(members),
             _ => None,
         }
     }
@@ -322,6 +416,10 @@ impl Env {
             Env::Running(running) => {
                 let same = running.clone()?;
                 Ok(Env::Running(same))
+            }
+            Env::Collected(collected) => {
+                let again = collected.clone()?;
+                Ok(Env::Collected(again))
             }
             Env::Called(call) => {
                 let both = call.clone()?;
@@ -382,6 +480,18 @@ impl Env {
                 } else {
                     let around = running.around.fewer(alloc, plan, mentioned)?;
                     running.around.or_shared(around)
+                }
+            }
+            Env::Collected(collected) => {
+                let name = plan.expressions().name_of(collected.name);
+                let binder = Binder::Name(name);
+                if mentioned.is_bound_by(binder) {
+                    let left = mentioned.outside(alloc, binder)?;
+                    let around = collected.around.fewer(alloc, plan, &left)?;
+                    collected.over(alloc, around)
+                } else {
+                    let around = collected.around.fewer(alloc, plan, mentioned)?;
+                    collected.around.or_shared(around)
                 }
             }
         }
@@ -458,6 +568,44 @@ impl Env {
         Ok(Env::Running(running))
     }
 
+    /// These names, and inside them that of members of which no step has been lived. The error is a want of memory, or too many
+    /// owners.
+    pub fn with_members(
+        &self,
+        alloc: Global,
+        name: NameId,
+        members: Live,
+    ) -> Result<Env, AllocError>
+        ensures { IfOk result (λ names. (φ : AnswersByName) (p : PlanOf) (e : Environment) (ms : MembersOf) → IsNames φ p self.now e → Gathers φ p members ms [] →
+            IsNames φ p names (collected (name_at (plan_expressions p) name) ms e)) }
+    {
+        let around = self.share()?;
+        let collected = Rc::new(
+            alloc,
+            Collected {
+                name,
+                members,
+                around,
+            },
+        )?;
+        Ok(Env::Collected(collected))
+    }
+
+    // The same with members from here on, each to go on `wait` milliseconds after its last sample.
+    pub(crate) fn with_frozen(
+        &self,
+        alloc: Global,
+        name: NameId,
+        members: &Live,
+        wait: u64,
+    ) -> Result<Env, AllocError>
+        ensures { IfOk result (λ names. (φ : AnswersByName) (p : PlanOf) (e : Environment) (ms : MembersOf) (L : Life) → IsNames φ p self.now e → Gathers φ p members.now ms L →
+            IsNames φ p names (collected (name_at (plan_expressions p) name) (each_frozen ms L wait) e)) }
+    {
+        let frozen = members.freeze_members(alloc, wait)?;
+        self.with_members(alloc, name, frozen)
+    }
+
     /// The names of a template's parameters, in a call in which they stand for these. The error is a want of memory.
     pub fn of_call(
         alloc: Global,
@@ -497,11 +645,54 @@ impl Env {
                     running.around.running(plan, name)
                 }
             }
+            Env::Collected(collected) => {
+                if name == plan.expressions().name_of(collected.name) {
+                    None
+                } else {
+                    collected.around.running(plan, name)
+                }
+            }
             Env::Called(call) => call.handed(plan, name),
         }
     }
 
-    // The value of a name: of the same names the innermost counts, and a process has none.
+    /// The members of a name: of the same names the innermost counts, and what is no collection's has none. The names are those of
+    /// the plan.
+    pub fn members<'r>(&'r self, plan: &Plan, name: &str) -> Option<&'r Live>
+        ensures { (φ : AnswersByName) (e : Environment) → IsNames φ plan.now self.now e →
+            AreFound φ plan.now (option_map (λ l. l.now) result) (members_of name.now e) }
+    {
+        match self {
+            Env::Empty => None,
+            Env::Bound(binding) => {
+                let pattern = plan.expressions().placed(binding.pattern);
+                match part_named(pattern, &*binding.value, name) {
+                    Some(_) => {
+                        // a value hides members of its name
+                        None
+                    }
+                    None => binding.around.members(plan, name),
+                }
+            }
+            Env::Running(running) => {
+                if name == plan.expressions().name_of(running.name) {
+                    None
+                } else {
+                    running.around.members(plan, name)
+                }
+            }
+            Env::Collected(collected) => {
+                if name == plan.expressions().name_of(collected.name) {
+                    Some(&collected.members)
+                } else {
+                    collected.around.members(plan, name)
+                }
+            }
+            Env::Called(call) => call.members(plan, name),
+        }
+    }
+
+    // The value of a name: of the same names the innermost counts, and a process or a collection has none.
     fn value<'r>(&'r self, plan: &Plan, name: &str) -> Option<&'r Value>
         ensures { option_map (λ v. v.now) result ≡ value_named (values_around plan.now self.now) name.now }
     {
@@ -512,6 +703,13 @@ impl Env {
                     None
                 } else {
                     running.around.value(plan, name)
+                }
+            }
+            Env::Collected(collected) => {
+                if name == plan.expressions().name_of(collected.name) {
+                    None
+                } else {
+                    collected.around.value(plan, name)
                 }
             }
             Env::Bound(binding) => {

@@ -5,9 +5,9 @@ mod env;
 mod feedback;
 mod state;
 
-pub use env::{Binding, Call, Env, Given, Handed, NamesIn, Running};
+pub use env::{Binding, Call, Collected, Env, Given, Handed, NamesIn, Running};
 pub use feedback::Feedback;
 pub use state::{
-    Frozen, Keeping, Kept, Live, Process, State, Switch, Wrap, unshare, unshare_keeping,
-    unshare_switch,
+    Editing, Frozen, Gathering, Keeping, Kept, Live, Process, Releasing, State, Switch, Wrap,
+    hold_back_members, share_all, unshare, unshare_gathering, unshare_keeping, unshare_switch,
 };

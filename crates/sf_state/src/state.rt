@@ -1,24 +1,25 @@
 //! The states of networks.
-ghost use Rattle.std.specs.Prelude.{◌≡◌, [], ◌∷◌, false, IfOk, OnOk, IsTrue};
+ghost use Rattle.std.specs.Prelude.{◌≡◌, [], ◌∷◌, length, false, IfOk, OnOk, IsTrue};
 ghost use Rattle.sf_value.specs.Values.{Data};
 ghost use Rattle.sf_func.specs.Registries.{AnswersByName};
 ghost use Rattle.sf_law.specs.declared.plan.Plan.{Plan};
 ghost use Rattle.sf_expr.specs.Arena.{placed_at, name_at};
 ghost use Rattle.sf_expr.specs.Patterns.{pattern_of};
 ghost use Rattle.sf_law.specs.Arena.{plan_expressions, plan_tree, plan_asks};
-ghost use Rattle.sf_mean.specs.Lives.{base, bind, closure, resumed, empty, running, frozen as frozen_process, Environment, Step, Life, Process as ProcessOf};
+ghost use Rattle.sf_mean.specs.Lives.{base, bind, closure, resumed, empty, running, collected, frozen as frozen_process, each_frozen, Environment, Step, Life, Process as ProcessOf, Members as MembersOf};
 ghost use Rattle.sf_mean.specs.Meaning.{body_of};
 ghost use Rattle.sf_state.specs.declared.env.Env.{Env as EnvOf};
-ghost use Rattle.sf_state.specs.Standing.{IsNames, Stands, Ready, Waits, WaitsKeeping, IsProcess, AllFollow, kept_state, is_frozen};
+ghost use Rattle.sf_state.specs.Standing.{IsNames, Stands, Ready, Waits, WaitsKeeping, WaitsGathered, Gathers, IsProcess, AllFollow, AllFreeze, kept_state, is_frozen};
 
 use crate::env::{Env, Handed};
 use crate::feedback::Feedback;
 use sf_expr::{NameId, PatternId};
-use sf_law::{Plan, PlanId};
+use sf_law::{Plan, PlanCollection, PlanId};
 use sf_prim::PrimState;
 use sf_term::{Join, Observation, Switching};
-use sf_value::{Value, ValueFault};
+use sf_value::{Key, Value, ValueFault};
 use std::alloc::{AllocError, Global};
+use std::mem;
 use std::rc::Rc;
 
 /// A part of a network, before its first sample or after it. It is whole in itself.
@@ -34,6 +35,8 @@ pub enum State {
     Switch(Env, Rc<Switch>),
     /// A switch that keeps its source and waits for an event, with these names around it. Its node may be shared.
     Keeping(Env, Rc<Keeping>),
+    /// Members that wait for an event, with these names around them. Their node may be shared.
+    Gathering(Env, Rc<Gathering>),
     /// It was frozen after some samples, and hasn't been stepped since. Its node may be shared.
     Frozen(Rc<Frozen>),
 }
@@ -54,6 +57,10 @@ impl Drop for State {
                 drop(node);
             }
             State::Keeping(names, node) => {
+                drop(names);
+                drop(node);
+            }
+            State::Gathering(names, node) => {
                 drop(names);
                 drop(node);
             }
@@ -87,6 +94,10 @@ impl State {
                 names
             }
             State::Keeping(names, node) => {
+                drop(node);
+                names
+            }
+            State::Gathering(names, node) => {
                 drop(node);
                 names
             }
@@ -172,6 +183,52 @@ impl Drop for Keeping {
     }
 }
 
+/// Members that wait for an event.
+#[derive(Drop)]
+#[cycle(state)]
+pub enum Gathering {
+    /// Members under an observer, which give way to a body.
+    Releasing(Releasing),
+    /// Members that are edited at each event beside an input.
+    Editing(Editing),
+}
+
+/// Members under an observer, which give way at an event to a body that knows them, frozen.
+#[derive(Drop)]
+#[cycle(state)]
+pub struct Releasing {
+    /// Whose value shows at the event.
+    pub shown: Observation,
+    /// The members that run.
+    pub members: Live,
+    /// The members as they were before the last sample, in nodes that the next sample uses again. At first it is vacant.
+    pub before: Live,
+    /// What gives the event, on the inputs beside the tables of the members' values.
+    pub observer: State,
+    /// The name of the members, frozen, in the body.
+    pub name: NameId,
+    /// The pattern that is bound to the event's payload.
+    pub pattern: PatternId,
+    /// The body.
+    pub body: PlanId,
+}
+
+/// Members that are edited at each event beside the input.
+#[derive(Drop)]
+#[cycle(state)]
+pub struct Editing {
+    /// Whose value shows at an event.
+    pub shown: Observation,
+    /// The members that run.
+    pub members: Live,
+    /// The name of the members, frozen, in the edit.
+    pub name: NameId,
+    /// The pattern that is bound to an event's payload.
+    pub pattern: PatternId,
+    /// The collection that they become.
+    pub edit: Rc<PlanCollection>,
+}
+
 /// A part that was frozen after some samples.
 #[derive(Drop)]
 #[cycle(state)]
@@ -196,6 +253,8 @@ pub enum Kept {
     Switch(Rc<Switch>),
     /// Of a switch that keeps its source and waits for an event.
     Keeping(Rc<Keeping>),
+    /// Of members that wait for an event.
+    Gathering(Rc<Gathering>),
 }
 
 /// A part that has lived and is no primitive, by its form.
@@ -209,6 +268,8 @@ pub enum Live {
     Pipeline(Vec<State>),
     /// A form with one part.
     Wrap(Wrap, State),
+    /// The members of a collection, in order: their keys, and what stands under them.
+    Gathered(Rc<Vec<Key>>, Vec<State>),
 }
 
 impl Drop for Live {
@@ -224,6 +285,10 @@ impl Drop for Live {
             Live::Wrap(wrap, part) => {
                 drop(wrap);
                 drop(part);
+            }
+            Live::Gathered(keys, states) => {
+                drop(keys);
+                drop(states);
             }
         }
     }
@@ -316,6 +381,11 @@ impl State {
                 let keeping = node.clone()?;
                 Ok(State::Keeping(outer, keeping))
             }
+            State::Gathering(names, node) => {
+                let beside = names.share()?;
+                let gathering = node.clone()?;
+                Ok(State::Gathering(beside, gathering))
+            }
             State::Frozen(frozen) => {
                 let rest = frozen.clone()?;
                 Ok(State::Frozen(rest))
@@ -343,6 +413,10 @@ impl State {
             State::Keeping(names, node) => {
                 let keeping = node.clone()?;
                 freeze_node(alloc, wait, names, Kept::Keeping(keeping))
+            }
+            State::Gathering(names, node) => {
+                let gathering = node.clone()?;
+                freeze_node(alloc, wait, names, Kept::Gathering(gathering))
             }
             State::Primitive(primitive) => {
                 let copy = primitive.clone_in(alloc)?;
@@ -390,6 +464,35 @@ fn freeze_node(alloc: Global, wait: u64, names: &Env, node: Kept) -> Result<Stat
 }
 
 impl Live {
+    ghost use Rattle.std.specs.Prelude.{◌≤◌};
+    ghost use Rattle.sf_state.specs.declared.env.Env.{size-Env};
+    ghost use Rattle.sf_state.specs.declared.state.Live.{size-Live};
+
+    // Some of the names around members, once the rest is let go: those that nothing else has, where there are any.
+    #[cycle(state)]
+    pub(crate) fn left(self) -> Env
+        ensures { size-Env result ≤ size-Live self }
+    {
+        match self {
+            Live::Gathered(keys, states) => {
+                drop(keys);
+                let mut states = states;
+                while let Some(state) = states.pop() {
+                    let names = state.left();
+                    if names.is_last() {
+                        return names;
+                    }
+                    drop(names);
+                }
+                Env::Empty
+            }
+            other => {
+                drop(other);
+                Env::Empty
+            }
+        }
+    }
+
     /// A copy of the node over the same parts, which are shared.
     pub fn clone_in(&self, alloc: Global) -> Result<Live, AllocError>
         ensures { IfOk result (λ copy. (φ : AnswersByName) (p : Plan) (P : ProcessOf) (x : Data) (L : Life) → Ready φ p self.now P x L → Ready φ p copy P x L) }
@@ -413,7 +516,65 @@ impl Live {
                 let inner = part.share(alloc)?;
                 Ok(Live::Wrap(kept, inner))
             }
+            Live::Gathered(keys, states) => {
+                let under = keys.clone()?;
+                let all = share_all(alloc, states)?;
+                Ok(Live::Gathered(under, all))
+            }
         }
+    }
+
+    /// A node that stands for nothing yet. It takes no memory.
+    pub fn vacant(alloc: Global) -> Live {
+        Live::Pipeline(Vec::new(alloc))
+    }
+
+    /// The same members, each over its node. The error is a want of memory, or too many owners.
+    pub fn share_members(&self, alloc: Global) -> Result<Live, AllocError>
+        ensures { IfOk result (λ shared. (φ : AnswersByName) (p : Plan) (ms : MembersOf) (L : Life) → Gathers φ p self.now ms L → Gathers φ p shared ms L) }
+    {
+        match self {
+            Live::Gathered(keys, states) => {
+                let under = keys.clone()?;
+                let all = share_all(alloc, states)?;
+                Ok(Live::Gathered(under, all))
+            }
+            _ => self.clone_in(alloc),
+        }
+    }
+
+    /// Members from here on, each to go on in another place `wait` milliseconds after its last sample. The error is a want of
+    /// memory, or too many owners.
+    pub fn freeze_members(&self, alloc: Global, wait: u64) -> Result<Live, AllocError>
+        ensures { IfOk result (λ frozen. (φ : AnswersByName) (p : Plan) (ms : MembersOf) (L : Life) → Gathers φ p self.now ms L → Gathers φ p frozen (each_frozen ms L wait) []) }
+    {
+        match self {
+            Live::Gathered(keys, states) => {
+                let under = keys.clone()?;
+                let frozen = freeze_all(alloc, wait, states)?;
+                Ok(Live::Gathered(under, frozen))
+            }
+            _ => self.clone_in(alloc),
+        }
+    }
+
+    /// Makes these the members that others are, as `State::renew` does: each is copied into the nodes of the one at its place,
+    /// where there are as many. After an error they stand for nothing.
+    pub fn renew_members(&mut self, alloc: Global, other: &Live) -> Result<(), AllocError>
+        ensures { OnOk result ((φ : AnswersByName) (p : Plan) (ms : MembersOf) (L : Life) → Gathers φ p other.now ms L → Gathers φ p self.new ms L) }
+    {
+        if let Live::Gathered(keys, states) = other {
+            if let Live::Gathered(under, own) = self {
+                if own.len() == states.len() {
+                    let same = keys.clone()?;
+                    *under = same;
+                    return renew_all(alloc, own, states);
+                }
+            }
+        }
+        let shared = other.share_members(alloc)?;
+        *self = shared;
+        Ok(())
     }
 
     // The same of a node.
@@ -530,6 +691,88 @@ impl Keeping {
     }
 }
 
+impl Gathering {
+    /// A copy of the node over the same states, which are shared. What ran before the last sample is left out.
+    pub fn clone_in(&self, alloc: Global) -> Result<Gathering, AllocError>
+        ensures { IfOk result (λ copy. (φ : AnswersByName) (p : Plan) (P : ProcessOf) (L : Life) → WaitsGathered φ p self.now P L → WaitsGathered φ p copy P L) }
+    {
+        match self {
+            Gathering::Releasing(releasing) => {
+                let members = releasing.members.share_members(alloc)?;
+                let observer = releasing.observer.share(alloc)?;
+                Ok(Gathering::Releasing(Releasing {
+                    shown: releasing.shown,
+                    members,
+                    before: Live::vacant(alloc),
+                    observer,
+                    name: releasing.name,
+                    pattern: releasing.pattern,
+                    body: releasing.body,
+                }))
+            }
+            Gathering::Editing(editing) => {
+                let running = editing.members.share_members(alloc)?;
+                let edit = editing.edit.clone()?;
+                Ok(Gathering::Editing(Editing {
+                    shown: editing.shown,
+                    members: running,
+                    name: editing.name,
+                    pattern: editing.pattern,
+                    edit,
+                }))
+            }
+        }
+    }
+}
+
+impl Releasing {
+    /// Its body before the first sample, inside its pattern for the payload of an event, and around that the name of the members
+    /// as they were before the event, each frozen to go on `wait` milliseconds later, where these names are around the members. The
+    /// error is a want of memory, or too many owners.
+    pub fn begin(
+        &self,
+        alloc: Global,
+        plan: &Plan,
+        names: &Env,
+        wait: u64,
+        payload: Rc<Value>,
+    ) -> Result<State, AllocError>
+        ensures { let p = plan.now in
+            IfOk result (λ begun. (φ : AnswersByName) (e : Environment) (ms : MembersOf) (L : Life) → IsNames φ p names.now e → Gathers φ p self.now.before ms L →
+            Stands φ p begun (closure (plan_tree p self.now.body)
+            (bind (pattern_of (placed_at (plan_expressions p) self.now.pattern)) payload.value (collected (name_at (plan_expressions p) self.now.name) (each_frozen ms L wait) e))) []) }
+    {
+        let known = names.with_frozen(alloc, self.name, &self.before, wait)?;
+        let around = known.inside(alloc, plan.expressions(), self.pattern, payload)?;
+        Ok(State::Unborn(Process {
+            term: self.body,
+            names: around,
+        }))
+    }
+}
+
+impl Editing {
+    /// The names in which its edit is made: inside its pattern for the payload of an event, and around that the name of the
+    /// members that run, each frozen to go on `wait` milliseconds later, where these names are around them. The error is a want of
+    /// memory, or too many owners.
+    pub fn inside(
+        &self,
+        alloc: Global,
+        plan: &Plan,
+        names: &Env,
+        wait: u64,
+        payload: Rc<Value>,
+    ) -> Result<Env, AllocError>
+        ensures { let p = plan.now in
+            IfOk result (λ inside. (φ : AnswersByName) (e : Environment) (ms : MembersOf) (L : Life) → IsNames φ p names.now e → Gathers φ p self.now.members ms L →
+            IsNames φ p inside (bind (pattern_of (placed_at (plan_expressions p) self.now.pattern)) payload.value (collected (name_at (plan_expressions p) self.now.name) (each_frozen ms L wait) e))) }
+    {
+        let known = names.with_frozen(alloc, self.name, &self.members, wait)?;
+        let around = known.inside(alloc, plan.expressions(), self.pattern, payload)?;
+        Ok(around)
+    }
+}
+
 impl Kept {
     /// The same node, shared, or a copy of a primitive. The error is a want of memory, or too many owners.
     pub fn share(&self, alloc: Global) -> Result<Kept, AllocError>
@@ -553,6 +796,10 @@ impl Kept {
                 let keeping = node.clone()?;
                 Ok(Kept::Keeping(keeping))
             }
+            Kept::Gathering(node) => {
+                let gathering = node.clone()?;
+                Ok(Kept::Gathering(gathering))
+            }
         }
     }
 }
@@ -569,13 +816,14 @@ impl Frozen {
             Kept::Live(node) => Ok(State::Live(around, node)),
             Kept::Switch(node) => Ok(State::Switch(around, node)),
             Kept::Keeping(node) => Ok(State::Keeping(around, node)),
+            Kept::Gathering(node) => Ok(State::Gathering(around, node)),
             Kept::Primitive(primitive) => Ok(State::Primitive(primitive)),
         }
     }
 }
 
-// The same states, each over its node.
-fn share_all(alloc: Global, states: &[State]) -> Result<Vec<State>, AllocError>
+/// The same states, each over its node. The error is a want of memory, or too many owners.
+pub fn share_all(alloc: Global, states: &[State]) -> Result<Vec<State>, AllocError>
     ensures { IfOk result (λ shared. (φ : AnswersByName) (p : Plan) → AllFollow φ p states.now shared.items) }
 {
     let mut shared = Vec::with_capacity(alloc, states.len())?;
@@ -583,6 +831,43 @@ fn share_all(alloc: Global, states: &[State]) -> Result<Vec<State>, AllocError>
         shared.push(state.share(alloc)?)?;
     }
     Ok(shared)
+}
+
+// Each state from here on, to go on `wait` milliseconds after its last sample.
+fn freeze_all(alloc: Global, wait: u64, states: &[State]) -> Result<Vec<State>, AllocError>
+    ensures { IfOk result (λ frozen. (φ : AnswersByName) (p : Plan) → AllFreeze φ p wait states.now frozen.items) }
+{
+    let mut frozen = Vec::with_capacity(alloc, states.len())?;
+    for state in states {
+        frozen.push(state.freeze(alloc, wait)?)?;
+    }
+    Ok(frozen)
+}
+
+// Makes each of these states stand for all that the one at its place stands for.
+fn renew_all(alloc: Global, own: &mut Vec<State>, states: &[State]) -> Result<(), AllocError>
+    requires { length own.old.items ≡ length states.now }
+    ensures { OnOk result ((φ : AnswersByName) (p : Plan) → AllFollow φ p states.now own.new.items) }
+{
+    for place in 0..states.len() {
+        own[place].renew(alloc, &states[place])?;
+    }
+    Ok(())
+}
+
+/// Before a sample: the members that run go on in nodes of their own, and what they were takes the place of what they were
+/// before. After an error they stand for nothing.
+pub fn hold_back_members(
+    alloc: Global,
+    members: &mut Live,
+    before: &mut Live,
+) -> Result<(), AllocError>
+    ensures held { OnOk result (before.new ≡ members.old) }
+    ensures runs_on { OnOk result ((φ : AnswersByName) (p : Plan) (ms : MembersOf) (L : Life) → Gathers φ p members.old ms L → Gathers φ p members.new ms L) }
+{
+    before.renew_members(alloc, members)?;
+    mem::swap(members, before);
+    Ok(())
 }
 
 /// Makes a node its owner's alone: where it is shared, a copy takes its place, and the other owners keep the node. After
@@ -625,6 +910,19 @@ pub fn unshare_switch(alloc: Global, node: &mut Rc<Switch>) -> Result<(), AllocE
 #[inline(always)]
 pub fn unshare_keeping(alloc: Global, node: &mut Rc<Keeping>) -> Result<(), AllocError>
     ensures { (φ : AnswersByName) (p : Plan) (P : ProcessOf) (L : Life) → WaitsKeeping φ p node.old.value P L → WaitsKeeping φ p node.new.value P L }
+{
+    if Rc::strong_count(node) == 1 {
+        return Ok(());
+    }
+    let own = Rc::new(alloc, node.clone_in(alloc)?)?;
+    *node = own;
+    Ok(())
+}
+
+/// Makes the node of members that wait its owner's alone, likewise.
+#[inline(always)]
+pub fn unshare_gathering(alloc: Global, node: &mut Rc<Gathering>) -> Result<(), AllocError>
+    ensures { (φ : AnswersByName) (p : Plan) (P : ProcessOf) (L : Life) → WaitsGathered φ p node.old.value P L → WaitsGathered φ p node.new.value P L }
 {
     if Rc::strong_count(node) == 1 {
         return Ok(());

@@ -18,20 +18,21 @@ use Rattle.sf_mean.specs.Meaning.{Network, Readings, Outcome, gave, faulted, as_
 use Rattle.sf_law.specs.Arena.{network_of_plan}
 use Rattle.sf_prim.specs.declared.prim_state.PrimState.{PrimState}
 use Rattle.sf_state.specs.declared.state.State.{State}
-use Rattle.sf_state.specs.declared.state.State.TheVariants.{Unborn, Primitive as SPrimitive, Live' as Alive', Switch' as Watching', Keeping'}
+use Rattle.sf_state.specs.declared.state.State.TheVariants.{Unborn, Primitive as SPrimitive, Live' as Alive', Switch' as Watching', Keeping', Gathering'}
 use Rattle.sf_state.specs.declared.state.Live.{Live}
 use Rattle.sf_state.specs.declared.state.Switch.{Switch}
 use Rattle.sf_state.specs.declared.state.Keeping.{Keeping}
+use Rattle.sf_state.specs.declared.state.Gathering.{Gathering}
 use Rattle.sf_state.specs.declared.state.Live.TheVariants.{Join as LJoin, Wrap as LWrap}
 use Rattle.sf_state.specs.declared.state.Wrap.{Wrap}
-use Rattle.sf_state.specs.Standing.{closed_over as SClosure}
+use Rattle.sf_state.specs.Standing.{closed_over as SClosure, gathering_on}
 use Rattle.sf_state.specs.declared.env.Env.{Env}
 use Rattle.sf_state.specs.Standing.{was_alike, Stands, itself, StandsItself, unborn, Recalls, recalling, alive, watching, keeping_on, Settles, settles, Ready, ready, lives_join, lives_wrap, is_closure, IsNames}
 use Rattle.sf_parts.specs.declared.opening.Begun.TheVariants as begun
 use Rattle.sf_parts.specs.declared.meter.Meter.{Meter}
 use Rattle.sf_parts.specs.Meters.{entered_of, height_of, readings}
 use Rattle.sf_parts.specs.Answering.{Rel, Ticks, Ticked, ticked, refused, Spent, Within, StopsFor, faults, large, memory, Answers, answers, fails, PrimSteps, LiveSteps, left_or}
-use Rattle.sf_parts.specs.Beginning.{Prepared, primitive_prepared, live_prepared, switch_prepared, keeping_prepared, BeginsAs, begins_itself}
+use Rattle.sf_parts.specs.Beginning.{Prepared, primitive_prepared, live_prepared, switch_prepared, keeping_prepared, BeginsAs, begins_itself, gathering_prepared}
 use Rattle.sf_parts.proofs.Costs.{memory_exit, counts, begin_stops}
 use Rattle.sf_step.specs.Sampling.{PartSteps, StateSteps, CountedSteps}
 use Rattle.sf_step.proofs.Parts.{counted, then_on, with_change, over_spent, both_spent, fails_alike, over_fails, change_fails, then_fails, rest_fails, spent_within, answered, failed}
@@ -198,6 +199,9 @@ module _ (φ : AnswersByName) (p : Plan) where
 
   pub keeping_is : {at : _} (names : Env) (k : Keeping) → IsPrepared (Keeping' names at k.shown k.first k.source k.before k.observer k.name k.pattern k.body)
   keeping_is names k P s L (keeping_on N W) = keeping_prepared N W
+
+  pub gathering_is : {at : _} (names : Env) (k : Gathering) → IsPrepared (Gathering' names at k)
+  gathering_is names k P s L (gathering_on N W) = gathering_prepared N W
 
   -- such a state counts, and steps
   pub counted_steps : (a : State) (s : Step) (r : Result (State × Data) Fault) {m n n' : Meter} {depth inside : ℕ} → Ticks m n depth inside → IsPrepared a → CountedSteps φ p a s r n n' inside → StateSteps φ p a s r m n' depth

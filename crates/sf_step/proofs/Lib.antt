@@ -3,6 +3,9 @@ pub mod Forms
 pub mod Turning
 pub mod Exits
 pub mod Stages
+pub mod Members
+pub mod Releasing
+pub mod Editing
 pub mod Switches
 pub mod Recurring
 pub mod Keeping

@@ -17,7 +17,7 @@ use Rattle.sf_law.specs.Arena.{network_of_plan}
 use Rattle.sf_state.specs.declared.state.State.{State}
 use Rattle.sf_state.specs.declared.state.Live.{items_hidden-the_row-State-1}
 use Rattle.sf_state.specs.declared.state.Live.TheVariants.{Pipeline as LPipeline}
-use Rattle.sf_state.specs.Standing.{Stands, itself, took_over, unborn, recalling, recalls, alive, watching, waits_so, recurs_so, keeping_on, keeps_so, was_frozen, Turned, fired_to, kept_to, ran, went_on, was_alike, settles, Ready, ready, lives_pipeline, StagesStand, last_stands, stage_stands}
+use Rattle.sf_state.specs.Standing.{Stands, itself, took_over, unborn, recalling, recalls, alive, watching, waits_so, recurs_so, keeping_on, keeps_so, gathering_on, releases_so, edits_so, was_frozen, Turned, fired_to, kept_to, released_to, ran, went_on, was_alike, settles, Ready, ready, lives_pipeline, StagesStand, last_stands, stage_stands}
 use Rattle.sf_state.proofs.Copies.{pipeline_lives}
 use Rattle.sf_parts.specs.declared.meter.Meter.{Meter}
 use Rattle.sf_parts.specs.Answering.{Rel, Ticks, StopsFor, Answers, answers, fails, LiveSteps}
@@ -89,6 +89,7 @@ module _ (φ : AnswersByName) (p : Plan) where
   turned_gave : {P Q : Process} {L M : Life} → Turned net P L Q M → Gave P L
   turned_gave (fired_to S O) = (_, O)
   turned_gave (kept_to S O) = (_, O)
+  turned_gave (released_to j S O) = (_, O)
   turned_gave (ran h O) = (_, O)
   turned_gave (went_on O) = (_, O)
   turned_gave (was_alike A O) = (_, O)
@@ -100,6 +101,8 @@ module _ (φ : AnswersByName) (p : Plan) where
   state_gave (itself (watching N (waits_so own S O A))) = (_, O)
   state_gave (itself (watching N (recurs_so own O A))) = (_, O)
   state_gave (itself (keeping_on N (keeps_so S O OY A B))) = (_, O)
+  state_gave (itself (gathering_on N (releases_so j S O Y G A))) = (_, O)
+  state_gave (itself (gathering_on N (edits_so t j R O Y G))) = (_, O)
   state_gave (itself (was_frozen A)) = ([], not_begun)
   state_gave (took_over T A) = turned_gave T
 

@@ -10,23 +10,24 @@ use Rattle.sf_expr.specs.Expressions.{Pattern}
 use Rattle.sf_expr.specs.Evaluation.{Evaluated, answer, ◌>>=◌}
 use Rattle.sf_term.specs.declared.form.Observation.{Observation}
 use Rattle.sf_term.specs.declared.form.Switching.TheVariants.{Basic}
-use Rattle.sf_term.specs.Trees.{Term, Reference, reference, switching, keeping}
-use Rattle.sf_mean.specs.Lives.{Step, step, Life, Process, closure, resumed, Environment, after}
-use Rattle.sf_mean.specs.Meaning.{Network, Readings, Outcome, gave, Cost, Made, process_made, referred, Watched, itself as watched_itself, observed, Takeover, whenever, body_of, body_with, Standing, waits, fired, Since, Gives, gives, not_begun, and_gave, of_form, of_resumed, Form, of_reference, of_switch, of_keeping, had_fired, SwitchTurn, while_waiting, as_body}
+use Rattle.sf_term.specs.Trees.{Term, Reference, reference, switching, keeping, releasing, Collection}
+use Rattle.sf_mean.specs.Lives.{Step, step, Life, Process, closure, resumed, Environment, after, Members}
+use Rattle.sf_mean.specs.Meaning.{Network, Readings, Outcome, gave, Cost, Made, process_made, referred, Watched, itself as watched_itself, observed, Takeover, whenever, body_of, body_with, Standing, waits, fired, Since, Gives, gives, not_begun, and_gave, of_form, of_resumed, Form, of_reference, of_switch, of_keeping, had_fired, SwitchTurn, while_waiting, as_body, members_made, body_with_members, of_releasing, observed_members}
 use Rattle.sf_mean.proofs.Once.{once_since}
 use Rattle.sf_law.specs.declared.plan.Plan.{Plan}
 use Rattle.sf_law.specs.Arena.{network_of_plan}
 use Rattle.sf_state.specs.declared.state.State.{State}
-use Rattle.sf_state.specs.declared.state.State.TheVariants.{Switch' as Watching', Keeping', Frozen'}
+use Rattle.sf_state.specs.declared.state.State.TheVariants.{Switch' as Watching', Keeping', Frozen', Gathering'}
 use Rattle.sf_state.specs.declared.state.Switch.{Switch}
 use Rattle.sf_state.specs.declared.state.Keeping.{Keeping}
+use Rattle.sf_state.specs.declared.state.Gathering.{Gathering}
 use Rattle.sf_state.specs.declared.state.Kept.{Kept}
 use Rattle.sf_state.specs.declared.env.Env.{Env}
-use Rattle.sf_state.specs.Standing.{IsNames, Turned, fired_to, kept_to, ran, went_on, was_alike, Stands, itself, took_over, StandsItself, watching, keeping_on, was_frozen, kept_state, Waits, WaitsKeeping}
+use Rattle.sf_state.specs.Standing.{IsNames, Turned, fired_to, kept_to, released_to, ran, went_on, was_alike, Stands, itself, took_over, StandsItself, watching, keeping_on, gathering_on, was_frozen, kept_state, Waits, WaitsKeeping, WaitsGathered}
 use Rattle.sf_parts.specs.declared.opening.Begun.TheVariants as begun
 use Rattle.sf_parts.specs.declared.meter.Meter.{Meter}
 use Rattle.sf_parts.specs.Answering.{Rel, Ticks, StopsFor, Answers, answers, fails}
-use Rattle.sf_parts.specs.Beginning.{Prepared, switch_prepared, keeping_prepared, BeginsAs, begins_referred}
+use Rattle.sf_parts.specs.Beginning.{Prepared, switch_prepared, keeping_prepared, BeginsAs, begins_referred, gathering_prepared}
 use Rattle.sf_step.specs.Sampling.{CountedSteps, PartSteps, StateSteps, Waiting, StandsFor, WaitingSteps, left_beside}
 use Rattle.sf_step.proofs.Parts.{Over, counted, Alike, over_spent, fails_alike, over_fails, answered, failed}
 use Rattle.sf_step.proofs.Forms.{gave_outputs, gives_form}
@@ -73,9 +74,18 @@ module _ (φ : AnswersByName) (p : Plan) where
       → Form net (keeping w t r c q u) e m s L o k → Gives net Q (s ∷ M) o k
   from_keeping S (of_keeping S' T) = from_fired (once_since net S' S) T
 
+  -- what members are made with, from what they are collected as
+  abbrev pub as_members : Evaluated Members → Evaluated Made
+  as_members q = q >>= λ ms. answer (members_made ms)
+
+  from_releasing : {w : Observation} {i : Collection} {r u : Term} {c : Name} {q : Pattern} {e : Environment} {ms : Members} {s : Step} {L M : Life} {Q : Process} {o : Outcome} {k : Cost} → Since net (observed_members ms r e) (body_with_members c ms q u e) L (fired Q M)
+      → Form net (releasing w i r c q u) e (members_made ms) s L o k → Gives net Q (s ∷ M) o k
+  from_releasing S (of_releasing S' T) = from_fired (once_since net S' S) T
+
   turned_to : {P Q : Process} {L M : Life} → Turned net P L Q M → (s : Step) (o : Outcome) (k : Cost) → Gives net Q (s ∷ M) o k → Gives net P (s ∷ L) o k
   turned_to (fired_to S O) s o k G = gives O (of_form refl (of_switch S (as_body G)))
   turned_to (kept_to S O) s o k G = gives O (of_form refl (of_keeping S (as_body G)))
+  turned_to (released_to j S O) s o k G = gives O (of_form (ap as_members j) (of_releasing S (as_body G)))
   turned_to (ran h O) s o k G = gives O (of_form (ap as_made h) (of_reference G))
   turned_to (went_on O) s o k G = gives O (of_resumed G)
   turned_to (was_alike A O) s o k G = same net (alike_back A) G
@@ -83,6 +93,7 @@ module _ (φ : AnswersByName) (p : Plan) where
   turned_back : {P Q : Process} {L M : Life} → Turned net P L Q M → (s : Step) (o : Outcome) (k : Cost) → Gives net P (s ∷ L) o k → Gives net Q (s ∷ M) o k
   turned_back (fired_to {L = L} S O) s o k G = from_switch S (gives_form net s L refl G)
   turned_back (kept_to {L = L} S O) s o k G = from_keeping S (gives_form net s L refl G)
+  turned_back (released_to {L = L} j S O) s o k G = from_releasing S (gives_form net s L (ap as_members j) G)
   turned_back (ran {s = r} {L = L} h O) s o k G = from_reference (gives_form net s (r ∷ L) (ap as_made h) G)
   turned_back (went_on O) s o k G = from_resumed G
   turned_back (was_alike A O) s o k G = same net A G
@@ -90,6 +101,7 @@ module _ (φ : AnswersByName) (p : Plan) where
   turned_on : {P Q : Process} {L M : Life} {s : Step} {y : Data} {r : Readings} {k : Cost} → Turned net P L Q M → Gives net P (s ∷ L) (gave y r) k → Turned net P (s ∷ L) Q (s ∷ M)
   turned_on (fired_to S O) G = fired_to (had_fired S) (gave_outputs net O G)
   turned_on (kept_to S O) G = kept_to (had_fired S) (gave_outputs net O G)
+  turned_on (released_to j S O) G = released_to j (had_fired S) (gave_outputs net O G)
   turned_on (ran h O) G = ran h (gave_outputs net O G)
   turned_on (went_on O) G = went_on (gave_outputs net O G)
   turned_on (was_alike A O) G = was_alike A (gave_outputs net O G)
@@ -195,6 +207,12 @@ module _ (φ : AnswersByName) (p : Plan) where
   is_keeping : {at : _} (names : Env) (k : Keeping) → IsWaiting (WaitsKeeping φ p) names k (Keeping' names at k.shown k.first k.source k.before k.observer k.name k.pattern k.body)
   is_keeping names k t e s L N S = keeping_on N S
 
+  is_gathering : {at : _} (names : Env) (k : Gathering) → IsWaiting (WaitsGathered φ p) names k (Gathering' names at k)
+  is_gathering names k t e s L N S = gathering_on N S
+
+  seen_gathering : {at : _} (names : Env) (k : Gathering) (P : Process) (x : Data) (L : Life) → Prepared φ p (Gathering' names at k) P x L → WaitsAt (WaitsGathered φ p) names k P L
+  seen_gathering names k P x L (gathering_prepared N S) = waits_at N S
+
   seen_watching : {at : _} (names : Env) (k : Switch) (P : Process) (x : Data) (L : Life) → Prepared φ p (Watching' names at k.form k.running k.pattern k.body) P x L → WaitsAt (Waits φ p) names k P L
   seen_watching names k P x L (switch_prepared N S) = waits_at N S
 
@@ -234,3 +252,17 @@ module _ (φ : AnswersByName) (p : Plan) where
 
     pub keeping_fails : (f : Fault) → WaitingSteps φ p (WaitsKeeping φ p) names own s (Err f) n n' inside → CountedSteps φ p (Keeping' names at k.shown k.first k.source k.before k.observer k.name k.pattern k.body) s (Err f) n n' inside
     keeping_fails f h = waiting_fails (WaitsKeeping φ p) names k own follows _ s n n' inside (seen_keeping names k) f h
+
+  module _ (at : _) (names : Env) (k own : Gathering) (follows : (P : Process) (L : Life) → WaitsGathered φ p k P L → WaitsGathered φ p own P L) (s : Step) (n n' : Meter) (inside : ℕ) where
+    gathering_goes : (o : Option State) (b : State) (k' : Gathering) (v : Data) → o ≡ Some b → WaitingSteps φ p (WaitsGathered φ p) names own s (Ok ((o, k'), v)) n n' inside → CountedSteps φ p (Gathering' names at k) s (Ok (b, v)) n n' inside
+    gathering_goes o b k' v is h = goes_over (WaitsGathered φ p) names k own follows _ s n n' inside (seen_gathering names k) o b k' v is h
+
+    gathering_stays : (at' : _) (o : Option State) (k' : Gathering) (v : Data) → o ≡ None → WaitingSteps φ p (WaitsGathered φ p) names own s (Ok ((o, k'), v)) n n' inside → CountedSteps φ p (Gathering' names at k) s (Ok (Gathering' names at' k', v)) n n' inside
+    gathering_stays at' o k' v none h = stays_on (WaitsGathered φ p) names k own follows _ s n n' inside (seen_gathering names k) o _ k' v none (is_gathering names k') h
+
+    pub gathering_turns : (at' : _) (o : Option State) (k' : Gathering) (v : Data) (b : State) → b ≡ unwrap_or o (Gathering' names at' k') → WaitingSteps φ p (WaitsGathered φ p) names own s (Ok ((o, k'), v)) n n' inside → CountedSteps φ p (Gathering' names at k) s (Ok (b, v)) n n' inside
+    gathering_turns at' (Some a) k' v b same h = subst (λ (b : State). CountedSteps φ p (Gathering' names at k) s (Ok (b, v)) n n' inside) (sym same) (gathering_goes (Some a) a k' v refl h)
+    gathering_turns at' None k' v b same h = subst (λ (b : State). CountedSteps φ p (Gathering' names at k) s (Ok (b, v)) n n' inside) (sym same) (gathering_stays at' None k' v refl h)
+
+    pub gathering_fails : (f : Fault) → WaitingSteps φ p (WaitsGathered φ p) names own s (Err f) n n' inside → CountedSteps φ p (Gathering' names at k) s (Err f) n n' inside
+    gathering_fails f h = waiting_fails (WaitsGathered φ p) names k own follows _ s n n' inside (seen_gathering names k) f h

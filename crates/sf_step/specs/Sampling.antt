@@ -1,19 +1,22 @@
--- What the steps of a cycle answer: of states, and of switches that wait.
-use Rattle.std.specs.Prelude.{ℕ, ◌∷◌, Option, Some, None, Result, Ok, Err}
+-- What the steps of a cycle answer: of states, of members, and of what waits for an event.
+use Rattle.std.specs.Prelude.{ℕ, ◌≤◌, ◌∷◌, Option, Some, None, Result, Ok, Err}
 use Rattle.sf_value.specs.Values.{Data}
 use Rattle.sf_value.specs.declared.fault.Fault.{Fault}
 use Rattle.sf_func.specs.Registries.{AnswersByName}
 use Rattle.sf_term.specs.Trees.{Term}
-use Rattle.sf_mean.specs.Lives.{Step, Life, Process, closure, Environment, first_input}
-use Rattle.sf_mean.specs.Meaning.{Gives}
+use Rattle.sf_mean.specs.Lives.{Step, Life, Process, closure, Environment, Members, first_input}
+use Rattle.sf_mean.specs.Meaning.{Gives, Each}
 use Rattle.sf_law.specs.declared.plan.Plan.{Plan}
 use Rattle.sf_law.specs.Arena.{network_of_plan}
 use Rattle.sf_state.specs.declared.state.State.{State}
+use Rattle.sf_state.specs.declared.state.Live.{Live}
+use Rattle.sf_state.specs.declared.state.Gathering.{Gathering}
 use Rattle.sf_state.specs.declared.state.Switch.{Switch}
 use Rattle.sf_state.specs.declared.state.Keeping.{Keeping}
 use Rattle.sf_state.specs.declared.env.Env.{Env}
-use Rattle.sf_state.specs.Standing.{IsNames, Stands, Waits, WaitsKeeping}
+use Rattle.sf_state.specs.Standing.{IsNames, Stands, Waits, WaitsKeeping, WaitsGathered, Gathers}
 use Rattle.sf_parts.specs.declared.meter.Meter.{Meter}
+use Rattle.sf_parts.specs.Meters.{height_of}
 use Rattle.sf_parts.specs.Answering.{Ticks, Answers}
 use Rattle.sf_parts.specs.Beginning.{Prepared}
 
@@ -51,6 +54,15 @@ SwitchSteps φ p = WaitingSteps φ p (Waits φ p)
 
 abbrev pub KeepingSteps : AnswersByName → Plan → Env → Keeping → Step → Result ((Option State × Keeping) × Data) Fault → Meter → Meter → ℕ → Type 0
 KeepingSteps φ p = WaitingSteps φ p (WaitsKeeping φ p)
+
+-- the same of members that wait
+abbrev pub GatheringSteps : AnswersByName → Plan → Env → Gathering → Step → Result ((Option State × Gathering) × Data) Fault → Meter → Meter → ℕ → Type 0
+GatheringSteps φ p = WaitingSteps φ p (WaitsGathered φ p)
+
+-- members step to a table, or the first fault, inside nodes that are counted
+abbrev pub MembersSteps : AnswersByName → Plan → Live → Step → Result (Live × Data) Fault → Meter → Meter → ℕ → Type 0
+MembersSteps φ p l s result m n inside = inside ≤ height_of m → (ms : Members) (L : Life) → Gathers φ p l ms L
+    → Answers (λ y. y.1) (λ y. Gathers φ p y.0 ms (s ∷ L)) (Each (network_of_plan φ p) ms s L) result m n inside
 
 -- a state that counted between m and n steps to the outcome of its process on the longer life, where its parts stand inside so
 -- many nodes

@@ -6,21 +6,22 @@ ghost use Rattle.sf_state.specs.Standing.{Stands};
 ghost use Rattle.sf_parts.specs.Answering.{LiveSteps, kept, left_or};
 ghost use Rattle.sf_parts.specs.Contexts.{plan_in, dt_in};
 ghost use Rattle.sf_parts.specs.Meters.{entered_of, height_of, fault_of as fault_in};
-ghost use Rattle.sf_step.specs.Sampling.{StateSteps, SwitchSteps, KeepingSteps, CountedSteps, left_beside};
+ghost use Rattle.sf_step.specs.Sampling.{StateSteps, SwitchSteps, KeepingSteps, GatheringSteps, MembersSteps, CountedSteps, left_beside};
 ghost use Rattle.sf_step.specs.Stepping.{Steps};
 
 use sf_func::Holds;
 use sf_law::Plan;
 use sf_parts::{
-    Begun, Meter, SampleContext, Stop, begin, beside, copies, hold_back, payload_of, put_first,
-    put_last, show, step_prim, step_probe, take_over, value_and_payload,
+    Begun, Meter, SampleContext, Stop, begin, beside, collect, copies, hold_back, payload_of,
+    put_first, put_last, show, step_prim, step_probe, table_of, take_over, value_and_payload,
 };
 use sf_probe::Readings;
 use sf_state::{
-    Env, Feedback, Keeping, Live, State, Switch, Wrap, unshare, unshare_keeping, unshare_switch,
+    Editing, Env, Feedback, Gathering, Keeping, Live, Releasing, State, Switch, Wrap,
+    hold_back_members, unshare, unshare_gathering, unshare_keeping, unshare_switch,
 };
 use sf_term::{Join, Observation, Switching};
-use sf_value::{Fault, Value, ValueFault};
+use sf_value::{Fault, Key, Value, ValueFault};
 use std::alloc::Global;
 use std::mem;
 use std::rc::Rc;
@@ -109,6 +110,10 @@ fn step_other<R: Holds>(
             let inside = meter.tick(depth)?;
             step_counted(context, state, inside, value, meter)
         }
+        State::Gathering(_, _) => {
+            let inside = meter.tick(depth)?;
+            step_counted(context, state, inside, value, meter)
+        }
         State::Unborn(process) => {
             let term = process.term;
             let names = mem::replace(&mut process.names, Env::Empty);
@@ -164,6 +169,11 @@ fn step_counted<R: Holds>(
             take_over(state, kept);
             Ok(())
         }
+        State::Gathering(names, node) => {
+            let released = step_gathering(context, node, names, inside, value, meter)?;
+            take_over(state, released);
+            Ok(())
+        }
         State::Unborn(_) | State::Frozen(_) => unreachable!(),
     }
 }
@@ -212,6 +222,211 @@ fn step_observing<R: Holds>(
         Some(keeping) => step_keeping(context, keeping, names, inside, value, meter),
         None => Err(meter.stop(Fault::Memory)),
     }
+}
+
+// The same of members that wait.
+#[cycle(step)]
+#[inline(always)]
+fn step_gathering<R: Holds>(
+    context: &SampleContext<R>,
+    node: &mut Rc<Gathering>,
+    names: &Env,
+    inside: u64,
+    value: &mut Value,
+    meter: &mut Meter,
+) -> Result<Option<State>, Stop>
+    ensures { GatheringSteps (R.answers context.now.functions.now) (plan_in context.now) names.now node.old.value (step (dt_in context.now) value.old)
+        (left_beside result node.new.value value.new (fault_in meter.new)) meter.old meter.new inside }
+{
+    let Ok(()) = unshare_gathering(context.alloc, node) else {
+        return Err(meter.stop(Fault::Memory));
+    };
+    match Rc::get_mut(node) {
+        Some(gathering) => step_members_waiting(context, gathering, names, inside, value, meter),
+        None => Err(meter.stop(Fault::Memory)),
+    }
+}
+
+// The same of the node's content.
+#[cycle(step)]
+#[inline]
+fn step_members_waiting<R: Holds>(
+    context: &SampleContext<R>,
+    gathering: &mut Gathering,
+    names: &Env,
+    inside: u64,
+    value: &mut Value,
+    meter: &mut Meter,
+) -> Result<Option<State>, Stop>
+    ensures { GatheringSteps (R.answers context.now.functions.now) (plan_in context.now) names.now gathering.old (step (dt_in context.now) value.old)
+        (left_beside result gathering.new value.new (fault_in meter.new)) meter.old meter.new inside }
+{
+    match gathering {
+        Gathering::Releasing(releasing) => {
+            step_releasing(context, releasing, names, inside, value, meter)
+        }
+        Gathering::Editing(editing) => {
+            step_editing(context, editing, names, inside, value, meter)?;
+            Ok(None)
+        }
+    }
+}
+
+// The next sample of members under an observer: the event is what it gives on the input beside their table, and the body is
+// handed the members as they were before this sample.
+#[cycle(step)]
+#[inline(never)]
+fn step_releasing<R: Holds>(
+    context: &SampleContext<R>,
+    releasing: &mut Releasing,
+    names: &Env,
+    inside: u64,
+    value: &mut Value,
+    meter: &mut Meter,
+) -> Result<Option<State>, Stop>
+    ensures { GatheringSteps (R.answers context.now.functions.now) (plan_in context.now) names.now (Gathering.Releasing releasing.old) (step (dt_in context.now) value.old)
+        (left_beside result (Gathering.Releasing releasing.new) value.new (fault_in meter.new)) meter.old meter.new inside }
+{
+    let alloc = context.alloc;
+    let Ok(()) = hold_back_members(alloc, &mut releasing.members, &mut releasing.before) else {
+        return Err(meter.stop(Fault::Memory));
+    };
+    let Ok((input, output)) = copies(alloc, &*value) else {
+        return Err(meter.stop(Fault::Memory));
+    };
+    step_members(context, &mut releasing.members, inside, value, meter)?;
+    let Ok(mut seen) = beside(alloc, input, &*value) else {
+        return Err(meter.stop(Fault::Memory));
+    };
+    step_state(context, &mut releasing.observer, inside, &mut seen, meter)?;
+    match payload_of(seen) {
+        None => Ok(None),
+        Some(payload) => {
+            let plan = context.plan;
+            let Ok(successor) = releasing.begin(alloc, plan, names, context.dt, payload) else {
+                return Err(meter.stop(Fault::Memory));
+            };
+            let (successor, output) = step_begun(context, successor, inside, output, meter)?;
+            show(releasing.shown, value, output);
+            Ok(Some(successor))
+        }
+    }
+}
+
+// The next sample of members that are edited: those that run are stepped, and at an event the edit, which is handed them as they
+// were before, stands after them; its members begin on this sample.
+#[cycle(step)]
+#[inline(never)]
+fn step_editing<R: Holds>(
+    context: &SampleContext<R>,
+    editing: &mut Editing,
+    names: &Env,
+    inside: u64,
+    value: &mut Value,
+    meter: &mut Meter,
+) -> Result<(), Stop>
+    ensures { GatheringSteps (R.answers context.now.functions.now) (plan_in context.now) names.now (Gathering.Editing editing.old) (step (dt_in context.now) value.old)
+        (left_or result ((None, Gathering.Editing editing.new), value.new) (fault_in meter.new)) meter.old meter.new inside }
+{
+    let alloc = context.alloc;
+    let Ok((input, occurring)) = value_and_payload(alloc, value) else {
+        return Err(meter.stop(Fault::Memory));
+    };
+    *value = input;
+    match occurring {
+        None => step_members(context, &mut editing.members, inside, value, meter),
+        Some(payload) => {
+            let Ok(mut begun) = value.clone_in(alloc) else {
+                return Err(meter.stop(Fault::Memory));
+            };
+            let Ok(around) = editing.inside(alloc, context.plan, names, context.dt, payload) else {
+                return Err(meter.stop(Fault::Memory));
+            };
+            let ran = &mut editing.members;
+            step_members(context, ran, inside, value, meter)?;
+            match collect(context, &*editing.edit, &around) {
+                Err(fault) => Err(meter.stop(fault)),
+                Ok(mut fresh) => {
+                    step_members(context, &mut fresh, inside, &mut begun, meter)?;
+                    editing.members = fresh;
+                    show(editing.shown, value, begun);
+                    Ok(())
+                }
+            }
+        }
+    }
+}
+
+// The next sample of members, each on the same input, in order: the table of their values takes its place.
+#[cycle(step)]
+#[inline(never)]
+fn step_members<R: Holds>(
+    context: &SampleContext<R>,
+    live: &mut Live,
+    inside: u64,
+    value: &mut Value,
+    meter: &mut Meter,
+) -> Result<(), Stop>
+    ensures { MembersSteps (R.answers context.now.functions.now) (plan_in context.now) live.old (step (dt_in context.now) value.old)
+        (left_or result (live.new, value.new) (fault_in meter.new)) meter.old meter.new inside }
+{
+    match live {
+        Live::Gathered(keys, states) => step_all(context, keys, states, inside, value, meter),
+        // what is no collection stands for no members
+        _ => Err(meter.stop(Fault::Memory)),
+    }
+}
+
+// The same of the states under these keys.
+#[cycle(step)]
+#[inline(never)]
+fn step_all<R: Holds>(
+    context: &SampleContext<R>,
+    keys: &Rc<Vec<Key>>,
+    states: &mut Vec<State>,
+    inside: u64,
+    value: &mut Value,
+    meter: &mut Meter,
+) -> Result<(), Stop>
+    ensures { MembersSteps (R.answers context.now.functions.now) (plan_in context.now) (Live.Gathered keys.now states.old) (step (dt_in context.now) value.old)
+        (left_or result (Live.Gathered keys.now states.new, value.new) (fault_in meter.new)) meter.old meter.new inside }
+{
+    let Ok(mut outputs) = Vec::with_capacity(context.alloc, states.len()) else {
+        return Err(meter.stop(Fault::Memory));
+    };
+    for state in states.iter_mut() {
+        let Ok(mut output) = value.clone_in(context.alloc) else {
+            return Err(meter.stop(Fault::Memory));
+        };
+        step_state(context, state, inside, &mut output, meter)?;
+        let Ok(()) = outputs.push(output) else {
+            return Err(meter.stop(Fault::Memory));
+        };
+    }
+    match table_of(context.alloc, &***keys, outputs) {
+        Ok(rows) => {
+            *value = rows;
+            Ok(())
+        }
+        Err(_) => Err(meter.stop(Fault::Memory)),
+    }
+}
+
+// The next sample of `parB`, which has been counted.
+#[cycle(step)]
+#[inline(never)]
+fn step_gathered<R: Holds>(
+    context: &SampleContext<R>,
+    keys: &Rc<Vec<Key>>,
+    states: &mut Vec<State>,
+    inside: u64,
+    value: &mut Value,
+    meter: &mut Meter,
+) -> Result<(), Stop>
+    ensures { LiveSteps (R.answers context.now.functions.now) (plan_in context.now) (Live.Gathered keys.now states.old) (step (dt_in context.now) value.old)
+        (left_or result (Live.Gathered keys.now states.new, value.new) (fault_in meter.new)) meter.old meter.new inside }
+{
+    step_all(context, keys, states, inside, value, meter)
 }
 
 // The next sample of a switch that waits, which has been counted and whose parts stand inside `inside` nodes: what takes over
@@ -427,6 +642,7 @@ fn step_live<R: Holds>(
             Join::FannedOut => step_fan(context, left, right, inside, value, meter),
         },
         Live::Pipeline(stages) => step_pipeline(context, stages, inside, value, meter),
+        Live::Gathered(keys, states) => step_gathered(context, keys, states, inside, value, meter),
         Live::Wrap(wrap, part) => match wrap {
             Wrap::First => step_first(context, part, inside, value, meter),
             Wrap::Second => step_second(context, part, inside, value, meter),

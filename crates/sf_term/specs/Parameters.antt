@@ -1,13 +1,13 @@
 -- What names stand for, and the parameters of templates.
 use Rattle.std.specs.Prelude.{List, map}
-use Rattle.sf_value.specs.Values.{Name, Kind}
+use Rattle.sf_value.specs.Values.{Name, KeyKind, Kind}
 use Rattle.sf_refusal.specs.declared.spot.Spot.{Spot}
 
--- What a name stands for: a value of a type, or a process from a type to a type. Keyed collections of a type will be a
--- further constructor, when there are forms that bind them.
+-- What a name stands for: a value of a type, a process from a type to a type, or under keys of a type several such processes.
 pub data NameKind : Type 0 where
   value : Kind → NameKind
   process : (from to : Kind) → NameKind
+  collection : KeyKind → (from to : Kind) → NameKind
 
 -- Names, each with what it stands for.
 abbrev pub Bindings : Type 0

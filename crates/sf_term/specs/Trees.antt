@@ -1,6 +1,6 @@
 -- Networks as trees.
 use Rattle.std.specs.Prelude.{ℕ, suc, ◌+◌, max, ℤ, List, [], ◌∷◌, cond, Option, Some, None, bytes_eq}
-use Rattle.sf_value.specs.Values.{Name, Kind}
+use Rattle.sf_value.specs.Values.{Name, KeyKind, Kind}
 use Rattle.sf_expr.specs.Expressions.{Pattern, Expression, Function, pattern_depth, depth as expression_depth, size as expression_size, function_depth, function_size}
 use Rattle.sf_term.specs.declared.form.Bare.{Bare}
 use Rattle.sf_term.specs.declared.form.WithValue.{WithValue}
@@ -46,7 +46,8 @@ pub data Extent : Type 0 where
 mutual
   -- terms: primitives, a process in whose place a name stands, two terms joined, a term on one side of a pair, a term with an
   -- expression or a function at its head, a term that gives way to another inside a pattern, and one that does so at the event of a second
-  -- term and is then known by a name;
+  -- term and is then known by a name; the members of a collection, members that give way to a term and are then known by a
+  -- name, and members that are known by a name to what edits them;
   -- and, in plans alone, a stage before the rest of its pipeline
   pub data Term : Type 0 where
     primitive : Primitive → Term
@@ -57,19 +58,33 @@ mutual
     transformed : Function → Term → Term
     switching : Switching → Term → Pattern → Term → Term
     keeping : Observation → (source observer : Term) → Name → Pattern → Term → Term
+    gathered : Collection → Term
+    releasing : Observation → Collection → (observer : Term) → Name → Pattern → Term → Term
+    editing : Observation → Collection → Name → Pattern → (edit : Collection) → Term
     staged : Extent → Term → Term → Term
+
+  -- Collections: one without members, of processes with outputs of a type under keys of a type; that of a name; one with a term
+  -- added under a key; one without what stands under a key; one with those whose keys a function keeps; one of two.
+  pub data Collection : Type 0 where
+    without_members : KeyKind → Kind → Collection
+    used : Name → Collection
+    added : Collection → (key : Expression) → Term → Collection
+    dropped : Collection → (key : Expression) → Collection
+    kept : Collection → Function → Collection
+    chosen : Expression → Collection → Collection → Collection
 
   -- what stands in the place of a process: its name, with where it begins, or a call of a template with arguments
   pub data Reference : Type 0 where
     started : Start → Name → Reference
     call : Name → Arguments → Reference
 
-  -- the arguments of a call, first to last: values, or terms that are processes;
+  -- the arguments of a call, first to last: values, terms that are processes, or collections;
   -- and, in plans alone, a term that is closed in the environment of its call, whatever it is
   pub data Arguments : Type 0 where
     no_arguments : Arguments
     value_argument : Expression → Arguments → Arguments
     process_argument : Term → Arguments → Arguments
+    collection_argument : Collection → Arguments → Arguments
     closed_argument : Term → Arguments → Arguments
 
 -- a form that is a name alone
@@ -117,7 +132,19 @@ abbrev mutual
   term_depth (transformed f t) = suc (max (function_depth f) (term_depth t))
   term_depth (switching w t p u) = suc (max (max (term_depth t) (term_depth u)) (pattern_depth p))
   term_depth (keeping w t q k p u) = suc (max (max (max (term_depth t) (term_depth q)) (term_depth u)) (pattern_depth p))
+  term_depth (gathered i) = suc (collection_depth i)
+  term_depth (releasing w i q k p u) = suc (max (max (max (collection_depth i) (term_depth q)) (term_depth u)) (pattern_depth p))
+  term_depth (editing w i k p u) = suc (max (max (collection_depth i) (collection_depth u)) (pattern_depth p))
   term_depth (staged x f g) = 65
+
+  -- the same of a collection
+  pub collection_depth : Collection → ℕ
+  collection_depth (without_members k t) = 1
+  collection_depth (used x) = 1
+  collection_depth (added i j t) = suc (max (max (collection_depth i) (expression_depth j)) (term_depth t))
+  collection_depth (dropped i j) = suc (max (collection_depth i) (expression_depth j))
+  collection_depth (kept i f) = suc (max (collection_depth i) (function_depth f))
+  collection_depth (chosen j a b) = suc (max (max (expression_depth j) (collection_depth a)) (collection_depth b))
 
   -- the same within a reference
   pub reference_depth : Reference → ℕ
@@ -129,6 +156,7 @@ abbrev mutual
   arguments_depth no_arguments = 0
   arguments_depth (value_argument e vs) = max (expression_depth e) (arguments_depth vs)
   arguments_depth (process_argument t vs) = max (term_depth t) (arguments_depth vs)
+  arguments_depth (collection_argument i vs) = max (collection_depth i) (arguments_depth vs)
   arguments_depth (closed_argument t vs) = 64
 
 -- how many terms a primitive with a value is made of: in `-->(e, pre)`, `pre` is one too
@@ -166,7 +194,19 @@ abbrev mutual
   terms_in (transformed f t) = suc (terms_in t)
   terms_in (switching w t p u) = suc (terms_in t + terms_in u)
   terms_in (keeping w t q k p u) = suc (terms_in t + terms_in q + terms_in u)
+  terms_in (gathered i) = suc (terms_collected i)
+  terms_in (releasing w i q k p u) = suc (terms_collected i + terms_in q + terms_in u)
+  terms_in (editing w i k p u) = suc (terms_collected i + terms_collected u)
   terms_in (staged x f g) = suc (terms_in f + terms_in g)
+
+  -- how many terms stand in a collection
+  pub terms_collected : Collection → ℕ
+  terms_collected (without_members k t) = 0
+  terms_collected (used x) = 0
+  terms_collected (added i j t) = terms_collected i + terms_in t
+  terms_collected (dropped i j) = terms_collected i
+  terms_collected (kept i f) = terms_collected i
+  terms_collected (chosen j a b) = terms_collected a + terms_collected b
 
   -- how many terms stand within a reference
   pub terms_referred : Reference → ℕ
@@ -178,6 +218,7 @@ abbrev mutual
   terms_in_arguments no_arguments = 0
   terms_in_arguments (value_argument e vs) = terms_in_arguments vs
   terms_in_arguments (process_argument t vs) = terms_in t + terms_in_arguments vs
+  terms_in_arguments (collection_argument i vs) = terms_collected i + terms_in_arguments vs
   terms_in_arguments (closed_argument t vs) = terms_in t + terms_in_arguments vs
 
 -- how many expressions stand in a primitive
@@ -203,7 +244,19 @@ abbrev mutual
   expressions_in (transformed f t) = function_size f + expressions_in t
   expressions_in (switching w t p u) = expressions_in t + expressions_in u
   expressions_in (keeping w t q k p u) = expressions_in t + expressions_in q + expressions_in u
+  expressions_in (gathered i) = expressions_collected i
+  expressions_in (releasing w i q k p u) = expressions_collected i + expressions_in q + expressions_in u
+  expressions_in (editing w i k p u) = expressions_collected i + expressions_collected u
   expressions_in (staged x f g) = expressions_in f + expressions_in g
+
+  -- how many expressions stand in a collection
+  pub expressions_collected : Collection → ℕ
+  expressions_collected (without_members k t) = 0
+  expressions_collected (used x) = 0
+  expressions_collected (added i j t) = expressions_collected i + expression_size j + expressions_in t
+  expressions_collected (dropped i j) = expressions_collected i + expression_size j
+  expressions_collected (kept i f) = expressions_collected i + function_size f
+  expressions_collected (chosen j a b) = expression_size j + expressions_collected a + expressions_collected b
 
   -- how many expressions stand within a reference
   pub expressions_referred : Reference → ℕ
@@ -215,4 +268,5 @@ abbrev mutual
   expressions_in_arguments no_arguments = 0
   expressions_in_arguments (value_argument e vs) = expression_size e + expressions_in_arguments vs
   expressions_in_arguments (process_argument t vs) = expressions_in t + expressions_in_arguments vs
+  expressions_in_arguments (collection_argument i vs) = expressions_collected i + expressions_in_arguments vs
   expressions_in_arguments (closed_argument t vs) = expressions_in t + expressions_in_arguments vs

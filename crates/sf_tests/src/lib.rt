@@ -9,6 +9,10 @@ mod accepting;
 #[cfg(test)]
 mod calling;
 #[cfg(test)]
+mod collecting;
+#[cfg(test)]
+mod differing;
+#[cfg(test)]
 mod evaluating;
 #[cfg(test)]
 mod library;

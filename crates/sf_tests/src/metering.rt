@@ -1,7 +1,7 @@
 //! What a meter shows of a sample without a value: all that the sample entered. A contract says only that it shows no more.
 use crate::networks::checked;
 use sf_func::Registry;
-use sf_law::plain;
+use sf_optimise::plain;
 use sf_state::State;
 use sf_step::{Meter, step};
 use sf_value::{Fault, Value, ValueFault};

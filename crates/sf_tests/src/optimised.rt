@@ -3,8 +3,8 @@
 use crate::networks::checked;
 use sf_check::Checked;
 use sf_func::Registry;
-use sf_law::{Plan, plain};
-use sf_optimise::optimise;
+use sf_law::Plan;
+use sf_optimise::{optimise, plain};
 use sf_state::State;
 use sf_step::{Meter, step};
 use sf_value::Value;

@@ -1,7 +1,8 @@
 //! What states and values share, which no clause speaks of. The test holds whichever allocation fails.
 use crate::networks::checked;
 use sf_func::Registry;
-use sf_law::{Plan, plain};
+use sf_law::Plan;
+use sf_optimise::plain;
 use sf_state::State;
 use sf_step::{Meter, step};
 use sf_value::{Fault, Form, Key, Value, same};
@@ -31,6 +32,7 @@ fn owners(state: &State) -> usize {
         State::Live(_, node) => Rc::strong_count(node),
         State::Switch(_, node) => Rc::strong_count(node),
         State::Keeping(_, node) => Rc::strong_count(node),
+        State::Gathering(_, node) => Rc::strong_count(node),
         State::Frozen(node) => Rc::strong_count(node),
     }
 }

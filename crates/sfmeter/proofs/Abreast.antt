@@ -5,7 +5,7 @@ use Rattle.sf_check.specs.declared.checked.Checked.{Checked}
 use Rattle.sf_check.specs.Accepting.{checked_main}
 use Rattle.sf_law.specs.declared.plan.Plan.{Plan}
 use Rattle.sf_law.specs.Arena.{network_of_plan}
-use Rattle.sf_law.specs.Plans.{IsPlainPlan}
+use Rattle.sf_optimise.specs.Plans.{IsPlainPlan}
 use Rattle.sf_mean.specs.Lives.{Life, closure, empty}
 use Rattle.sf_mean.specs.Meaning.{count}
 use Rattle.sf_mean.proofs.Once.{once}

@@ -14,6 +14,6 @@ pub record HaveComeTo (φ : AnswersByName) (p q : Plan) (m : Moment) (L : Life) 
   pub rewritten : Stands φ q m.rewritten (main_of_plan q) L
 
 -- The rewritten plan means what the plain one means, and costs no more; and both have come to this life.
-pub record AreAbreast {X : Type 0} {H : X → Type 0} (φ : AnswersByName) (m : Meters X H) (L : Life) : Type 0 where
+pub record AreAbreast {A B C : Type 0} {F : A → Type 0} {G : B → Type 0} {H : C → Type 0} (φ : AnswersByName) (m : Meters A B C F G H) (L : Life) : Type 0 where
   pub same : MeansTheSame (network_of_plan φ m.plain) (main_of_plan m.plain) (network_of_plan φ m.rewritten) (main_of_plan m.rewritten)
   pub lived : HaveComeTo φ m.plain m.rewritten m.now L

@@ -1,9 +1,8 @@
 use Rattle.std.proofs.Common.{◌≡◌, ◌+◌, length, slice_index_or, sym, ◌∙◌, ap, subst, arith}
 use Rattle.std.specs.HashMap.{get_by_text}
 use Rattle.std.proofs.lemmas.List.{get_or_default}
-use Rattle.sf_func.proofs.Lookups.{is_absent}
 use Rattle.sf_law.specs.Headers.{PlanHeader, no_header}
-use Rattle.sf_law.proofs.Numbers.{FirstBelow, present_still, absent_added, first_of_all}
+use Rattle.sf_law.proofs.Numbers.{is_absent, FirstBelow, present_still, absent_added, first_of_all}
 use Rattle.sf_law.proofs.template.first_templates.Goals.{then-not-contains_key+in_ok-from_str+in_ok-insert, else-not-contains_key}
 use Rattle.sf_law.proofs.template.first_templates.Goals as goal
 

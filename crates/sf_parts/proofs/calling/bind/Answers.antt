@@ -2,9 +2,9 @@ use Rattle.std.proofs.Common.{sym, subst, ap, ◌∙◌}
 use Rattle.sf_expr.specs.Arena.{name_at, placed_at}
 use Rattle.sf_expr.specs.Patterns.{pattern_of}
 use Rattle.sf_law.specs.Arena.{plan_expressions}
-use Rattle.sf_mean.specs.Lives.{bind, known}
+use Rattle.sf_mean.specs.Lives.{bind, known, collected}
 use Rattle.sf_state.specs.Standing.{IsNames, IsHanded}
-use Rattle.sf_parts.proofs.Arguments.{value_inside, process_inside}
+use Rattle.sf_parts.proofs.Arguments.{value_inside, process_inside, members_inside}
 use Rattle.sf_parts.proofs.References.{when_ok}
 use Rattle.sf_parts.proofs.calling.bind.Goals as goal
 
@@ -22,3 +22,9 @@ returns-in-Process g c = when_ok c.with_process.result (λ inner h φ d e M G.
     let p = c.args.context.now.plan.now in
     process_inside φ p (name_at (plan_expressions p) c.args.parameter.now.name) c.args.bound.now inner c.in-Process.handed
     (λ d P M H. rw c.name.ensures at (h φ p d P M (subst (λ k. IsHanded φ p (name_at (plan_expressions p) k) c.in-Process.handed P) (sym c.name.ensures) H))) d e M (rw c.in-Process.is at G)) c.with_process.ensures
+
+pub returns-in-Members : goal.returns-in-Members
+returns-in-Members g c = when_ok c.with_members.result (λ inner h φ d e M G.
+    let p = c.args.context.now.plan.now in
+    members_inside φ p (name_at (plan_expressions p) c.args.parameter.now.name) c.args.bound.now inner c.in-Members.members
+    (λ d ms M H. subst (λ k. IsNames φ p inner (collected (name_at (plan_expressions p) k) ms d)) c.name-in-Members.ensures (h φ p d ms M H)) d e M (rw c.in-Members.is at G)) c.with_members.ensures

@@ -1,7 +1,7 @@
 use Rattle.std.proofs.Common.{refl}
 use Rattle.sf_value.specs.declared.fault.Fault.TheVariants.{Memory}
 use Rattle.sf_parts.specs.Beginning.{makes_nothing}
-use Rattle.sf_parts.proofs.Arguments.{made_failure, value_given, value_fails, started_given, closed_given}
+use Rattle.sf_parts.proofs.Arguments.{made_failure, value_given, value_fails, started_given, closed_given, collected_given, collected_fails}
 use Rattle.sf_parts.proofs.calling.given_by.Goals as goal
 
 pub returns-in-Ok : goal.returns-in-Ok
@@ -40,3 +40,21 @@ returns-in_ok-handed-in-Closed g c =
     let φ = g.R.Holds.answers c.args.context.now.functions.now in
     let p = c.args.context.now.plan.now in
     rw c.in-Closed.is (closed_given φ p q c.args.names.now c.in-Closed.term c.in_ok-handed-in-Closed.handed (c.in_ok-handed-in-Closed.ensures φ))
+
+pub returns-in_ok-all-in-Collected : goal.returns-in_ok-all-in-Collected
+returns-in_ok-all-in-Collected g c =
+    let q = c.args.parameter.now in
+    let φ = g.R.Holds.answers c.args.context.now.functions.now in
+    let p = c.args.context.now.plan.now in
+    rw c.in-Collected.is (collected_given φ p q c.args.names.now c.in-Collected.members c.in_ok-all-in-Collected.all
+    (λ e N. (rw c.deref.ensures at c.in_ok-all-in-Collected.ensures) e N (rw c.in-Collected.is at c.requires.coded)))
+
+pub returns-in_err-all-in-Collected : goal.returns-in_err-all-in-Collected
+returns-in_err-all-in-Collected g c = λ e d N.
+    let q = c.args.parameter.now in
+    let φ = g.R.Holds.answers c.args.context.now.functions.now in
+    let p = c.args.context.now.plan.now in
+    let x = c.in_err-all-in-Collected.field-0.0 in
+    made_failure _ _ _ x c.from_residual-in_err-all-in-Collected.ensures.1
+    (rw c.in-Collected.is (collected_fails φ p q c.args.names.now c.in-Collected.members x
+    (λ e N. (rw c.deref.ensures at c.in_err-all-in-Collected.ensures) e N (rw c.in-Collected.is at c.requires.coded)) e d N))

@@ -1,5 +1,5 @@
 use Rattle.std.proofs.Common.{sym}
-use Rattle.sf_parts.proofs.Begins.{parts_joined, open_sided, open_builds_headed, open_builds_transformed, open_builds_switch, open_builds_keeping, coded_arguments}
+use Rattle.sf_parts.proofs.Begins.{parts_joined, open_sided, open_builds_headed, open_builds_transformed, open_builds_switch, open_builds_keeping, open_builds_gathered, coded_arguments}
 use Rattle.sf_parts.proofs.opening.open.Goals as goal
 
 pub returns-in-Primitive : goal.returns-in-Primitive
@@ -38,6 +38,18 @@ returns-in-Keeping g c =
     let φ = g.R.Holds.answers c.args.context.now.functions.now in
     let p = c.args.context.now.plan.now in
     open_builds_keeping φ p c.in-Keeping.shown c.in-Keeping.source c.in-Keeping.observer c.in-Keeping.body c.in-Keeping.name c.in-Keeping.pattern _ c.args.names.now _ (rw c.in-Keeping.is at c.node.ensures.builds) (c.keeping.ensures φ c.args.input.now)
+
+pub returns-in-Gathered : goal.returns-in-Gathered
+returns-in-Gathered g c =
+    let φ = g.R.Holds.answers c.args.context.now.functions.now in
+    let p = c.args.context.now.plan.now in
+    open_builds_gathered φ p c.in-Gathered.members _ c.args.names.now _ (rw c.in-Gathered.is at c.node.ensures.builds) (rw c.deref-in-Gathered.ensures at c.gathered.ensures) c.args.input.now
+
+pub returns-in-Releasing : goal.returns-in-Releasing
+returns-in-Releasing g c = c.members_under.ensures _ (rw c.in-Releasing.is at c.node.ensures.builds) c.args.input.now
+
+pub returns-in-Editing : goal.returns-in-Editing
+returns-in-Editing g c = c.members_edited.ensures _ (rw c.in-Editing.is at c.node.ensures.builds) c.args.input.now
 
 pub returns-in-Started : goal.returns-in-Started
 returns-in-Started g c = c.referred.ensures _ (rw c.in-Started.is at c.node.ensures.builds) c.args.input.now

@@ -1,4 +1,4 @@
-use Rattle.sf_parts.proofs.Begins.{begin_primitive, begin_live, begin_switch, begin_keeping, begin_referred}
+use Rattle.sf_parts.proofs.Begins.{begin_primitive, begin_live, begin_switch, begin_keeping, begin_gathering, begin_referred}
 use Rattle.sf_parts.proofs.opening.prepared.Goals as goal
 
 pub returns-in-Primitive-clause-begins : goal.returns-in-Primitive-clause-begins
@@ -12,6 +12,9 @@ returns-in-Switch-clause-begins c = λ φ p u x O. begin_switch φ p c.in-Switch
 
 pub returns-in-Keeping-clause-begins : goal.returns-in-Keeping-clause-begins
 returns-in-Keeping-clause-begins c = λ φ p u x O. begin_keeping φ p c.in-Keeping.kept c.args.names (rw c.in-Keeping.is at O)
+
+pub returns-in-Gathering-clause-begins : goal.returns-in-Gathering-clause-begins
+returns-in-Gathering-clause-begins c = λ φ p u x O. begin_gathering φ p c.in-Gathering.members c.args.names (rw c.in-Gathering.is at O)
 
 pub returns-in-Running-clause-begins : goal.returns-in-Running-clause-begins
 returns-in-Running-clause-begins c = λ φ p u x O. begin_referred φ p c.in-Running.process c.args.names (rw c.in-Running.is at O)

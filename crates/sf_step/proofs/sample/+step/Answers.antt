@@ -1,4 +1,4 @@
-use Rattle.std.proofs.Common.{◌≡◌, length, Ok, Err, refl, sym, ap, ◌∙◌, subst, arith}
+use Rattle.std.proofs.Common.{◌≡◌, [], ◌+◌, set, ◌∷◌, ◌++◌, take, drop, length, Ok, Err, refl, sym, ap, ◌∙◌, subst, arith}
 use Rattle.std.specs.Vec.{with_items}
 use Rattle.std.proofs.lemmas.List.{with_items_is}
 use Rattle.sf_state.specs.declared.state.Wrap.TheVariants.{First, Second, Loop, Initialized, Replaced, Followed}
@@ -17,11 +17,14 @@ use Rattle.sf_parts.proofs.Costs.{memory_exit, early_memory}
 use Rattle.sf_step.specs.Sampling.{StateSteps}
 use Rattle.sf_step.proofs.Parts.{pass_exit, failed}
 use Rattle.sf_step.proofs.Stages.{StagesStep, continues_first, continues_next, continues_fails, continues_last, pipeline_steps, pipeline_fails}
-use Rattle.sf_step.proofs.Exits.{ticked_by, tick_fails, first_memory, join_left_fails, join_right_fails, join_steps, join_last, wrap_fails, wrap_steps, wrap_faults, wrap_last, late_memory, primitive_counted, live_counted, own_steps, primitive_is, live_is, switch_is, keeping_is, counted_steps, begun_steps, begun_runs, begun_fails}
+use Rattle.sf_step.proofs.Exits.{ticked_by, tick_fails, first_memory, join_left_fails, join_right_fails, join_steps, join_last, wrap_fails, wrap_steps, wrap_faults, wrap_last, late_memory, primitive_counted, live_counted, own_steps, primitive_is, live_is, switch_is, keeping_is, gathering_is, counted_steps, begun_steps, begun_runs, begun_fails}
 use Rattle.sf_step.proofs.Recurring.{run_fails, run_memory, new_fails, new_runs, runs_alone}
 use Rattle.sf_step.proofs.Switches.{source_fails, switch_memory, switch_waits_on, body_fails, body_takes_over}
 use Rattle.sf_step.proofs.Keeping.{runs_alike, kept_fails, kept_memory, observer_fails, observer_memory, keeps_on, kept_body_fails, kept_body_takes_over, some_occurs, none_occurs}
-use Rattle.sf_step.proofs.Turning.{frozen_steps, pass_beside, watching_turns, watching_fails, keeping_turns, keeping_fails}
+use Rattle.sf_step.proofs.Turning.{frozen_steps, pass_beside, watching_turns, watching_fails, keeping_turns, keeping_fails, gathering_turns, gathering_fails}
+use Rattle.sf_step.proofs.Members.{EachSteps, memory_now, each_first, each_next, each_fails, each_memory, each_last, members_step, members_fail, members_end, gathered_so, Continues as EachContinues}
+use Rattle.sf_step.proofs.Releasing.{run_alike, members_stop, members_memory, sight_fails, sight_memory, members_go_on, released_body_fails, released_body_takes_over}
+use Rattle.sf_step.proofs.Editing.{stopped, members_alone, old_fail, old_memory, edit_stops_it, new_stops, new_run}
 use Rattle.sf_step.proofs.sample.+step.Goals as goal
 
 -- ## step_state
@@ -488,3 +491,250 @@ step_keeping-returns-in_ok-successor-in-Some g t c =
     c.step_state-2.new.state c.step_state-2.new.value c.in_ok-step_state-2.ensures c.in-Some.payload.value (some_occurs _ c.payload_of.result c.in-Some.payload c.step_state-2.new.value c.payload_of.ensures c.in-Some.is)
     c.in-Ok-begin.successor (rw c.in-Ok.ensures.held at (c.in-Ok-begin.ensures (g.R.Holds.answers c.args.context.now.functions.now))) c.in-Ok-copies.output c.in-Ok-copies.ensures.1 c.step_begun.new.meter
     c.in_ok-successor-in-Some.successor c.in_ok-successor-in-Some.output _ c.show.ensures _ c.in_ok-successor-in-Some.ensures
+
+-- ## Members that wait
+
+pub step_other-returns-in_err-inside-in-Gathering : goal.step_other-returns-in_err-inside-in-Gathering
+step_other-returns-in_err-inside-in-Gathering g t c = λ P L A. pass_exit _ _ c.from_residual-in_err-inside-in-Gathering.ensures.0 (tick_fails (g.R.Holds.answers c.args.context.now.functions.now) c.args.context.now.plan.now P _ c.in_err-inside-in-Gathering.ensures.ticked)
+
+pub step_other-returns-in_ok-inside-in-Gathering : goal.step_other-returns-in_ok-inside-in-Gathering
+step_other-returns-in_ok-inside-in-Gathering g t c =
+    counted_steps (g.R.Holds.answers c.args.context.now.functions.now) c.args.context.now.plan.now c.args.state.now _ _ (ticked_by c.in_ok-inside-in-Gathering.ensures.ticked) (rw c.in-Gathering.is (gathering_is (g.R.Holds.answers c.args.context.now.functions.now) c.args.context.now.plan.now c.in-Gathering.field-0 c.in-Gathering.field-1.value)) c.step_counted-in-Gathering.ensures
+
+pub step_counted-returns-in_err-released-in-Gathering : goal.step_counted-returns-in_err-released-in-Gathering
+step_counted-returns-in_err-released-in-Gathering g t c = λ m depth t P L A.
+    pass_exit _ _ c.from_residual-in_err-released-in-Gathering.ensures.0 (failed (gathering_fails (g.R.Holds.answers c.args.context.now.functions.now) c.args.context.now.plan.now _ c.in-Gathering.names c.in-Gathering.node.value c.in-Gathering.node.value (λ P L S. S)
+    (step c.args.context.now.dt c.args.value.now) c.args.meter.now c.step_gathering.new.meter c.args.inside _ c.in_err-released-in-Gathering.ensures m depth t P L (rw c.in-Gathering.is at A)))
+
+pub step_counted-returns-in_ok-released-in-Gathering : goal.step_counted-returns-in_ok-released-in-Gathering
+step_counted-returns-in_ok-released-in-Gathering g t c = λ m depth t P L A.
+    gathering_turns (g.R.Holds.answers c.args.context.now.functions.now) c.args.context.now.plan.now _ c.in-Gathering.names c.in-Gathering.node.value c.in-Gathering.node.value (λ P L S. S) (step c.args.context.now.dt c.args.value.now) c.args.meter.now c.step_gathering.new.meter c.args.inside
+    _ c.in_ok-released-in-Gathering.released c.step_gathering.new.node.value c.step_gathering.new.value _ c.take_over-in-Gathering.ensures c.in_ok-released-in-Gathering.ensures m depth t P L (rw c.in-Gathering.is at A)
+
+pub step_gathering-returns-in_default : goal.step_gathering-returns-in_default
+step_gathering-returns-in_default g t c = λ m depth t T e L N W. early_memory (g.R.Holds.answers c.args.context.now.functions.now) c.args.context.now.plan.now t c.stop.ensures.entered c.stop.ensures.height c.stop.ensures.fault
+
+pub step_gathering-returns-in-Some : goal.step_gathering-returns-in-Some
+step_gathering-returns-in-Some g t c = λ m depth t T e L N W. c.step_members_waiting.ensures m depth t T e L N (rw c.in-Some.ensures.value (c.unshare_gathering.ensures (g.R.Holds.answers c.args.context.now.functions.now) c.args.context.now.plan.now _ _ W))
+
+pub step_gathering-returns-in-None : goal.step_gathering-returns-in-None
+step_gathering-returns-in-None g t c = λ m depth t T e L N W. early_memory (g.R.Holds.answers c.args.context.now.functions.now) c.args.context.now.plan.now t c.stop-in-None.ensures.entered c.stop-in-None.ensures.height c.stop-in-None.ensures.fault
+
+-- ## step_members_waiting
+
+pub step_members_waiting-returns-in_err-step_editing-in-Editing : goal.step_members_waiting-returns-in_err-step_editing-in-Editing
+step_members_waiting-returns-in_err-step_editing-in-Editing g t c = λ m depth t T e L N W.
+    pass_beside (g.R.Holds.answers c.args.context.now.functions.now) c.args.context.now.plan.now _ _ _ c.from_residual.ensures.0 (failed (c.in_err-step_editing-in-Editing.ensures m depth t T e L N (rw c.in-Editing.is at W)))
+
+-- ## step_releasing
+
+pub step_releasing-returns-in_default : goal.step_releasing-returns-in_default
+step_releasing-returns-in_default g t c = λ m depth t T e L N W. early_memory (g.R.Holds.answers c.args.context.now.functions.now) c.args.context.now.plan.now t c.stop.ensures.entered c.stop.ensures.height c.stop.ensures.fault
+
+pub step_releasing-returns-in_default-copies : goal.step_releasing-returns-in_default-copies
+step_releasing-returns-in_default-copies g t c = λ m depth t T e L N W. early_memory (g.R.Holds.answers c.args.context.now.functions.now) c.args.context.now.plan.now t c.stop-in_default-copies.ensures.entered c.stop-in_default-copies.ensures.height c.stop-in_default-copies.ensures.fault
+
+pub step_releasing-returns-in_err-step_members : goal.step_releasing-returns-in_err-step_members
+step_releasing-returns-in_err-step_members g t c = λ m depth t T e L N W.
+    pass_beside (g.R.Holds.answers c.args.context.now.functions.now) c.args.context.now.plan.now _ _ _ c.from_residual.ensures.0 (members_stop (g.R.Holds.answers c.args.context.now.functions.now) c.args.context.now.plan.now c.args.names.now c.args.releasing.now c.args.context.now.dt c.args.value.now c.args.meter.now c.step_members.new.meter c.args.inside
+    _ (run_alike (g.R.Holds.answers c.args.context.now.functions.now) c.args.context.now.plan.now (c.in-Ok.ensures.runs_on (g.R.Holds.answers c.args.context.now.functions.now) c.args.context.now.plan.now) c.in_err-step_members.ensures) m depth t T e L N W)
+
+pub step_releasing-returns-in_default-beside : goal.step_releasing-returns-in_default-beside
+step_releasing-returns-in_default-beside g t c = λ m depth t T e L N W.
+    memory_exit c.stop-in_default-beside.ensures.fault (members_memory (g.R.Holds.answers c.args.context.now.functions.now) c.args.context.now.plan.now c.args.names.now c.args.releasing.now c.args.context.now.dt c.args.value.now c.args.meter.now c.step_members.new.meter c.args.inside
+    c.step_members.new.live c.step_members.new.value (run_alike (g.R.Holds.answers c.args.context.now.functions.now) c.args.context.now.plan.now (c.in-Ok.ensures.runs_on (g.R.Holds.answers c.args.context.now.functions.now) c.args.context.now.plan.now) c.in_ok-step_members.ensures) _ c.stop-in_default-beside.ensures.entered c.stop-in_default-beside.ensures.height m depth t T e L N W)
+
+pub step_releasing-returns-in_err-step_state : goal.step_releasing-returns-in_err-step_state
+step_releasing-returns-in_err-step_state g t c = λ m depth t T e L N W.
+    pass_beside (g.R.Holds.answers c.args.context.now.functions.now) c.args.context.now.plan.now _ _ _ c.from_residual-in_err-step_state.ensures.0 (sight_fails (g.R.Holds.answers c.args.context.now.functions.now) c.args.context.now.plan.now c.args.names.now c.args.releasing.now c.args.context.now.dt c.args.value.now c.args.meter.now c.step_members.new.meter c.args.inside
+    c.step_members.new.live c.step_members.new.value (run_alike (g.R.Holds.answers c.args.context.now.functions.now) c.args.context.now.plan.now (c.in-Ok.ensures.runs_on (g.R.Holds.answers c.args.context.now.functions.now) c.args.context.now.plan.now) c.in_ok-step_members.ensures) c.in-Ok-beside.seen (rw c.in-Ok-copies.ensures.0 at c.in-Ok-beside.ensures) c.step_state.new.meter
+    _ c.in_err-step_state.ensures m depth t T e L N W)
+
+pub step_releasing-returns-in-None : goal.step_releasing-returns-in-None
+step_releasing-returns-in-None g t c =
+    members_go_on (g.R.Holds.answers c.args.context.now.functions.now) c.args.context.now.plan.now c.args.names.now c.args.releasing.now c.args.context.now.dt c.args.value.now c.args.meter.now c.step_members.new.meter c.args.inside
+    c.step_members.new.live c.step_members.new.value (run_alike (g.R.Holds.answers c.args.context.now.functions.now) c.args.context.now.plan.now (c.in-Ok.ensures.runs_on (g.R.Holds.answers c.args.context.now.functions.now) c.args.context.now.plan.now) c.in_ok-step_members.ensures) c.in-Ok-beside.seen (rw c.in-Ok-copies.ensures.0 at c.in-Ok-beside.ensures) c.step_state.new.meter
+    c.step_state.new.state c.step_state.new.value c.in_ok-step_state.ensures (none_occurs _ c.payload_of.result c.step_state.new.value c.payload_of.ensures c.in-None.is) _ _ refl
+
+pub step_releasing-returns-in_default-begin : goal.step_releasing-returns-in_default-begin
+step_releasing-returns-in_default-begin g t c = λ m depth t T e L N W.
+    memory_exit c.stop-in_default-begin.ensures.fault (sight_memory (g.R.Holds.answers c.args.context.now.functions.now) c.args.context.now.plan.now c.args.names.now c.args.releasing.now c.args.context.now.dt c.args.value.now c.args.meter.now c.step_members.new.meter c.args.inside
+    c.step_members.new.live c.step_members.new.value (run_alike (g.R.Holds.answers c.args.context.now.functions.now) c.args.context.now.plan.now (c.in-Ok.ensures.runs_on (g.R.Holds.answers c.args.context.now.functions.now) c.args.context.now.plan.now) c.in_ok-step_members.ensures) c.in-Ok-beside.seen (rw c.in-Ok-copies.ensures.0 at c.in-Ok-beside.ensures) c.step_state.new.meter
+    c.step_state.new.state c.step_state.new.value c.in_ok-step_state.ensures _ c.stop-in_default-begin.ensures.entered c.stop-in_default-begin.ensures.height m depth t T e L N W)
+
+pub step_releasing-returns-in_err-successor-in-Some : goal.step_releasing-returns-in_err-successor-in-Some
+step_releasing-returns-in_err-successor-in-Some g t c = λ m depth t T e L N W.
+    pass_beside (g.R.Holds.answers c.args.context.now.functions.now) c.args.context.now.plan.now _ _ _ c.from_residual-in_err-successor-in-Some.ensures.0 (released_body_fails (g.R.Holds.answers c.args.context.now.functions.now) c.args.context.now.plan.now c.args.names.now c.args.releasing.now c.args.context.now.dt c.args.value.now c.args.meter.now c.step_members.new.meter c.args.inside
+    c.step_members.new.live c.step_members.new.value (run_alike (g.R.Holds.answers c.args.context.now.functions.now) c.args.context.now.plan.now (c.in-Ok.ensures.runs_on (g.R.Holds.answers c.args.context.now.functions.now) c.args.context.now.plan.now) c.in_ok-step_members.ensures) c.in-Ok-beside.seen (rw c.in-Ok-copies.ensures.0 at c.in-Ok-beside.ensures) c.step_state.new.meter
+    c.step_state.new.state c.step_state.new.value c.in_ok-step_state.ensures c.in-Some.payload.value (some_occurs _ c.payload_of.result c.in-Some.payload c.step_state.new.value c.payload_of.ensures c.in-Some.is)
+    c.in-Ok-begin.successor (rw c.in-Ok.ensures.held at (c.in-Ok-begin.ensures (g.R.Holds.answers c.args.context.now.functions.now)))
+    c.in-Ok-copies.output c.in-Ok-copies.ensures.1 c.step_begun.new.meter _ c.in_err-successor-in-Some.ensures m depth t T e L N W)
+
+pub step_releasing-returns-in_ok-successor-in-Some : goal.step_releasing-returns-in_ok-successor-in-Some
+step_releasing-returns-in_ok-successor-in-Some g t c =
+    released_body_takes_over (g.R.Holds.answers c.args.context.now.functions.now) c.args.context.now.plan.now c.args.names.now c.args.releasing.now c.args.context.now.dt c.args.value.now c.args.meter.now c.step_members.new.meter c.args.inside
+    c.step_members.new.live c.step_members.new.value (run_alike (g.R.Holds.answers c.args.context.now.functions.now) c.args.context.now.plan.now (c.in-Ok.ensures.runs_on (g.R.Holds.answers c.args.context.now.functions.now) c.args.context.now.plan.now) c.in_ok-step_members.ensures) c.in-Ok-beside.seen (rw c.in-Ok-copies.ensures.0 at c.in-Ok-beside.ensures) c.step_state.new.meter
+    c.step_state.new.state c.step_state.new.value c.in_ok-step_state.ensures c.in-Some.payload.value (some_occurs _ c.payload_of.result c.in-Some.payload c.step_state.new.value c.payload_of.ensures c.in-Some.is)
+    c.in-Ok-begin.successor (rw c.in-Ok.ensures.held at (c.in-Ok-begin.ensures (g.R.Holds.answers c.args.context.now.functions.now)))
+    c.in-Ok-copies.output c.in-Ok-copies.ensures.1 c.step_begun.new.meter
+    c.in_ok-successor-in-Some.successor c.in_ok-successor-in-Some.output _ c.show.ensures _ c.in_ok-successor-in-Some.ensures
+
+-- ## step_editing
+
+pub step_editing-returns-in_default : goal.step_editing-returns-in_default
+step_editing-returns-in_default g t c = λ m depth t T e L N W. early_memory (g.R.Holds.answers c.args.context.now.functions.now) c.args.context.now.plan.now t c.stop.ensures.entered c.stop.ensures.height c.stop.ensures.fault
+
+pub step_editing-returns-in_default-clone_in : goal.step_editing-returns-in_default-clone_in
+step_editing-returns-in_default-clone_in g t c = λ m depth t T e L N W. early_memory (g.R.Holds.answers c.args.context.now.functions.now) c.args.context.now.plan.now t c.stop-in_default-clone_in.ensures.entered c.stop-in_default-clone_in.ensures.height c.stop-in_default-clone_in.ensures.fault
+
+pub step_editing-returns-in_default-inside : goal.step_editing-returns-in_default-inside
+step_editing-returns-in_default-inside g t c = λ m depth t T e L N W. early_memory (g.R.Holds.answers c.args.context.now.functions.now) c.args.context.now.plan.now t c.stop-in_default-inside.ensures.entered c.stop-in_default-inside.ensures.height c.stop-in_default-inside.ensures.fault
+
+pub step_editing-returns-in-None : goal.step_editing-returns-in-None
+step_editing-returns-in-None g t c =
+    members_alone (g.R.Holds.answers c.args.context.now.functions.now) c.args.context.now.plan.now c.args.names.now c.args.editing.now c.args.context.now.dt c.args.value.now c.in-Ok.input c.in-Ok.ensures.0 c.args.meter.now c.step_members.new.meter c.args.inside
+    c.step_members.result c.step_members.new.live c.step_members.new.value (fault_of c.step_members.new.meter) (none_occurs _ c.in-Ok.occurring (second_of c.args.value.now) c.in-Ok.ensures.1 c.in-None.is)
+    _ refl c.step_members.ensures
+
+pub step_editing-returns-in_err-step_members-in-Some : goal.step_editing-returns-in_err-step_members-in-Some
+step_editing-returns-in_err-step_members-in-Some g t c = λ m depth t T e L N W.
+    pass_exit _ _ c.from_residual.ensures.0 (old_fail (g.R.Holds.answers c.args.context.now.functions.now) c.args.context.now.plan.now c.args.names.now c.args.editing.now c.args.context.now.dt c.args.value.now c.in-Ok.input c.in-Ok.ensures.0 c.args.meter.now c.step_members-in-Some.new.meter c.args.inside
+    _ c.in_err-step_members-in-Some.ensures m depth t T e L N W)
+
+pub step_editing-returns-in-Err : goal.step_editing-returns-in-Err
+step_editing-returns-in-Err g t c = λ m depth t T e L N W.
+    stopped c.stop-in-Err.ensures.fault (edit_stops_it (g.R.Holds.answers c.args.context.now.functions.now) c.args.context.now.plan.now c.args.names.now c.args.editing.now c.args.context.now.dt c.args.value.now c.in-Ok.input c.in-Ok.ensures.0 c.args.meter.now c.step_members-in-Some.new.meter c.args.inside
+    c.step_members-in-Some.new.live c.step_members-in-Some.new.value c.in_ok-step_members-in-Some.ensures c.in-Some.payload.value (some_occurs _ c.in-Ok.occurring c.in-Some.payload (second_of c.args.value.now) c.in-Ok.ensures.1 c.in-Some.is) c.in-Err.fault (λ e qs K N G. rw c.deref.ensures at (c.in-Err.ensures _ (c.in-Ok-inside.ensures (g.R.Holds.answers c.args.context.now.functions.now) e qs K N G))) _ c.stop-in-Err.ensures.entered c.stop-in-Err.ensures.height m depth t T e L N W)
+
+pub step_editing-returns-in_err-step_members-in-Ok-collect : goal.step_editing-returns-in_err-step_members-in-Ok-collect
+step_editing-returns-in_err-step_members-in-Ok-collect g t c = λ m depth t T e L N W.
+    pass_exit _ _ c.from_residual-in_err-step_members-in-Ok-collect.ensures.0 (new_stops (g.R.Holds.answers c.args.context.now.functions.now) c.args.context.now.plan.now c.args.names.now c.args.editing.now c.args.context.now.dt c.args.value.now c.in-Ok.input c.in-Ok.ensures.0 c.args.meter.now c.step_members-in-Some.new.meter c.args.inside
+    c.step_members-in-Some.new.live c.step_members-in-Some.new.value c.in_ok-step_members-in-Some.ensures c.in-Some.payload.value (some_occurs _ c.in-Ok.occurring c.in-Some.payload (second_of c.args.value.now) c.in-Ok.ensures.1 c.in-Some.is) c.in-Ok-collect.fresh (λ e qs K N G. rw c.deref.ensures at (c.in-Ok-collect.ensures _ (c.in-Ok-inside.ensures (g.R.Holds.answers c.args.context.now.functions.now) e qs K N G))) c.in-Ok-clone_in.begun c.in-Ok-clone_in.ensures c.step_members-in-Ok-collect.new.meter
+    _ c.in_err-step_members-in-Ok-collect.ensures m depth t T e L N W)
+
+pub step_editing-returns-in_ok-step_members-in-Ok-collect : goal.step_editing-returns-in_ok-step_members-in-Ok-collect
+step_editing-returns-in_ok-step_members-in-Ok-collect g t c =
+    new_run (g.R.Holds.answers c.args.context.now.functions.now) c.args.context.now.plan.now c.args.names.now c.args.editing.now c.args.context.now.dt c.args.value.now c.in-Ok.input c.in-Ok.ensures.0 c.args.meter.now c.step_members-in-Some.new.meter c.args.inside
+    c.step_members-in-Some.new.live c.step_members-in-Some.new.value c.in_ok-step_members-in-Some.ensures c.in-Some.payload.value (some_occurs _ c.in-Ok.occurring c.in-Some.payload (second_of c.args.value.now) c.in-Ok.ensures.1 c.in-Some.is) c.in-Ok-collect.fresh (λ e qs K N G. rw c.deref.ensures at (c.in-Ok-collect.ensures _ (c.in-Ok-inside.ensures (g.R.Holds.answers c.args.context.now.functions.now) e qs K N G))) c.in-Ok-clone_in.begun c.in-Ok-clone_in.ensures c.step_members-in-Ok-collect.new.meter
+    c.step_members-in-Ok-collect.new.live c.step_members-in-Ok-collect.new.value _ c.show.ensures _ refl c.in_ok-step_members-in-Ok-collect.ensures
+
+-- ## step_all
+
+pub step_all-returns-in_default : goal.step_all-returns-in_default
+step_all-returns-in_default g t c =
+    let φ = g.R.Holds.answers c.args.context.now.functions.now in
+    let p = c.args.context.now.plan.now in
+    let d = c.args.context.now.dt in
+    let x = c.args.value.now in
+    let m = c.args.meter.now in
+    let n = c.stop.new.self in
+    members_end φ p c.args.keys.now c.args.states.now d x m n c.args.inside refl c.stop.ensures.fault
+    (memory_now φ p c.args.states.now.items d x m n c.args.inside c.stop.ensures.entered c.stop.ensures.height)
+
+pub step_all-loop-state-init : goal.step_all-loop-state-init
+step_all-loop-state-init g t c =
+    let φ = g.R.Holds.answers c.args.context.now.functions.now in
+    let p = c.args.context.now.plan.now in
+    let d = c.args.context.now.dt in
+    let x = c.args.value.now in
+    let m = c.args.meter.now in
+    let bs = c.deref_mut-state-items.result.now in
+    record {
+      goes_on = subst (λ ys. EachContinues φ p bs d x m [] ys bs m c.args.inside) (sym c.in-Ok.ensures.items) (each_first φ p bs d x m c.args.inside);
+    }
+
+pub step_all-returns-in_default-clone_in : goal.step_all-returns-in_default-clone_in
+step_all-returns-in_default-clone_in g t c =
+    let φ = g.R.Holds.answers c.args.context.now.functions.now in
+    let p = c.args.context.now.plan.now in
+    let d = c.args.context.now.dt in
+    let x = c.args.value.now in
+    let m = c.args.meter.now in
+    let l = c.loop-state in
+    let n = c.stop-in_default-clone_in.new.self in
+    members_end φ p c.args.keys.now c.args.states.now d x m n c.args.inside c.deref_mut-state-items.ensures.value c.stop-in_default-clone_in.ensures.fault
+    (each_memory φ p c.deref_mut-state-items.result.now d x m (take l.state-index l.state-items) l.outputs.items (drop l.state-index l.state-items) l.meter n c.args.inside l.invariant.goes_on c.stop-in_default-clone_in.ensures.entered c.stop-in_default-clone_in.ensures.height)
+
+pub step_all-returns-in_err-step_state : goal.step_all-returns-in_err-step_state
+step_all-returns-in_err-step_state g t c = λ low ms L G.
+    let φ = g.R.Holds.answers c.args.context.now.functions.now in
+    let p = c.args.context.now.plan.now in
+    let d = c.args.context.now.dt in
+    let x = c.args.value.now in
+    let m = c.args.meter.now in
+    let l = c.loop-state in
+    let f = fault_of c.step_state.new.meter in
+    let n = c.step_state.new.meter in
+    let failed = each_fails φ p _ d x m l.state-items l.state-index l.outputs.items l.meter c.args.inside c.state-item.result (omega (arith, c.loop-state-test.true, l.auto.state-items)) l.invariant.goes_on
+    f n (rw c.in-Ok-clone_in.ensures at c.in_err-step_state.ensures) in
+    pass_exit _ _ c.from_residual.ensures.0 (members_fail φ p c.args.keys.now c.args.states.now d x m n c.args.inside f
+    (subst (λ bs. EachSteps φ p bs d x (Err f) m n c.args.inside) c.deref_mut-state-items.ensures.value failed) low ms L G)
+
+pub step_all-returns-in_default-push : goal.step_all-returns-in_default-push
+step_all-returns-in_default-push g t c =
+    let φ = g.R.Holds.answers c.args.context.now.functions.now in
+    let p = c.args.context.now.plan.now in
+    let d = c.args.context.now.dt in
+    let x = c.args.value.now in
+    let m = c.args.meter.now in
+    let l = c.loop-state in
+    let n = c.stop-in_default-push.new.self in
+    let bs = set l.state-items l.state-index c.step_state.new.state in
+    let here = each_next φ p c.deref_mut-state-items.result.now d x m l.state-items l.state-index l.outputs.items l.meter c.args.inside c.state-item.result (omega (arith, c.loop-state-test.true, l.auto.state-items)) l.invariant.goes_on
+    c.step_state.new.state c.step_state.new.value c.step_state.new.meter (rw c.in-Ok-clone_in.ensures at c.in_ok-step_state.ensures) in
+    members_end φ p c.args.keys.now c.args.states.now d x m n c.args.inside c.deref_mut-state-items.ensures.value c.stop-in_default-push.ensures.fault
+    (each_memory φ p c.deref_mut-state-items.result.now d x m (take (l.state-index + 1) bs) (l.outputs.items ++ c.step_state.new.value ∷ []) (drop (l.state-index + 1) bs) c.step_state.new.meter n c.args.inside here c.stop-in_default-push.ensures.entered c.stop-in_default-push.ensures.height)
+
+pub step_all-loop-state-preserved : goal.step_all-loop-state-preserved
+step_all-loop-state-preserved g t c =
+    let φ = g.R.Holds.answers c.args.context.now.functions.now in
+    let p = c.args.context.now.plan.now in
+    let d = c.args.context.now.dt in
+    let x = c.args.value.now in
+    let m = c.args.meter.now in
+    let l = c.loop-state in
+    let n = c.step_state.new.meter in
+    let bs = set l.state-items l.state-index c.step_state.new.state in
+    record {
+      goes_on = subst (λ ys. EachContinues φ p c.deref_mut-state-items.result.now d x m (take (l.state-index + 1) bs) ys (drop (l.state-index + 1) bs) n c.args.inside) (sym c.in-Ok-push.ensures.items)
+          (each_next φ p c.deref_mut-state-items.result.now d x m l.state-items l.state-index l.outputs.items l.meter c.args.inside c.state-item.result (omega (arith, c.loop-state-test.true, l.auto.state-items)) l.invariant.goes_on
+          c.step_state.new.state c.step_state.new.value n (rw c.in-Ok-clone_in.ensures at c.in_ok-step_state.ensures));
+    }
+
+pub step_all-returns-in-Err : goal.step_all-returns-in-Err
+step_all-returns-in-Err g t c =
+    let φ = g.R.Holds.answers c.args.context.now.functions.now in
+    let p = c.args.context.now.plan.now in
+    let d = c.args.context.now.dt in
+    let x = c.args.value.now in
+    let m = c.args.meter.now in
+    let l = c.loop-state in
+    let n = c.stop-in-Err.new.self in
+    members_end φ p c.args.keys.now c.args.states.now d x m n c.args.inside c.deref_mut-state-items.ensures.value c.stop-in-Err.ensures.fault
+    (each_memory φ p c.deref_mut-state-items.result.now d x m (take l.state-index l.state-items) l.outputs.items (drop l.state-index l.state-items) l.meter n c.args.inside l.invariant.goes_on c.stop-in-Err.ensures.entered c.stop-in-Err.ensures.height)
+
+pub step_all-returns-in-Ok-table_of : goal.step_all-returns-in-Ok-table_of
+step_all-returns-in-Ok-table_of g t c =
+    let φ = g.R.Holds.answers c.args.context.now.functions.now in
+    let p = c.args.context.now.plan.now in
+    let d = c.args.context.now.dt in
+    let x = c.args.value.now in
+    let m = c.args.meter.now in
+    let l = c.loop-state in
+    let last : l.state-index ≡ length l.state-items = omega (arith, l.auto.state-items, l.auto.state-index-end, c.loop-state-test.false) in
+    let w = with_items c.args.states.now l.state-items in
+    let whole : w.items ≡ l.state-items = with_items_is c.args.states.now l.state-items (omega (arith, l.auto.state-items, ap length c.deref_mut-state-items.ensures.value)) in
+    let all = each_last φ p _ d x m l.state-items l.state-index l.outputs.items l.meter c.args.inside last l.invariant.goes_on in
+    members_step φ p c.args.keys.now c.args.states.now w d x m l.meter c.args.inside l.outputs.items c.in-Ok-table_of.rows (rw c.deref.ensures at (rw c.deref-2.ensures.value at c.in-Ok-table_of.ensures))
+    (rw whole (subst (λ bs. EachSteps φ p bs d x (Ok (l.state-items, l.outputs.items)) m l.meter c.args.inside) c.deref_mut-state-items.ensures.value all))
+
+-- ## step_gathered
+
+pub step_gathered-returns : goal.step_gathered-returns
+step_gathered-returns g t c =
+    let φ = g.R.Holds.answers c.args.context.now.functions.now in
+    let p = c.args.context.now.plan.now in
+    let d = c.args.context.now.dt in
+    let x = c.args.value.now in
+    let m = c.args.meter.now in
+    gathered_so φ p c.args.keys.now c.args.states.now d x m c.step_all.new.meter c.args.inside c.step_all.result _ _ c.step_all.ensures

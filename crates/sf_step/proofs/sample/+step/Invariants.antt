@@ -1,6 +1,7 @@
 use Rattle.std.proofs.Common.{◌+◌, ◌-◌, ◌*◌, if◌then◌else◌, take, drop}
 use Rattle.sf_state.specs.Standing.{is_frozen}
 use Rattle.sf_step.proofs.Stages.{Continues}
+use Rattle.sf_step.proofs.Members.{Continues as EachContinues}
 use Rattle.sf_step.proofs.sample.+step.Given as goal
 
 -- how many nodes may still stand inside, and which of the functions it is; a frozen state is stepped once it is awake
@@ -44,7 +45,7 @@ abbrev pub decreases-step_node : goal.decreases-step_node
 decreases-step_node g l = 10 * (1600 - l.inside) + 8
 
 abbrev pub decreases-step_counted : goal.decreases-step_counted
-decreases-step_counted g l = 10 * (1600 - l.inside) + 9
+decreases-step_counted g l = 10 * (1600 - l.inside) + 10
 
 abbrev pub decreases-step_pipeline : goal.decreases-step_pipeline
 decreases-step_pipeline g l = 10 * (1600 - l.inside) + 6
@@ -74,3 +75,29 @@ abbrev pub invariant-step_pipeline-loop-stage : goal.invariant-step_pipeline-loo
 invariant-step_pipeline-loop-stage g l = record {
   goes_on : Continues (g.R.Holds.answers l.context.functions.now) l.context.plan.now l.initial.stage-items l.context.dt l.initial.value l.initial.meter (take l.stage-index l.stage-items) (drop l.stage-index l.stage-items) l.value l.meter l.inside;
 }
+
+abbrev pub decreases-step_gathering : goal.decreases-step_gathering
+decreases-step_gathering g l = 10 * (1600 - l.inside) + 9
+
+abbrev pub decreases-step_members_waiting : goal.decreases-step_members_waiting
+decreases-step_members_waiting g l = 10 * (1600 - l.inside) + 8
+
+abbrev pub decreases-step_releasing : goal.decreases-step_releasing
+decreases-step_releasing g l = 10 * (1600 - l.inside) + 7
+
+abbrev pub decreases-step_members : goal.decreases-step_members
+decreases-step_members g l = 10 * (1600 - l.inside) + 6
+
+abbrev pub decreases-step_gathered : goal.decreases-step_gathered
+decreases-step_gathered g l = 10 * (1600 - l.inside) + 6
+
+abbrev pub decreases-step_all : goal.decreases-step_all
+decreases-step_all g l = 10 * (1600 - l.inside) + 5
+
+abbrev pub invariant-step_all-loop-state : goal.invariant-step_all-loop-state
+invariant-step_all-loop-state g l = record {
+  goes_on : EachContinues (g.R.Holds.answers l.context.functions.now) l.context.plan.now l.initial.state-items l.context.dt l.value l.initial.meter (take l.state-index l.state-items) l.outputs.items (drop l.state-index l.state-items) l.meter l.inside;
+}
+
+abbrev pub decreases-step_editing : goal.decreases-step_editing
+decreases-step_editing g l = 10 * (1600 - l.inside) + 7

@@ -9,3 +9,6 @@ returns-in-Value-clause-added c = λ coded.
     let k = rw c.in-Value.is at coded in
     rw c.in-Value.is
     (on_ok_weaker c.add_code.result (λ added x m. added x (closed_mentions (around_pattern c.in-Value.code.around) (plan_expression_at c.args.plan.now c.in-Value.field-0) x k.closed m)) c.add_code.ensures.added)
+
+pub returns-in-Collected-clause-added : goal.returns-in-Collected-clause-added
+returns-in-Collected-clause-added c = λ coded. rw c.in-Collected.is ((rw c.deref.ensures at c.add_collection.ensures.added) (rw c.in-Collected.is at coded))

@@ -7,7 +7,7 @@ use Rattle.sf_expr.specs.Patterns.{PlacedPattern, pattern_of}
 use Rattle.sf_expr.specs.Arena.{name_at, placed_at}
 use Rattle.sf_coincidence.specs.Mentions.{BindsOthers}
 use Rattle.sf_law.proofs.Naming.{ok_both}
-use Rattle.sf_law.proofs.Covering.{covers_primitive, covers_headed, covers_transformed, covers_keeping, covers_pipeline}
+use Rattle.sf_law.proofs.Covering.{covers_primitive, covers_headed, covers_transformed, covers_keeping, covers_gathered, covers_pipeline}
 use Rattle.sf_law.proofs.mentioned.Mentioned.add_node.Goals as goal
 
 pub returns-in-Primitive : goal.returns-in-Primitive
@@ -25,8 +25,8 @@ returns-in_ok-add_code-in-Transformed c = λ t B.
     (λ kept added. covers_transformed c.args.plan.now c.add_part-in-Transformed.new.self (rw c.in-Transformed.is at B) (λ x h. kept x (c.in_ok-add_code-in-Transformed.ensures.added x h)) (λ x h. added x (c.requires c.in-Transformed.part x h)))
     c.add_part-in-Transformed.ensures.kept c.add_part-in-Transformed.ensures.added
 
-pub returns-in_ok-left-in-Keeping : goal.returns-in_ok-left-in-Keeping
-returns-in_ok-left-in-Keeping c = λ t B.
+pub returns-in_ok-add_part-in-Keeping-2 : goal.returns-in_ok-add_part-in-Keeping-2
+returns-in_ok-add_part-in-Keeping-2 c = λ t B.
     let p = c.args.plan.now in
     let k = c.in-Keeping in
     let exprs = c.expressions-exprs.ensures in
@@ -34,10 +34,19 @@ returns-in_ok-left-in-Keeping c = λ t B.
     let name = c.name_of-in-Keeping.ensures ∙ ap (λ (x : Exprs). name_at x k.name) exprs in
     let first = c.in_ok-add_part-in-Keeping.ensures in
     let second = c.in_ok-add_part-in-Keeping-2.ensures in
-    ok_both c.add_all-in-Keeping.result
-    (λ kept added. covers_keeping p c.add_all-in-Keeping.new.self (rw k.is at B) (λ x h. kept x (second.kept x (first.added x (c.requires k.first x h)))) (λ x h. kept x (second.added x (c.requires k.observer x h)))
-    (λ x h free other. added x (c.in_ok-left-in-Keeping.ensures x (c.in_ok-within-in-Keeping.ensures x (c.requires k.body x h) (subst (λ (q : PlacedPattern). BindsOthers (pattern_of q) x) (sym placed) free)) (subst (λ (n : Name). n ≢ x) (sym name) other))))
-    c.add_all-in-Keeping.ensures.kept c.add_all-in-Keeping.ensures.added
+    ok_both c.add_body-in-Keeping.result
+    (λ kept added. covers_keeping p c.add_body-in-Keeping.new.self (rw k.is at B) (λ x h. kept x (second.kept x (first.added x (c.requires k.first x h)))) (λ x h. kept x (second.added x (c.requires k.observer x h)))
+    (λ x h free. added x (c.requires k.body x h) (subst (λ (n : Name). n ≢ x) (sym name) free.0, subst (λ (q : PlacedPattern). BindsOthers (pattern_of q) x) (sym placed) free.1)))
+    c.add_body-in-Keeping.ensures.kept c.add_body-in-Keeping.ensures.added
+
+pub returns-in-Gathered : goal.returns-in-Gathered
+returns-in-Gathered c = λ t B. let d = c.deref-in-Gathered.ensures in covers_gathered c.args.plan.now c.add_collection.result c.add_collection.new.self (rw c.in-Gathered.is at B) (rw d at c.add_collection.ensures.added)
+
+pub returns-in-Releasing : goal.returns-in-Releasing
+returns-in-Releasing c = λ t B. c.add_releasing.ensures t (rw c.in-Releasing.is at B)
+
+pub returns-in-Editing : goal.returns-in-Editing
+returns-in-Editing c = λ t B. c.add_editing.ensures t (rw c.in-Editing.is at B)
 
 pub returns-in-Pipeline : goal.returns-in-Pipeline
 returns-in-Pipeline c = λ t B. let e = c.add_parts.ensures in let d = c.deref-in-Pipeline.ensures.value in

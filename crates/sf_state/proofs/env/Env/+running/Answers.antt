@@ -5,9 +5,10 @@ use Rattle.sf_law.specs.Places.{last_parameter}
 use Rattle.sf_mean.specs.Lives.{process_of}
 use Rattle.sf_state.specs.declared.env.Call.{Call}
 use Rattle.sf_state.specs.declared.env.Running.{Running}
+use Rattle.sf_state.specs.declared.env.Collected.{Collected}
 use Rattle.sf_state.specs.Names.{handed_of, given_at}
 use Rattle.sf_state.specs.Standing.{IsNames, IsFound}
-use Rattle.sf_state.proofs.Scopes.{found_value, found_outside, found_there, found_further, names_called, found_called}
+use Rattle.sf_state.proofs.Scopes.{found_value, found_outside, found_there, found_further, found_members, found_behind, names_called, found_called}
 use Rattle.sf_state.proofs.env.Env.+running.Goals as goal
 
 pub returns-in-Some : goal.returns-in-Some
@@ -43,6 +44,21 @@ returns-else-eq t c = λ φ e N.
     let name = c.name_of.ensures ∙ ap (λ a. name_at c.expressions-in-Running.result.now a.name) c.deref-in-Running.ensures ∙ ap (λ x. name_at x b.name) c.expressions-in-Running.ensures in
     found_further φ p c.args.name.now b.name b.handed.process b.handed.base b.around _ e (ap (λ n. bytes_eq c.args.name.now n) (sym name) ∙ sym c.eq.ensures ∙ c.if-eq.false)
     (λ e M. c.running-else-eq.ensures φ e (subst (λ a. IsNames φ p a.around e) (sym c.deref-else-eq.ensures) M)) (rw c.in-Running.is at N)
+
+pub returns-then-eq-2 : goal.returns-then-eq-2
+returns-then-eq-2 t c = λ φ e N.
+    let p = c.args.plan.now in
+    let b = c.in-Collected.collected.value in
+    let name = c.name_of-in-Collected.ensures ∙ ap (λ a. name_at c.expressions-in-Collected.result.now a.name) c.deref-in-Collected.ensures ∙ ap (λ x. name_at x b.name) c.expressions-in-Collected.ensures in
+    found_members φ p c.args.name.now b.name b.members b.around e (ap (λ n. bytes_eq c.args.name.now n) (sym name) ∙ sym c.eq-in-Collected.ensures ∙ c.if-eq-2.true) (rw c.in-Collected.is at N)
+
+pub returns-else-eq-2 : goal.returns-else-eq-2
+returns-else-eq-2 t c = λ φ e N.
+    let p = c.args.plan.now in
+    let b = c.in-Collected.collected.value in
+    let name = c.name_of-in-Collected.ensures ∙ ap (λ a. name_at c.expressions-in-Collected.result.now a.name) c.deref-in-Collected.ensures ∙ ap (λ x. name_at x b.name) c.expressions-in-Collected.ensures in
+    found_behind φ p c.args.name.now b.name b.members b.around _ e (ap (λ n. bytes_eq c.args.name.now n) (sym name) ∙ sym c.eq-in-Collected.ensures ∙ c.if-eq-2.false)
+    (λ e M. c.running-else-eq-2.ensures φ e (subst (λ (a : Collected). IsNames φ p a.around e) (sym c.deref-else-eq-2.ensures) M)) (rw c.in-Collected.is at N)
 
 pub returns-in-Called : goal.returns-in-Called
 returns-in-Called t c = λ φ e N.

@@ -1,4 +1,4 @@
-use Rattle.sf_state.proofs.Scopes.{names_follow, running_follows, called_follows}
+use Rattle.sf_state.proofs.Scopes.{names_follow, running_follows, collected_follows, called_follows}
 use Rattle.sf_state.proofs.env.Env.share.Goals as goal
 
 pub returns-in_ok-shared-in-Bound : goal.returns-in_ok-shared-in-Bound
@@ -9,3 +9,6 @@ returns-in_ok-same-in-Running c = λ φ p e N. running_follows φ p c.in-Running
 
 pub returns-in_ok-both-in-Called : goal.returns-in_ok-both-in-Called
 returns-in_ok-both-in-Called c = λ φ p e N. called_follows φ p c.in-Called.call c.in_ok-both-in-Called.both c.in_ok-both-in-Called.ensures.cases e (rw c.in-Called.is at N)
+
+pub returns-in_ok-again-in-Collected : goal.returns-in_ok-again-in-Collected
+returns-in_ok-again-in-Collected c = λ φ p e N. collected_follows φ p c.in-Collected.collected.value c.in_ok-again-in-Collected.again.value c.in_ok-again-in-Collected.ensures.cases e (rw c.in-Collected.is at N)

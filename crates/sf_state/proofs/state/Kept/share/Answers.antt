@@ -1,4 +1,4 @@
-use Rattle.sf_state.proofs.Copies.{same_follows, primitive_follows, alive_follows, same_waits, watching_follows, same_keeps, keeping_follows}
+use Rattle.sf_state.proofs.Copies.{same_follows, primitive_follows, alive_follows, same_waits, watching_follows, same_keeps, keeping_follows, same_gathers, gathering_follows}
 use Rattle.sf_state.proofs.state.Kept.share.Goals as goal
 
 pub returns-in_ok-copy-in-Primitive : goal.returns-in_ok-copy-in-Primitive
@@ -16,3 +16,7 @@ returns-in_ok-switch-in-Switch c = λ φ p names P L A.
 pub returns-in_ok-keeping-in-Keeping : goal.returns-in_ok-keeping-in-Keeping
 returns-in_ok-keeping-in-Keeping c = λ φ p names P L A.
     keeping_follows φ p names names c.in-Keeping.node.value c.in_ok-keeping-in-Keeping.keeping.value (λ e N. N) (same_keeps φ p _ _ c.in_ok-keeping-in-Keeping.ensures.cases) P L (rw c.in-Keeping.is at A)
+
+pub returns-in_ok-gathering-in-Gathering : goal.returns-in_ok-gathering-in-Gathering
+returns-in_ok-gathering-in-Gathering c = λ φ p names P L A.
+    gathering_follows φ p names names c.in-Gathering.node.value c.in_ok-gathering-in-Gathering.gathering.value (λ e N. N) (same_gathers φ p _ _ c.in_ok-gathering-in-Gathering.ensures.cases) P L (rw c.in-Gathering.is at A)

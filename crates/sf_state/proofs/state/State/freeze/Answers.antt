@@ -1,5 +1,5 @@
 use Rattle.std.proofs.Common.{sym, subst, ⊎_elim}
-use Rattle.sf_state.proofs.Copies.{IsFresh, same_follows, primitive_follows, alive_follows, same_waits, watching_follows, same_keeps, keeping_follows, primitive_lived, alive_lived, watching_lived, keeping_lived, unborn_fresh, frozen_fresh, lived_frozen, fresh_frozen}
+use Rattle.sf_state.proofs.Copies.{IsFresh, same_follows, primitive_follows, alive_follows, same_waits, watching_follows, same_keeps, keeping_follows, same_gathers, gathering_follows, primitive_lived, alive_lived, watching_lived, keeping_lived, gathering_lived, unborn_fresh, frozen_fresh, lived_frozen, fresh_frozen}
 use Rattle.sf_state.proofs.state.State.freeze.Goals as goal
 
 pub returns-in_ok-copy-in-Primitive : goal.returns-in_ok-copy-in-Primitive
@@ -36,3 +36,11 @@ pub returns-in-Unborn : goal.returns-in-Unborn
 returns-in-Unborn c =
     fresh_frozen c.args.self.now c.args.wait c.share.result (λ φ p. ⊎_elim (λ u. subst (λ a. IsFresh φ p a) (sym u.1) (unborn_fresh φ p u.0))
     (λ f. subst (λ a. IsFresh φ p a) (sym f.1) (frozen_fresh φ p f.0.value.wait f.0.value.names f.0.value.node)) c.in-Unborn.is) c.share.ensures
+
+pub returns-in_ok-gathering-in-Gathering : goal.returns-in_ok-gathering-in-Gathering
+returns-in_ok-gathering-in-Gathering c =
+    let names = c.in-Gathering.names in
+    let old = c.in-Gathering.node.value in
+    let new = c.in_ok-gathering-in-Gathering.gathering.value in
+    rw c.in-Gathering.is (lived_frozen _ _ c.args.wait c.freeze_node-in-Gathering.result (λ φ p. gathering_lived φ p names old)
+    (λ φ p. gathering_follows φ p names names old new (λ e N. N) (same_gathers φ p old new c.in_ok-gathering-in-Gathering.ensures.cases)) c.freeze_node-in-Gathering.ensures)

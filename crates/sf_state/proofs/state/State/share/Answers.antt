@@ -1,4 +1,4 @@
-use Rattle.sf_state.proofs.Copies.{same_follows, unborn_follows, primitive_follows, alive_follows, same_waits, watching_follows, same_keeps, keeping_follows, frozen_follows}
+use Rattle.sf_state.proofs.Copies.{same_follows, unborn_follows, primitive_follows, alive_follows, same_waits, watching_follows, same_keeps, keeping_follows, same_gathers, gathering_follows, frozen_follows}
 use Rattle.sf_state.proofs.state.State.share.Goals as goal
 
 pub returns-in_ok-same-in-Unborn : goal.returns-in_ok-same-in-Unborn
@@ -27,3 +27,8 @@ returns-in_ok-keeping-in-Keeping c = λ φ p P L A.
 pub returns-in_ok-rest-in-Frozen : goal.returns-in_ok-rest-in-Frozen
 returns-in_ok-rest-in-Frozen c = λ φ p P L A.
     frozen_follows φ p c.in-Frozen.frozen.value c.in_ok-rest-in-Frozen.rest.value c.in_ok-rest-in-Frozen.ensures.cases P L (rw c.in-Frozen.is at A)
+
+pub returns-in_ok-gathering-in-Gathering : goal.returns-in_ok-gathering-in-Gathering
+returns-in_ok-gathering-in-Gathering c = λ φ p P L A.
+    gathering_follows φ p c.in-Gathering.names c.in_ok-beside-in-Gathering.beside c.in-Gathering.node.value c.in_ok-gathering-in-Gathering.gathering.value
+    (c.in_ok-beside-in-Gathering.ensures φ p) (same_gathers φ p _ _ c.in_ok-gathering-in-Gathering.ensures.cases) P L (rw c.in-Gathering.is at A)

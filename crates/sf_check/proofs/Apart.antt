@@ -1,0 +1,277 @@
+-- What is said to differ in a term, and that it is refused there.
+use Rattle.std.proofs.Common.{◌≡◌, ◌≢◌, Bool, true, false, IsTrue, Option, Some, None, Result, Ok, Err, IfErr, inl, inr, refl, sym, ap, ◌∙◌, subst}
+use Rattle.std.proofs.lemmas.Option.{same_Some}
+use Rattle.sf_value.specs.Values.{Kind, bool_kind, int_kind, pair_kind, event_kind}
+use Rattle.sf_refusal.specs.declared.spot.Spot.{Spot}
+use Rattle.sf_refusal.specs.declared.rule.Rule.TheVariants.{Mismatch}
+use Rattle.sf_refusal.specs.declared.refusal.Breach.{Breach}
+use Rattle.sf_refusal.specs.Refusals.{breach_of}
+use Rattle.sf_func.specs.Registries.{TypesByName}
+use Rattle.sf_operator.specs.Kinds.{found_then, only, same_kind, payload_of}
+use Rattle.sf_operator.specs.Breaches.{KindRefused, AnswersKind}
+use Rattle.sf_expr.specs.Typing.{Fits}
+use Rattle.sf_operator.proofs.SameKinds.{same_is, is_same, only_is, found_is, payload_is}
+use Rattle.sf_expr.specs.declared.exprs.PatternId.{PatternId}
+use Rattle.sf_expr.specs.declared.exprs.Exprs.{Exprs}
+use Rattle.sf_term.specs.declared.form.Bare.{Bare}
+use Rattle.sf_term.specs.declared.form.Bare.TheVariants as bare
+use Rattle.sf_term.specs.declared.form.WithValue.{WithValue}
+use Rattle.sf_term.specs.declared.form.WithValue.TheVariants as given
+use Rattle.sf_term.specs.declared.form.Timing.{Timing}
+use Rattle.sf_term.specs.declared.form.Timing.TheVariants as timing
+use Rattle.sf_term.specs.declared.form.Accumulation.{Accumulation}
+use Rattle.sf_term.specs.declared.form.Accumulation.TheVariants as accumulation
+use Rattle.sf_term.specs.declared.form.Heading.TheVariants.{LoopPre, Initialized, Replaced, Followed}
+use Rattle.sf_term.specs.declared.node.TermId.{TermId}
+use Rattle.sf_term.specs.declared.node.Primitive.{Primitive}
+use Rattle.sf_term.specs.declared.node.Node.{Node}
+use Rattle.sf_term.specs.declared.program.Program.{Program}
+use Rattle.sf_term.specs.Headers.{Header}
+use Rattle.sf_term.specs.Parameters.{parameters_of}
+use Rattle.sf_term.specs.Arena.{tree, term_node_at, term_spot_at, expressions_of, templates_of}
+use Rattle.sf_mean.specs.Contexts.{Context, context_of, inside_pattern}
+use Rattle.sf_mean.specs.Typing.{bare_kind, value_kind, takes_input, selected_kind, accumulated_argument, accumulated_kind, Takes}
+use Rattle.sf_differ.specs.declared.difference.Wanted.{Wanted}
+use Rattle.sf_differ.specs.declared.difference.Wanted.TheVariants.{Exactly, Event}
+use Rattle.sf_differ.specs.declared.difference.Difference.{Difference}
+use Rattle.sf_differ.specs.declared.blame.Blame.{Blame}
+use Rattle.sf_differ.specs.Differences.{Suits, AreWanted, WantsAny, IsOther, DiffersAt, Explains}
+use Rattle.sf_differ.specs.Wanting.{IsMade}
+use Rattle.sf_differ.proofs.Told.{told_as, differs_from}
+use Rattle.sf_differ.proofs.Placed.{made_by, only_same, only_self, wants_as, exactly_first, event_wants}
+use Rattle.sf_differ.proofs.Refused.{none_stands, expression_refused, function_refused as refused_function}
+use Rattle.sf_check.specs.Breaking as breaking
+use Rattle.sf_check.specs.Breaking.{pattern_in, BindsInside, BareRefused, PrimitiveBreaks, BodyBreaks, FormBreaks, Reaches, TermBreaks, TemplateBreaks}
+use Rattle.sf_check.specs.Refusing.{RefusesNetwork, type_refused}
+use Rattle.sf_check.specs.Differing.{bare_wants, value_wants, input_wants, timed_wants, start_wants, accumulated_wants, made_wants, PrimitiveDiffers, bare_differs, value_differs_within, value_differs, input_differs, timed_differs_within, timed_differs, selected_differs, start_differs_within, accumulated_differs, accumulator_differs, start_differs, made_differs, function_differs, BodyDiffers, body_pattern, body_output, BodyStops, FormDiffers, primitive_differs, process_input, both_inputs, side_inputs, head_within, fed_output, initial_output, followed_output, replaced_input, transform_within, transformed_input, source_output, event_beside, switch_body_differs, observer_output, keeping_body_differs, TermDiffers, term_itself, term_within, TemplateDiffers, template_within, header_output, NetworkDiffers}
+
+-- ## What primitives want
+
+pub event_whole : AreWanted (λ t. IsMade (found_then (payload_of t) (λ p. Some t))) Event
+event_whole = record {
+  only = λ t h. let k = found_is (payload_of t) (λ p. Some t) h.is in (k.0, payload_is t k.1);
+  all = λ t k. subst (λ t. IsMade (found_then (payload_of t) (λ p. Some t))) (sym k.1) (made_by refl);
+}
+
+-- a type whose payloads are values of one
+event_exactly : (v : Kind) → AreWanted (λ t. IsMade (found_then (payload_of t) (λ p. only p v (Some v)))) (Exactly (event_kind v))
+event_exactly v = record {
+  only = λ t h.
+      let k = found_is (payload_of t) (λ p. only p v (Some v)) h.is in
+      payload_is t k.1 ∙ ap (λ p. event_kind p) (only_is k.0 v (Some v) k.2).0;
+  all = λ t e. subst (λ t. IsMade (found_then (payload_of t) (λ p. only p v (Some v)))) (sym e) (made_by (only_self v (Some v)));
+}
+
+any_suits : {s : Spot} {t : Kind} {d : Difference} → IsOther None s t d → ⊥
+any_suits h = let e = h.wanted in cc
+
+pub bare_from : (k : Bare) {s : Spot} {a : Kind} {d : Difference} → IsOther (bare_wants k) s a d → (k ≢ bare.Pre) × DiffersAt (λ b. IsMade (bare_kind k b)) s a d
+bare_from bare.Identity h = absurd (any_suits h)
+bare_from bare.LocalTime h = absurd (any_suits h)
+bare_from bare.Integral h = (λ e. cc, differs_from (λ b. IsMade (bare_kind bare.Integral b)) (Some (Exactly int_kind)) (exactly_first int_kind (Some int_kind) (made_by refl)) h)
+bare_from bare.Edge h = (λ e. cc, differs_from (λ b. IsMade (bare_kind bare.Edge b)) (Some (Exactly bool_kind)) (exactly_first bool_kind _ (made_by refl)) h)
+bare_from bare.NotYet h = (λ e. cc, differs_from (λ b. IsMade (bare_kind bare.NotYet b)) (Some Event) event_whole h)
+bare_from bare.Once h = (λ e. cc, differs_from (λ b. IsMade (bare_kind bare.Once b)) (Some Event) event_whole h)
+bare_from bare.Count h = (λ e. cc, differs_from (λ b. IsMade (bare_kind bare.Count b)) (Some Event) (event_wants (λ p. Some (event_kind int_kind)) (λ a. made_by refl)) h)
+bare_from bare.Pre h = absurd (any_suits h)
+
+pub bare_under : (k : Bare) {o : Option Wanted} {s : Spot} {a : Kind} {d : Difference} → o ≡ bare_wants k → IsOther o s a d → IsOther (bare_wants k) s a d
+bare_under k {s = s} {a = a} {d = d} same h = subst (λ (o : Option Wanted). IsOther o s a d) same h
+
+pub value_any : (k : WithValue) → WantsAny (λ v. (b : Kind) × IsMade (value_kind k v b)) (value_wants k)
+value_any given.Constant = λ v. (v, made_by refl)
+value_any given.Initially = λ v. (v, made_by (only_self v (Some v)))
+value_any given.InitialPre = λ v. (v, made_by (only_self v (Some v)))
+value_any given.InitializedPre = λ v. (v, made_by (only_self v (Some v)))
+value_any given.Now = λ v. (v, made_by refl)
+value_any given.InitialEdge = record {
+  only = λ v h. (only_is v bool_kind _ (only_is h.0 bool_kind _ h.1.is).1).0;
+  all = λ v e. (bool_kind, made_by (only_self bool_kind _ ∙ only_same v bool_kind _ e));
+}
+value_any given.EdgeTag = λ v. (bool_kind, made_by (only_self bool_kind (Some (event_kind v))))
+value_any given.Hold = λ v. (event_kind v, made_by (only_self v (Some v)))
+value_any given.DelayedHold = λ v. (event_kind v, made_by (only_self v (Some v)))
+
+pub input_any : (k : WithValue) (t v : Kind) → IsMade (value_kind k t v) → WantsAny (λ b. IsMade (value_kind k t b)) (input_wants k t)
+input_any given.Constant t v m = λ b. made_by refl
+input_any given.Initially t v m = exactly_first t (Some t) (made_by refl)
+input_any given.InitialPre t v m = exactly_first t (Some t) (made_by refl)
+input_any given.InitializedPre t v m = exactly_first t (Some t) (made_by refl)
+input_any given.Now t v m = λ b. made_by refl
+input_any given.InitialEdge t v m = exactly_first bool_kind _ (made_by (only_is v bool_kind _ m.is).1)
+input_any given.EdgeTag t v m = exactly_first bool_kind (Some (event_kind t)) (made_by refl)
+input_any given.Hold t v m = event_exactly t
+input_any given.DelayedHold t v m = event_exactly t
+
+pub timed_any : (k : Timing) (t : Kind) → WantsAny (λ b. IsTrue (takes_input k t b)) (timed_wants k t)
+timed_any timing.After t = λ b. refl
+timed_any timing.Repeatedly t = λ b. refl
+timed_any timing.Delay t = record { only = λ b h. same_is b t h; all = λ b e. ap (λ b. same_kind b t) e ∙ is_same t }
+
+pub accumulated_any : (k : Accumulation) (t : Kind) → WantsAny (λ b. IsMade (accumulated_argument k t b)) (accumulated_wants k)
+accumulated_any accumulation.EdgeBy t = λ b. made_by refl
+accumulated_any accumulation.AccumBy t = event_wants (λ p. Some (pair_kind t p)) (λ a. made_by refl)
+accumulated_any accumulation.AccumHoldBy t = event_wants (λ p. Some (pair_kind t p)) (λ a. made_by refl)
+accumulated_any accumulation.Scan t = λ b. made_by refl
+
+pub start_any : (k : Accumulation) (a : Kind) → WantsAny (λ w. (b : Kind) × IsMade (accumulated_kind k w a b)) (start_wants k a)
+start_any accumulation.EdgeBy a = record {
+  only = λ w h. sym (only_is a w (found_then (payload_of h.0) (λ p. Some h.0)) h.1.is).0;
+  all = λ w e. (event_kind int_kind, made_by (only_same a w (Some (event_kind int_kind)) (sym e)));
+}
+start_any accumulation.AccumBy a = λ w. (w, made_by (only_self w (Some (event_kind w))))
+start_any accumulation.AccumHoldBy a = λ w. (w, made_by (only_self w (Some w)))
+start_any accumulation.Scan a = λ w. (w, made_by (only_self w (Some w)))
+
+pub made_any : (k : Accumulation) (t a v : Kind) → IsMade (accumulated_kind k t a v) → WantsAny (λ b. IsMade (accumulated_kind k t a b)) (made_wants k t)
+made_any accumulation.EdgeBy t a v m =
+    let e = (only_is a t (found_then (payload_of v) (λ p. Some v)) m.is).0 in
+    wants_as (λ b. only_same a t (found_then (payload_of b) (λ p. Some b)) e) event_whole
+made_any accumulation.AccumBy t a v m = exactly_first t (Some (event_kind t)) (made_by refl)
+made_any accumulation.AccumHoldBy t a v m = exactly_first t (Some t) (made_by refl)
+made_any accumulation.Scan t a v m = exactly_first t (Some t) (made_by refl)
+
+-- ## What is told
+
+module _ (p : Program) (Γ : Context) (t : TermId) (n : Node) (a : Kind) (is : term_node_at p t ≡ n) where
+  -- a part differs
+  pub part_tells : {Δ : Context} {j : TermId} {b : Kind} {e : Blame} → Reaches p Γ n a Δ j b → Explains (TermDiffers p Δ j b) e → Explains (TermDiffers p Γ t a) e
+  part_tells {Δ} {j} {b} reached h = told_as (λ d k. term_within (subst (λ m. Reaches p Γ m a Δ j b) (sym is) reached) k) h
+
+  module _ (s : Spot) (at : s ≡ term_spot_at p t) where
+    form_differs : (d : Difference) → FormDiffers p Γ s n a d → TermDiffers p Γ t a d
+    form_differs d k = term_itself (subst (λ m. FormDiffers p Γ (term_spot_at p t) m a d) (sym is) (subst (λ s. FormDiffers p Γ s n a d) at k))
+
+    -- the form itself differs
+    pub form_tells : {Q : Difference → Type 0} {e : Blame} → ((d : Difference) → Q d → FormDiffers p Γ s n a d) → Explains Q e → Explains (TermDiffers p Γ t a) e
+    form_tells f h = told_as (λ d k. form_differs d (f d k)) h
+
+    pub form_last : {A : Type 0} (Q : Difference → Type 0) (r : Result A Blame) → ((d : Difference) → Q d → FormDiffers p Γ s n a d) → IfErr r (λ e. Explains Q e) → IfErr r (λ e. Explains (TermDiffers p Γ t a) e)
+    form_last Q (Ok x) f h = tt
+    form_last Q (Err e) f h = form_tells f h
+
+    -- a body does
+    pub stops_last : {A : Type 0} (Δ : Context) (q : PatternId) (u : TermId) (x b c : Kind) (r : Result A Blame)
+        → ((d : Difference) → BodyDiffers p Δ s q u x b c d → FormDiffers p Γ s n a d)
+        → (BindsInside (pattern_in p q) c Δ → Reaches p Γ n a (inside_pattern (pattern_in p q) c Δ) u x)
+        → IfErr r (λ e. Explains (BodyStops p Δ s q u x b c) e) → IfErr r (λ e. Explains (TermDiffers p Γ t a) e)
+    stops_last Δ q u x b c (Ok y) f g h = tt
+    stops_last Δ q u x b c (Err e) f g h = told_as (λ d k. each d k) h
+      where
+        each : (d : Difference) → BodyStops p Δ s q u x b c d → TermDiffers p Γ t a d
+        each d (inl k) = form_differs d (f d k)
+        each d (inr k) = term_within (subst (λ m. Reaches p Γ m a (inside_pattern (pattern_in p q) c Δ) u x) (sym is) (g k.0)) k.1
+
+-- the same of other contexts and programs that are the same
+pub differs_under : (p q : Program) (Γ Δ : Context) (t : TermId) (a : Kind) {e : Blame} → p ≡ q → Γ ≡ Δ → Explains (TermDiffers p Γ t a) e → Explains (TermDiffers q Δ t a) e
+differs_under p q Γ Δ t a {e} same alike h = subst (λ (Γ : Context). Explains (TermDiffers q Γ t a) e) alike (subst (λ (p : Program). Explains (TermDiffers p Γ t a) e) same h)
+
+pub stops_under : (p q : Program) (Γ Δ : Context) (s : Spot) (w : PatternId) (u : TermId) (a b c : Kind) {e : Blame} → p ≡ q → Γ ≡ Δ → Explains (BodyStops p Γ s w u a b c) e → Explains (BodyStops q Δ s w u a b c) e
+stops_under p q Γ Δ s w u a b c {e} same alike h = subst (λ (Γ : Context). Explains (BodyStops q Γ s w u a b c) e) alike (subst (λ (p : Program). Explains (BodyStops p Γ s w u a b c) e) same h)
+
+-- pairs that were made
+pub fed_takes : {a c w : Kind} (s : Spot) → AnswersKind (Some (pair_kind a c)) s (Ok w) → (w ≡ pair_kind a c) × Fits w
+fed_takes s h = (sym (same_Some _ _ h.0), h.1)
+
+pub watched_takes : (p : Program) {Γ : Context} (o : TermId) {a b w d : Kind} (s : Spot) → AnswersKind (Some (pair_kind a b)) s (Ok w) → Takes Γ (tree p o) w d → Takes Γ (tree p o) (pair_kind a b) d
+watched_takes p {Γ} o {d = d} s h T = subst (λ (w : Kind). Takes Γ (tree p o) w d) (sym (same_Some _ _ h.0)) T
+
+-- the type that is wanted is this one
+pub exactly_as : {u v : Kind} {s : Spot} {t : Kind} {d : Difference} → u ≡ v → IsOther (Some (Exactly u)) s t d → IsOther (Some (Exactly v)) s t d
+exactly_as {s = s} {t = t} {d = d} same h = subst (λ (u : Kind). IsOther (Some (Exactly u)) s t d) same h
+
+-- ## A template
+
+module _ (fs : TypesByName) (p : Program) (h : Header) {Γ : Context} {t : TermId} {a : Kind} (under : Γ ≡ context_of fs (parameters_of h.parameters) (templates_of p)) (is : t ≡ h.body) (from : a ≡ h.input) where
+  pub within_template : {d : Difference} → TermDiffers p Γ t a d → TemplateDiffers fs p h d
+  within_template {d} k =
+      let E = context_of fs (parameters_of h.parameters) (templates_of p) in
+      template_within (subst (λ (a : Kind). TermDiffers p E h.body a d) from (subst (λ (t : TermId). TermDiffers p E t a d) is (subst (λ (Γ : Context). TermDiffers p Γ t a d) under k)))
+
+  pub of_header : {b : Kind} {s : Spot} {d : Difference} → Takes Γ (tree p t) a b → s ≡ term_spot_at p t → IsOther (Some (Exactly h.output)) s b d → TemplateDiffers fs p h d
+  of_header {b} {s} {d} T at k =
+      let E = context_of fs (parameters_of h.parameters) (templates_of p) in
+      header_output (subst (λ (a : Kind). Takes E (tree p h.body) a b) from (subst (λ (t : TermId). Takes E (tree p t) a b) is (subst (λ (Γ : Context). Takes Γ (tree p t) a b) under T)))
+      (subst (λ (s : Spot). IsOther (Some (Exactly h.output)) s b d) (at ∙ ap (term_spot_at p) is) k)
+
+-- ## What differs is refused
+
+other_than : {w : Wanted} {s : Spot} {t : Kind} {d : Difference} → IsOther (Some w) s t d → Suits w t → ⊥
+other_than {t = t} h k = h.other (subst (λ w. Suits w t) (same_Some _ _ h.wanted) k)
+
+kind_apart : (o : Option Kind) {s q : Spot} → (IsMade o → ⊥) → q ≡ s → KindRefused o s (breach_of Mismatch q)
+kind_apart None none at = ap (breach_of Mismatch) at
+kind_apart (Some t) none at = absurd (none (made_by refl))
+
+not_true : (b : Bool) → (IsTrue b → ⊥) → b ≡ false
+not_true true h = absurd (h refl)
+not_true false h = refl
+
+bare_apart : (k : Bare) (a : Kind) (s : Spot) (r : Breach) → k ≢ bare.Pre → KindRefused (bare_kind k a) s r → BareRefused k a s r
+bare_apart bare.Identity a s r other h = h
+bare_apart bare.LocalTime a s r other h = h
+bare_apart bare.Integral a s r other h = h
+bare_apart bare.Edge a s r other h = h
+bare_apart bare.NotYet a s r other h = h
+bare_apart bare.Once a s r other h = h
+bare_apart bare.Count a s r other h = h
+bare_apart bare.Pre a s r other h = absurd (other refl)
+
+primitive_apart : {x : Exprs} {Γ : Context} {s : Spot} {q : Primitive} {a : Kind} {d : Difference} → PrimitiveDiffers x Γ s q a d → PrimitiveBreaks x Γ s q a (breach_of Mismatch d.spot)
+primitive_apart {s = s} {a = a} (bare_differs {k = k} other h) = breaking.bare_refused (bare_apart k a s _ other (kind_apart (bare_kind k a) (λ m. none_stands h m) h.at))
+primitive_apart {x = x} (value_differs_within h) = breaking.value_refused (expression_refused x h)
+primitive_apart {a = a} (value_differs {k = k} {t = t} typed h) = breaking.given_refused typed (kind_apart (value_kind k t a) (λ m. none_stands h (a, m)) h.at)
+primitive_apart {a = a} (input_differs {k = k} {t = t} typed h) = breaking.given_refused typed (kind_apart (value_kind k t a) (λ m. none_stands h m) h.at)
+primitive_apart {x = x} (timed_differs_within h) = breaking.timed_value_refused (expression_refused x h)
+primitive_apart {x = x} {Γ = Γ} {s = s} {q = q} {a = a} (timed_differs {k = k} {t = t} typed h) =
+    subst (λ r. PrimitiveBreaks x Γ s q a (breach_of Mismatch r)) (sym h.at) (breaking.input_differs typed (not_true (takes_input k t a) (λ m. none_stands h m)))
+primitive_apart {a = a} (selected_differs h) = breaking.selected_refused (kind_apart (selected_kind a) (λ m. none_stands h m) h.at)
+primitive_apart {x = x} (start_differs_within h) = breaking.start_value_refused (expression_refused x h)
+primitive_apart {a = a} (accumulated_differs {k = k} {t = t} typed h) = breaking.accumulation_breaks typed (breaking.argument_refused (kind_apart (accumulated_argument k t a) (λ m. none_stands h m) h.at))
+primitive_apart {x = x} (accumulator_differs typed e f h) = breaking.accumulation_breaks typed (breaking.accumulator_refused e f (refused_function x h))
+primitive_apart {a = a} (start_differs {k = k} {t = t} {u = u} typed e F h) = breaking.accumulation_breaks typed (breaking.made_refused e F (kind_apart (accumulated_kind k t a u) (λ m. none_stands h (u, m)) h.at))
+primitive_apart {a = a} (made_differs {k = k} {t = t} {u = u} typed e F h) = breaking.accumulation_breaks typed (breaking.made_refused e F (kind_apart (accumulated_kind k t a u) (λ m. none_stands h m) h.at))
+primitive_apart {x = x} (function_differs h) = breaking.function_refused (refused_function x h)
+
+module _ {p : Program} where
+  body_apart : {Δ : Context} {s : Spot} {q : PatternId} {u : TermId} {a b c : Kind} {d : Difference} → BodyDiffers p Δ s q u a b c d → BodyBreaks p Δ s q u a b c (breach_of Mismatch d.spot)
+  body_apart (body_pattern h) = breaking.pattern_refused h.refused
+  body_apart {Δ} {s} {q} {u} {a} {b} {c} (body_output binds T h) = subst (λ r. BodyBreaks p Δ s q u a b c (breach_of Mismatch r)) (sym h.at) (breaking.body_differs binds T (other_than h))
+
+  module _ {Γ : Context} {s : Spot} where
+    form_apart : {n : Node} {a : Kind} {d : Difference} → FormDiffers p Γ s n a d → FormBreaks p Γ s n a (breach_of Mismatch d.spot)
+    form_apart h = each h
+      where
+        at_spot : {m : Node} {b : Kind} {q : Spot} → q ≡ s → FormBreaks p Γ s m b (breach_of Mismatch s) → FormBreaks p Γ s m b (breach_of Mismatch q)
+        at_spot {m} {b} at k = subst (λ r. FormBreaks p Γ s m b (breach_of Mismatch r)) (sym at) k
+
+        each : {n : Node} {a : Kind} {d : Difference} → FormDiffers p Γ s n a d → FormBreaks p Γ s n a (breach_of Mismatch d.spot)
+        each (primitive_differs h) = breaking.primitive_breaks (primitive_apart h)
+        each (process_input named h) = at_spot h.at (breaking.process_differs named (other_than h))
+        each (both_inputs h) = at_spot h.at (breaking.parallel_input (λ b c e. other_than h (b, c, e)))
+        each (side_inputs h) = at_spot h.at (breaking.side_input (λ b c e. other_than h (b, c, e)))
+        each (head_within h) = breaking.start_refused (expression_refused (expressions_of p) h)
+        each (fed_output {a = a} typed T h) = at_spot h.at (breaking.head_differs {h = LoopPre} {a = a} typed T (λ t e. other_than h (t, e)))
+        each (initial_output {a = a} typed T h) = at_spot h.at (breaking.head_differs {h = Initialized} {a = a} typed T (other_than h))
+        each (followed_output {a = a} typed T h) = at_spot h.at (breaking.head_differs {h = Followed} {a = a} typed T (other_than h))
+        each (replaced_input {a = a} typed T h) = at_spot h.at (breaking.head_differs {h = Replaced} {a = a} typed T (other_than h))
+        each (transform_within h) = breaking.transform_refused (refused_function (expressions_of p) h)
+        each (transformed_input F T h) = at_spot h.at (breaking.transform_differs F T (other_than h))
+        each (source_output T h) = at_spot h.at (breaking.source_differs T (λ b c e. other_than h (b, c, e)))
+        each (event_beside h) = at_spot h.at (breaking.recurring_input (λ b c e. other_than h (b, c, e)))
+        each (switch_body_differs w h) = breaking.switch_body_breaks w (body_apart h)
+        each (observer_output F O h) = at_spot h.at (breaking.observer_differs F O (λ c e. other_than h (c, e)))
+        each (keeping_body_differs F O h) = breaking.keeping_body_breaks F O (body_apart h)
+
+  term_apart : {Γ : Context} {i : TermId} {a : Kind} {d : Difference} → TermDiffers p Γ i a d → TermBreaks p Γ i a (breach_of Mismatch d.spot)
+  term_apart (term_itself h) = breaking.itself (form_apart h)
+  term_apart (term_within reached h) = breaking.within reached (term_apart h)
+
+  module _ {fs : TypesByName} where
+    template_apart : {h : Header} {d : Difference} → TemplateDiffers fs p h d → TemplateBreaks fs p h (breach_of Mismatch d.spot)
+    template_apart (template_within k) = breaking.breaks_within (term_apart k)
+    template_apart {h} (header_output T k) = subst (λ r. TemplateBreaks fs p h (breach_of Mismatch r)) (sym k.at) (breaking.breaks_header T (other_than k))
+
+    -- the network is refused there
+    pub network_apart : {d : Difference} → NetworkDiffers fs p d → RefusesNetwork fs p (breach_of Mismatch d.spot)
+    network_apart h = type_refused h.names (record { place = h.place; header = h.header; at = h.at; typed = h.typed; broken = template_apart h.differs })

@@ -1,0 +1,873 @@
+//! What differs in a term that is refused.
+ghost use Rattle.std.specs.Prelude.{◌≡◌, ◌<◌, IfOk, IfErr, OnOk, IfSome};
+ghost use Rattle.sf_differ.specs.Differences.{Explains};
+ghost use Rattle.sf_refusal.specs.declared.rule.Rule.TheVariants.{Mismatch};
+ghost use Rattle.sf_refusal.specs.Refusals.{breach_of};
+ghost use Rattle.sf_func.specs.Signatures.{signatures_in};
+ghost use Rattle.sf_expr.specs.Scopes.{entries_in};
+ghost use Rattle.sf_differ.specs.Differing.{PatternDiffers, ExpressionDiffers, FunctionDiffers};
+ghost use Rattle.sf_expr.specs.Arena.{expression, function_at, placed_at};
+ghost use Rattle.sf_expr.specs.Typing.{Fits, HasType, FunctionTakes};
+ghost use Rattle.sf_term.specs.Arena.{term_number, term_node_at, expressions_of, tree, templates_of};
+ghost use Rattle.sf_term.specs.declared.form.Start.{Start};
+ghost use Rattle.sf_mean.specs.Contexts.{names_of_values, context_with, inside_pattern};
+ghost use Rattle.sf_mean.specs.Typing.{Takes};
+ghost use Rattle.sf_check.specs.Contexts.{program_in, context_in};
+ghost use Rattle.sf_check.specs.Standing.{bindings_from, inside_names};
+ghost use Rattle.sf_check.specs.Names.{names_of_set, program_names, NamesDiffer};
+ghost use Rattle.sf_check.specs.Refusing.{RefusesNetwork};
+ghost use Rattle.sf_check.specs.Breaking.{pattern_in, keeping_inside, BindsInside};
+ghost use Rattle.sf_check.specs.Differing.{bare_wants, value_wants, input_wants, timed_wants, start_wants, accumulated_wants, made_wants, PrimitiveDiffers, BodyStops, TermDiffers, TemplateDiffers, NetworkDiffers};
+
+use crate::context::TypingContext;
+use crate::names::template_names;
+use crate::parameters::parameter_names;
+use crate::typing::{
+    accumulated_argument_type, check_template, output_of, parts, value_and_payload,
+};
+use indexmap::IndexSet;
+use sf_differ::{Blame, Difference, Wanted, explain_function, pattern_blame, suited, typed};
+use sf_expr::{ExprId, Frame, FunctionId, NameId, PatternId};
+use sf_func::{Holds, Registry, Signatures};
+use sf_operator::{event_type, pair_type as pair_of, payload};
+use sf_refusal::{Refusal, Spot};
+use sf_term::{
+    Accumulation, Bare, Heading, Join, Naming, Node, Observation, Primitive, Program, Side,
+    Switching, Template, TermId, Timing, WithValue,
+};
+use sf_value::Ty;
+use std::alloc::{AllocError, Global};
+
+/// The type of a constant, or what differs in it.
+fn constant(alloc: Global, context: &TypingContext, value: ExprId) -> Result<Ty, Blame>
+    ensures ok { IfOk result (λ t. HasType (names_of_values (context_in context.now)) (expression (expressions_of (program_in context.now)) value) t) }
+    ensures err { IfErr result (λ b. Explains (ExpressionDiffers (expressions_of (program_in context.now)) (names_of_values (context_in context.now)) value) b) }
+{
+    typed(
+        alloc,
+        context.program.expressions(),
+        value,
+        &context.names,
+        context.functions,
+    )
+}
+
+/// The type of what a function answers to values of a type, or what differs in it.
+fn answer(
+    alloc: Global,
+    context: &TypingContext,
+    function: FunctionId,
+    argument: &Ty,
+    spot: Spot,
+) -> Result<Ty, Blame>
+    ensures ok { IfOk result (λ t. FunctionTakes (names_of_values (context_in context.now)) (function_at (expressions_of (program_in context.now)) function) argument.now t) }
+    ensures err { IfErr result (λ b. Explains (FunctionDiffers (expressions_of (program_in context.now)) (names_of_values (context_in context.now)) function argument.now spot) b) }
+{
+    explain_function(
+        alloc,
+        context.program.expressions(),
+        function,
+        argument,
+        &context.names,
+        context.functions,
+        spot,
+    )
+}
+
+/// Which inputs a primitive without constants wants; none where any will do.
+fn bare_wanted(kind: Bare) -> Option<Wanted>
+    ensures { result ≡ bare_wants kind }
+{
+    match kind {
+        Bare::Identity => None,
+        Bare::LocalTime => None,
+        Bare::Integral => Some(Wanted::Exactly(Ty::int())),
+        Bare::Edge => Some(Wanted::Exactly(Ty::bool())),
+        Bare::NotYet => Some(Wanted::Event),
+        Bare::Once => Some(Wanted::Event),
+        Bare::Count => Some(Wanted::Event),
+        Bare::Pre => None,
+    }
+}
+
+/// Which values a primitive with a value wants; none where any will do.
+fn value_wanted(kind: WithValue) -> Option<Wanted>
+    ensures { result ≡ value_wants kind }
+{
+    match kind {
+        WithValue::Constant => None,
+        WithValue::Initially => None,
+        WithValue::InitialPre => None,
+        WithValue::InitializedPre => None,
+        WithValue::Now => None,
+        WithValue::InitialEdge => Some(Wanted::Exactly(Ty::bool())),
+        WithValue::EdgeTag => None,
+        WithValue::Hold => None,
+        WithValue::DelayedHold => None,
+    }
+}
+
+/// Which inputs it wants beside a value of a type; none where any will do. Refused at the spot where a type would be made of
+/// more than 256 types.
+fn input_wanted(
+    alloc: Global,
+    kind: WithValue,
+    given: &Ty,
+    spot: Spot,
+) -> Result<Option<Wanted>, Refusal>
+    ensures { IfOk result (λ w. w ≡ input_wants kind given.now) }
+{
+    match kind {
+        WithValue::Constant => Ok(None),
+        WithValue::Initially => Ok(Some(Wanted::Exactly(given.clone_in(alloc)?))),
+        WithValue::InitialPre => Ok(Some(Wanted::Exactly(given.clone_in(alloc)?))),
+        WithValue::InitializedPre => Ok(Some(Wanted::Exactly(given.clone_in(alloc)?))),
+        WithValue::Now => Ok(None),
+        WithValue::InitialEdge => Ok(Some(Wanted::Exactly(Ty::bool()))),
+        WithValue::EdgeTag => Ok(Some(Wanted::Exactly(Ty::bool()))),
+        WithValue::Hold => Ok(Some(Wanted::Exactly(event_type(alloc, given, spot)?))),
+        WithValue::DelayedHold => Ok(Some(Wanted::Exactly(event_type(alloc, given, spot)?))),
+    }
+}
+
+/// Which inputs a form with a time wants beside a value of a type; none where any will do.
+fn timed_wanted(alloc: Global, kind: Timing, given: &Ty) -> Result<Option<Wanted>, AllocError>
+    ensures { IfOk result (λ w. w ≡ timed_wants kind given.now) }
+{
+    match kind {
+        Timing::After => Ok(None),
+        Timing::Repeatedly => Ok(None),
+        Timing::Delay => Ok(Some(Wanted::Exactly(given.clone_in(alloc)?))),
+    }
+}
+
+/// Which values an accumulation wants to begin with, on inputs of a type; none where any will do.
+fn start_wanted(alloc: Global, kind: Accumulation, input: &Ty) -> Result<Option<Wanted>, AllocError>
+    ensures { IfOk result (λ w. w ≡ start_wants kind input.now) }
+{
+    match kind {
+        Accumulation::EdgeBy => Ok(Some(Wanted::Exactly(input.clone_in(alloc)?))),
+        Accumulation::AccumBy => Ok(None),
+        Accumulation::AccumHoldBy => Ok(None),
+        Accumulation::Scan => Ok(None),
+    }
+}
+
+/// Which inputs it wants; none where any will do.
+fn accumulated_wanted(kind: Accumulation) -> Option<Wanted>
+    ensures { result ≡ accumulated_wants kind }
+{
+    match kind {
+        Accumulation::EdgeBy => None,
+        Accumulation::AccumBy => Some(Wanted::Event),
+        Accumulation::AccumHoldBy => Some(Wanted::Event),
+        Accumulation::Scan => None,
+    }
+}
+
+/// Which values it wants its function to make, with a value of a type.
+fn made_wanted(alloc: Global, kind: Accumulation, given: &Ty) -> Result<Option<Wanted>, AllocError>
+    ensures { IfOk result (λ w. w ≡ made_wants kind given.now) }
+{
+    match kind {
+        Accumulation::EdgeBy => Ok(Some(Wanted::Event)),
+        Accumulation::AccumBy => Ok(Some(Wanted::Exactly(given.clone_in(alloc)?))),
+        Accumulation::AccumHoldBy => Ok(Some(Wanted::Exactly(given.clone_in(alloc)?))),
+        Accumulation::Scan => Ok(Some(Wanted::Exactly(given.clone_in(alloc)?))),
+    }
+}
+
+/// What differs in a primitive with a value, on inputs of a type.
+fn explain_value(
+    alloc: Global,
+    context: &TypingContext,
+    kind: WithValue,
+    value: ExprId,
+    input: &Ty,
+    spot: Spot,
+) -> Result<(), Blame>
+    ensures { IfErr result (λ b. Explains (PrimitiveDiffers (expressions_of (program_in context.now)) (context_in context.now) spot (Primitive.WithValue kind value) input.now) b) }
+{
+    let given = constant(alloc, context, value)?;
+    suited(alloc, &given, value_wanted(kind), spot)?;
+    match input_wanted(alloc, kind, &given, spot) {
+        Ok(wanted) => suited(alloc, input, wanted, spot),
+        Err(_) => Ok(()),
+    }
+}
+
+/// What differs in a form with a time, on inputs of a type.
+fn explain_timed(
+    alloc: Global,
+    context: &TypingContext,
+    kind: Timing,
+    time: i64,
+    value: ExprId,
+    input: &Ty,
+    spot: Spot,
+) -> Result<(), Blame>
+    ensures { IfErr result (λ b. Explains (PrimitiveDiffers (expressions_of (program_in context.now)) (context_in context.now) spot (Primitive.Timed kind time value) input.now) b) }
+{
+    let given = constant(alloc, context, value)?;
+    let wanted = timed_wanted(alloc, kind, &given)?;
+    suited(alloc, input, wanted, spot)
+}
+
+/// What differs in an accumulation, on inputs of a type.
+fn explain_accumulated(
+    alloc: Global,
+    context: &TypingContext,
+    kind: Accumulation,
+    value: ExprId,
+    function: FunctionId,
+    input: &Ty,
+    spot: Spot,
+) -> Result<(), Blame>
+    ensures { IfErr result (λ b. Explains (PrimitiveDiffers (expressions_of (program_in context.now)) (context_in context.now) spot (Primitive.Accumulated kind value function) input.now) b) }
+{
+    let given = constant(alloc, context, value)?;
+    suited(alloc, input, accumulated_wanted(kind), spot)?;
+    let Ok(argument) = accumulated_argument_type(alloc, kind, &given, input, spot) else {
+        return Ok(());
+    };
+    let made = answer(alloc, context, function, &argument, spot)?;
+    let wanted = start_wanted(alloc, kind, input)?;
+    suited(alloc, &given, wanted, spot)?;
+    let wanted = made_wanted(alloc, kind, &given)?;
+    suited(alloc, &made, wanted, spot)
+}
+
+/// What differs in the function of an `arr`, on inputs of a type.
+fn explain_arrow(
+    alloc: Global,
+    context: &TypingContext,
+    function: FunctionId,
+    input: &Ty,
+    spot: Spot,
+) -> Result<(), Blame>
+    ensures { IfErr result (λ b. Explains (PrimitiveDiffers (expressions_of (program_in context.now)) (context_in context.now) spot (Primitive.Arrow function) input.now) b) }
+{
+    answer(alloc, context, function, input, spot)?;
+    Ok(())
+}
+
+/// What differs in a primitive, on inputs of a type.
+fn explain_primitive(
+    alloc: Global,
+    context: &TypingContext,
+    primitive: Primitive,
+    input: &Ty,
+    spot: Spot,
+) -> Result<(), Blame>
+    ensures { IfErr result (λ b. Explains (PrimitiveDiffers (expressions_of (program_in context.now)) (context_in context.now) spot primitive input.now) b) }
+{
+    match primitive {
+        Primitive::Bare(kind) => suited(alloc, input, bare_wanted(kind), spot),
+        Primitive::Never(_) => Ok(()),
+        Primitive::WithValue(kind, value) => {
+            explain_value(alloc, context, kind, value, input, spot)
+        }
+        Primitive::Timed(kind, time, value) => {
+            explain_timed(alloc, context, kind, time, value, input, spot)
+        }
+        Primitive::Selected(_, _) => suited(alloc, input, Some(Wanted::Event), spot),
+        Primitive::Arrow(function) => explain_arrow(alloc, context, function, input, spot),
+        Primitive::Accumulated(kind, value, function) => {
+            explain_accumulated(alloc, context, kind, value, function, input, spot)
+        }
+    }
+}
+
+/// The type of the outputs of a term on inputs of a type, or what differs in it.
+#[cycle(explain)]
+fn part(alloc: Global, context: &TypingContext, term: TermId, input: &Ty) -> Result<Ty, Blame>
+    requires { Fits input.now }
+    ensures ok { IfOk result (λ t. Takes (context_in context.now) (tree (program_in context.now) term) input.now t) }
+    ensures err { IfErr result (λ b. Explains (TermDiffers (program_in context.now) (context_in context.now) term input.now) b) }
+{
+    match output_of(alloc, context, term, input) {
+        Ok(output) => Ok(output),
+        Err(Refusal::Memory) => Err(Blame::Memory),
+        Err(Refusal::Broken(_)) => {
+            explain(alloc, context, term, input)?;
+            Err(Blame::Silent)
+        }
+    }
+}
+
+/// What differs in two parts in sequence, on inputs of a type.
+#[cycle(explain)]
+fn explain_sequence(
+    alloc: Global,
+    context: &TypingContext,
+    term: TermId,
+    left: TermId,
+    right: TermId,
+    input: &Ty,
+) -> Result<(), Blame>
+    requires fits { Fits input.now }
+    requires there { term_node_at (program_in context.now) term ≡ Node.Joined Join.InSequence left right }
+    requires below { (term_number left < term_number term) × (term_number right < term_number term) }
+    ensures { IfErr result (λ b. Explains (TermDiffers (program_in context.now) (context_in context.now) term input.now) b) }
+{
+    let middle = part(alloc, context, left, input)?;
+    part(alloc, context, right, &middle)?;
+    Ok(())
+}
+
+/// What differs in two parts side by side, on inputs of a type.
+#[cycle(explain)]
+fn explain_parallel(
+    alloc: Global,
+    context: &TypingContext,
+    term: TermId,
+    left: TermId,
+    right: TermId,
+    input: &Ty,
+) -> Result<(), Blame>
+    requires fits { Fits input.now }
+    requires there { term_node_at (program_in context.now) term ≡ Node.Joined Join.InParallel left right }
+    requires below { (term_number left < term_number term) × (term_number right < term_number term) }
+    ensures { IfErr result (λ b. Explains (TermDiffers (program_in context.now) (context_in context.now) term input.now) b) }
+{
+    let spot = context.program.spot(term);
+    suited(alloc, input, Some(Wanted::Pair), spot)?;
+    let Ok((a, b)) = parts(input, spot) else {
+        return Ok(());
+    };
+    part(alloc, context, left, a)?;
+    part(alloc, context, right, b)?;
+    Ok(())
+}
+
+/// What differs in two parts that both stand on the input, on inputs of a type.
+#[cycle(explain)]
+fn explain_fan(
+    alloc: Global,
+    context: &TypingContext,
+    term: TermId,
+    left: TermId,
+    right: TermId,
+    input: &Ty,
+) -> Result<(), Blame>
+    requires fits { Fits input.now }
+    requires there { term_node_at (program_in context.now) term ≡ Node.Joined Join.FannedOut left right }
+    requires below { (term_number left < term_number term) × (term_number right < term_number term) }
+    ensures { IfErr result (λ b. Explains (TermDiffers (program_in context.now) (context_in context.now) term input.now) b) }
+{
+    part(alloc, context, left, input)?;
+    part(alloc, context, right, input)?;
+    Ok(())
+}
+
+/// What differs in a part on one side of a pair, on inputs of a type.
+#[cycle(explain)]
+fn explain_sided(
+    alloc: Global,
+    context: &TypingContext,
+    term: TermId,
+    side: Side,
+    inner: TermId,
+    input: &Ty,
+) -> Result<(), Blame>
+    requires fits { Fits input.now }
+    requires there { term_node_at (program_in context.now) term ≡ Node.Sided side inner }
+    requires below { term_number inner < term_number term }
+    ensures { IfErr result (λ b. Explains (TermDiffers (program_in context.now) (context_in context.now) term input.now) b) }
+{
+    let spot = context.program.spot(term);
+    suited(alloc, input, Some(Wanted::Pair), spot)?;
+    let Ok((a, b)) = parts(input, spot) else {
+        return Ok(());
+    };
+    match side {
+        Side::First => {
+            part(alloc, context, inner, a)?;
+            Ok(())
+        }
+        Side::Second => {
+            part(alloc, context, inner, b)?;
+            Ok(())
+        }
+    }
+}
+
+/// What differs in a part whose second outputs are fed back, on inputs of a type.
+#[cycle(explain)]
+fn explain_loop(
+    alloc: Global,
+    context: &TypingContext,
+    term: TermId,
+    value: ExprId,
+    inner: TermId,
+    input: &Ty,
+) -> Result<(), Blame>
+    requires fits { Fits input.now }
+    requires there { term_node_at (program_in context.now) term ≡ Node.Headed Heading.LoopPre value inner }
+    requires below { term_number inner < term_number term }
+    ensures { IfErr result (λ b. Explains (TermDiffers (program_in context.now) (context_in context.now) term input.now) b) }
+{
+    let spot = context.program.spot(term);
+    let given = constant(alloc, context, value)?;
+    let Ok(fed) = pair_of(alloc, input, &given, spot) else {
+        return Ok(());
+    };
+    let output = part(alloc, context, inner, &fed)?;
+    suited(alloc, &output, Some(Wanted::PairWith(given)), spot)
+}
+
+/// What differs in a part with a value in the place of its first input, on inputs of a type.
+#[cycle(explain)]
+fn explain_replaced(
+    alloc: Global,
+    context: &TypingContext,
+    term: TermId,
+    value: ExprId,
+    inner: TermId,
+    input: &Ty,
+) -> Result<(), Blame>
+    requires fits { Fits input.now }
+    requires there { term_node_at (program_in context.now) term ≡ Node.Headed Heading.Replaced value inner }
+    requires below { term_number inner < term_number term }
+    ensures { IfErr result (λ b. Explains (TermDiffers (program_in context.now) (context_in context.now) term input.now) b) }
+{
+    let spot = context.program.spot(term);
+    let given = constant(alloc, context, value)?;
+    part(alloc, context, inner, input)?;
+    let wanted = Some(Wanted::Exactly(input.clone_in(alloc)?));
+    suited(alloc, &given, wanted, spot)
+}
+
+/// What differs in a part with a value in the place of its first output, on inputs of a type.
+#[cycle(explain)]
+fn explain_initial(
+    alloc: Global,
+    context: &TypingContext,
+    term: TermId,
+    value: ExprId,
+    inner: TermId,
+    input: &Ty,
+) -> Result<(), Blame>
+    requires fits { Fits input.now }
+    requires there { term_node_at (program_in context.now) term ≡ Node.Headed Heading.Initialized value inner }
+    requires below { term_number inner < term_number term }
+    ensures { IfErr result (λ b. Explains (TermDiffers (program_in context.now) (context_in context.now) term input.now) b) }
+{
+    let spot = context.program.spot(term);
+    let given = constant(alloc, context, value)?;
+    let output = part(alloc, context, inner, input)?;
+    suited(alloc, &output, Some(Wanted::Exactly(given)), spot)
+}
+
+/// What differs in a part with a value before its outputs, on inputs of a type.
+#[cycle(explain)]
+fn explain_followed(
+    alloc: Global,
+    context: &TypingContext,
+    term: TermId,
+    value: ExprId,
+    inner: TermId,
+    input: &Ty,
+) -> Result<(), Blame>
+    requires fits { Fits input.now }
+    requires there { term_node_at (program_in context.now) term ≡ Node.Headed Heading.Followed value inner }
+    requires below { term_number inner < term_number term }
+    ensures { IfErr result (λ b. Explains (TermDiffers (program_in context.now) (context_in context.now) term input.now) b) }
+{
+    let spot = context.program.spot(term);
+    let given = constant(alloc, context, value)?;
+    let output = part(alloc, context, inner, input)?;
+    suited(alloc, &output, Some(Wanted::Exactly(given)), spot)
+}
+
+/// What differs in a part whose first input is what a function makes of it, on inputs of a type.
+#[cycle(explain)]
+fn explain_transformed(
+    alloc: Global,
+    context: &TypingContext,
+    term: TermId,
+    function: FunctionId,
+    inner: TermId,
+    input: &Ty,
+) -> Result<(), Blame>
+    requires fits { Fits input.now }
+    requires there { term_node_at (program_in context.now) term ≡ Node.Transformed function inner }
+    requires below { term_number inner < term_number term }
+    ensures { IfErr result (λ b. Explains (TermDiffers (program_in context.now) (context_in context.now) term input.now) b) }
+{
+    let spot = context.program.spot(term);
+    let made = answer(alloc, context, function, input, spot)?;
+    part(alloc, context, inner, input)?;
+    let wanted = Some(Wanted::Exactly(input.clone_in(alloc)?));
+    suited(alloc, &made, wanted, spot)
+}
+
+/// What differs in a term that gives way at an event of its own, on inputs of a type.
+#[cycle(explain)]
+fn explain_basic(
+    alloc: Global,
+    context: &TypingContext,
+    term: TermId,
+    form: Observation,
+    first: TermId,
+    pattern: PatternId,
+    body: TermId,
+    input: &Ty,
+) -> Result<(), Blame>
+    requires fits { Fits input.now }
+    requires there { term_node_at (program_in context.now) term ≡ Node.Switching (Switching.Basic form) first pattern body }
+    requires below { (term_number first < term_number term) × (term_number body < term_number term) }
+    ensures { IfErr result (λ b. Explains (TermDiffers (program_in context.now) (context_in context.now) term input.now) b) }
+{
+    let spot = context.program.spot(term);
+    let output = part(alloc, context, first, input)?;
+    suited(alloc, &output, Some(Wanted::EventBeside), spot)?;
+    let Ok((value, payload)) = value_and_payload(&output, spot) else {
+        return Ok(());
+    };
+    explain_body(alloc, context, pattern, payload, body, input, value, spot)
+}
+
+/// What differs in a term that gives way at an event beside its input, on inputs of a type.
+#[cycle(explain)]
+fn explain_recurring(
+    alloc: Global,
+    context: &TypingContext,
+    term: TermId,
+    form: Observation,
+    first: TermId,
+    pattern: PatternId,
+    body: TermId,
+    input: &Ty,
+) -> Result<(), Blame>
+    requires fits { Fits input.now }
+    requires there { term_node_at (program_in context.now) term ≡ Node.Switching (Switching.Recurring form) first pattern body }
+    requires below { (term_number first < term_number term) × (term_number body < term_number term) }
+    ensures { IfErr result (λ b. Explains (TermDiffers (program_in context.now) (context_in context.now) term input.now) b) }
+{
+    let spot = context.program.spot(term);
+    suited(alloc, input, Some(Wanted::EventBeside), spot)?;
+    let Ok((value, payload)) = value_and_payload(input, spot) else {
+        return Ok(());
+    };
+    let output = part(alloc, context, first, value)?;
+    explain_body(alloc, context, pattern, payload, body, value, &output, spot)
+}
+
+/// What differs in a term that gives way at the event that an observer sees, and is then known by a name, on inputs of a type.
+#[cycle(explain)]
+fn explain_keeping(
+    alloc: Global,
+    context: &TypingContext,
+    term: TermId,
+    form: Observation,
+    source: TermId,
+    observer: TermId,
+    name: NameId,
+    place: Spot,
+    pattern: PatternId,
+    body: TermId,
+    input: &Ty,
+) -> Result<(), Blame>
+    requires fits { Fits input.now }
+    requires there { term_node_at (program_in context.now) term ≡ Node.Keeping form source observer name place pattern body }
+    requires below { (term_number source < term_number term) × (term_number observer < term_number term) × (term_number body < term_number term) }
+    ensures { IfErr result (λ b. Explains (TermDiffers (program_in context.now) (context_in context.now) term input.now) b) }
+{
+    let spot = context.program.spot(term);
+    let value = part(alloc, context, source, input)?;
+    let Ok(watched) = pair_of(alloc, input, &value, spot) else {
+        return Ok(());
+    };
+    let seen = part(alloc, context, observer, &watched)?;
+    suited(alloc, &seen, Some(Wanted::Event), spot)?;
+    let Ok(event) = payload(&seen, spot) else {
+        return Ok(());
+    };
+    explain_kept(
+        alloc, context, name, pattern, event, body, input, &value, spot,
+    )
+}
+
+/// What differs in a body inside the name of a process from the one type to the other and a pattern for payloads of a type.
+#[cycle(explain)]
+fn explain_kept(
+    alloc: Global,
+    context: &TypingContext,
+    name: NameId,
+    pattern: PatternId,
+    payload: &Ty,
+    body: TermId,
+    input: &Ty,
+    wanted: &Ty,
+    spot: Spot,
+) -> Result<(), Blame>
+    requires { Fits input.now }
+    ensures { IfErr result (λ b. Explains (BodyStops (program_in context.now) (keeping_inside (program_in context.now) name input.now wanted.now (context_in context.now)) spot pattern body input.now wanted.now payload.now) b) }
+{
+    let names = (&*context).process_name(alloc, name, &*input, &*wanted)?;
+    explain_inside(
+        alloc, context, &names, pattern, payload, body, input, wanted, spot,
+    )
+}
+
+/// What differs in a body inside names and a pattern for payloads of a type.
+#[cycle(explain)]
+fn explain_inside(
+    alloc: Global,
+    context: &TypingContext,
+    names: &Frame,
+    pattern: PatternId,
+    payload: &Ty,
+    body: TermId,
+    input: &Ty,
+    wanted: &Ty,
+    spot: Spot,
+) -> Result<(), Blame>
+    requires { Fits input.now }
+    ensures { IfErr result (λ b. Explains (BodyStops (program_in context.now) (inside_names names.now (context_in context.now)) spot pattern body input.now wanted.now payload.now) b) }
+{
+    let inner = (&*context).within(alloc, &*names)?;
+    explain_body(alloc, &inner, pattern, payload, body, input, wanted, spot)
+}
+
+/// What differs in a body, which is to take inputs of a type to what is wanted of it, inside a pattern for payloads of a type.
+#[cycle(explain)]
+fn explain_body(
+    alloc: Global,
+    context: &TypingContext,
+    pattern: PatternId,
+    payload: &Ty,
+    body: TermId,
+    input: &Ty,
+    wanted: &Ty,
+    spot: Spot,
+) -> Result<(), Blame>
+    requires { Fits input.now }
+    ensures { IfErr result (λ b. Explains (BodyStops (program_in context.now) (context_in context.now) spot pattern body input.now wanted.now payload.now) b) }
+{
+    let names = bound(alloc, &*context, pattern, &*payload, spot)?;
+    let given = part_within(alloc, context, &names, body, input)?;
+    let wanted = Some(Wanted::Exactly(wanted.clone_in(alloc)?));
+    suited(alloc, &given, wanted, spot)
+}
+
+/// The names of a pattern for a type, or what differs.
+fn bound<'b>(
+    alloc: Global,
+    context: &'b TypingContext,
+    pattern: PatternId,
+    ty: &'b Ty,
+    spot: Spot,
+) -> Result<Frame<'b>, Blame>
+    ensures inside { IfOk result (λ names. inside_names names (context_in context.now) ≡ inside_pattern (pattern_in (program_in context.now) pattern) ty.now (context_in context.now)) }
+    ensures bound { OnOk result (BindsInside (pattern_in (program_in context.now) pattern) ty.now (context_in context.now)) }
+    ensures err { IfErr result (λ b. Explains (PatternDiffers (placed_at (expressions_of (program_in context.now)) pattern) ty.now spot) b) }
+{
+    match context.pattern_names(alloc, pattern, ty, spot) {
+        Ok(names) => Ok(names),
+        Err(refusal) => {
+            let placed = context.program.expressions().placed(pattern);
+            Err(pattern_blame(alloc, placed, ty, refusal))
+        }
+    }
+}
+
+/// The type of the outputs of a body inside names, on inputs of a type, or what differs in it.
+#[cycle(explain)]
+fn part_within(
+    alloc: Global,
+    context: &TypingContext,
+    names: &Frame,
+    body: TermId,
+    input: &Ty,
+) -> Result<Ty, Blame>
+    requires { Fits input.now }
+    ensures ok { IfOk result (λ t. Takes (inside_names names.now (context_in context.now)) (tree (program_in context.now) body) input.now t) }
+    ensures err { IfErr result (λ b. Explains (TermDiffers (program_in context.now) (inside_names names.now (context_in context.now)) body input.now) b) }
+{
+    let inner = (&*context).within(alloc, &*names)?;
+    part(alloc, &inner, body, input)
+}
+
+/// What differs in the process of a name, on inputs of a type.
+fn explain_process(
+    alloc: Global,
+    context: &TypingContext,
+    term: TermId,
+    name: NameId,
+    place: Spot,
+    input: &Ty,
+) -> Result<(), Blame>
+    requires there { (start : Start) × (term_node_at (program_in context.now) term ≡ Node.Named (Naming.Process start) name place) }
+    ensures { IfErr result (λ b. Explains (TermDiffers (program_in context.now) (context_in context.now) term input.now) b) }
+{
+    let Ok(process) = context.process(name, place) else {
+        return Ok(());
+    };
+    let wanted = Some(Wanted::Exactly(process.from.clone_in(alloc)?));
+    suited(alloc, input, wanted, context.program.spot(term))
+}
+
+/// What differs in a term that is refused on inputs of a type. Nothing is said of calls of templates and of what stands in their
+/// arguments.
+#[cycle(explain)]
+fn explain(alloc: Global, context: &TypingContext, term: TermId, input: &Ty) -> Result<(), Blame>
+    requires { Fits input.now }
+    ensures { IfErr result (λ b. Explains (TermDiffers (program_in context.now) (context_in context.now) term input.now) b) }
+{
+    match context.program.node(term) {
+        Node::Primitive(primitive) => {
+            explain_primitive_at(alloc, context, term, primitive, input)
+        }
+        Node::Named(Naming::Process(_), name, place) => {
+            explain_process(alloc, context, term, name, place, input)
+        }
+        Node::Named(Naming::Probe, _, _) => Ok(()),
+        Node::Call(_, _) => Ok(()),
+        Node::Joined(Join::InSequence, left, right) => {
+            explain_sequence(alloc, context, term, left, right, input)
+        }
+        Node::Joined(Join::InParallel, left, right) => {
+            explain_parallel(alloc, context, term, left, right, input)
+        }
+        Node::Joined(Join::FannedOut, left, right) => {
+            explain_fan(alloc, context, term, left, right, input)
+        }
+        Node::Sided(side, inner) => explain_sided(alloc, context, term, side, inner, input),
+        Node::Headed(Heading::LoopPre, value, inner) => {
+            explain_loop(alloc, context, term, value, inner, input)
+        }
+        Node::Headed(Heading::Replaced, value, inner) => {
+            explain_replaced(alloc, context, term, value, inner, input)
+        }
+        Node::Headed(Heading::Initialized, value, inner) => {
+            explain_initial(alloc, context, term, value, inner, input)
+        }
+        Node::Headed(Heading::Followed, value, inner) => {
+            explain_followed(alloc, context, term, value, inner, input)
+        }
+        Node::Transformed(function, inner) => {
+            explain_transformed(alloc, context, term, function, inner, input)
+        }
+        Node::Switching(Switching::Basic(form), first, pattern, body) => {
+            explain_basic(alloc, context, term, form, first, pattern, body, input)
+        }
+        Node::Switching(Switching::Recurring(form), first, pattern, body) => {
+            explain_recurring(alloc, context, term, form, first, pattern, body, input)
+        }
+        Node::Keeping(form, source, observer, name, place, pattern, body) => explain_keeping(
+            alloc, context, term, form, source, observer, name, place, pattern, body, input,
+        ),
+    }
+}
+
+/// What differs in the primitive at an id, on inputs of a type.
+fn explain_primitive_at(
+    alloc: Global,
+    context: &TypingContext,
+    term: TermId,
+    primitive: Primitive,
+    input: &Ty,
+) -> Result<(), Blame>
+    requires there { term_node_at (program_in context.now) term ≡ Node.Primitive primitive }
+    ensures { IfErr result (λ b. Explains (TermDiffers (program_in context.now) (context_in context.now) term input.now) b) }
+{
+    explain_primitive(alloc, context, primitive, input, context.program.spot(term))
+}
+
+/// The type of the outputs of the body of a template inside the names of its parameters, on inputs of a type, or what differs in
+/// it. The names of templates are those of all, in order.
+fn template_part(
+    alloc: Global,
+    program: &Program,
+    templates: &IndexSet<String>,
+    functions: &Signatures,
+    names: &Frame,
+    body: TermId,
+    input: &Ty,
+) -> Result<Ty, Blame>
+    requires listed { names_of_set templates.now ≡ program_names program.now }
+    requires fits { Fits input.now }
+    ensures ok { IfOk result (λ t. Takes (context_with (signatures_in functions.now) (bindings_from (entries_in names.now)) (templates_of program.now)) (tree program.now body) input.now t) }
+    ensures err { IfErr result (λ b. Explains (TermDiffers program.now (context_with (signatures_in functions.now) (bindings_from (entries_in names.now)) (templates_of program.now)) body input.now) b) }
+{
+    let context = TypingContext::of_body(alloc, program, templates, functions, &*names)?;
+    part(alloc, &context, body, input)
+}
+
+/// What differs in a template. The names are those of all templates, in order.
+fn explain_template(
+    alloc: Global,
+    program: &Program,
+    names: &IndexSet<String>,
+    functions: &Signatures,
+    template: &Template,
+) -> Result<(), Blame>
+    requires { names_of_set names.now ≡ program_names program.now }
+    ensures { IfErr result (λ b. Explains (TemplateDiffers (signatures_in functions.now) program.now template.now) b) }
+{
+    let parameters = parameter_names(alloc, template.parameters())?;
+    let input = template.input();
+    prove!(input.nodes() <= 256);
+    let body = template.body();
+    let output = template_part(alloc, program, names, functions, &parameters, body, input)?;
+    let wanted = Some(Wanted::Exactly(template.output().clone_in(alloc)?));
+    suited(alloc, &output, wanted, program.spot(body))
+}
+
+/// What differs in the first template that is refused. The names are those of all templates, in order.
+fn explain_templates(
+    alloc: Global,
+    program: &Program,
+    names: &IndexSet<String>,
+    functions: &Signatures,
+) -> Result<(), Blame>
+    requires listed { names_of_set names.now ≡ program_names program.now }
+    requires different { NamesDiffer program.now }
+    ensures { IfErr result (λ b. Explains (NetworkDiffers (signatures_in functions.now) program.now) b) }
+{
+    for template in program.templates() {
+        match check_template(alloc, program, names, functions, template) {
+            Ok(()) => {}
+            Err(Refusal::Memory) => return Err(Blame::Memory),
+            Err(Refusal::Broken(_)) => {
+                return explain_template(alloc, program, names, functions, template);
+            }
+        }
+    }
+    Ok(())
+}
+
+/// What differs in a network, with stored functions of these types.
+fn explain_network(alloc: Global, program: &Program, functions: &Signatures) -> Result<(), Blame>
+    ensures { IfErr result (λ b. Explains (NetworkDiffers (signatures_in functions.now) program.now) b) }
+{
+    match template_names(alloc, program) {
+        Ok(names) => explain_templates(alloc, program, &names, functions),
+        Err(_) => Ok(()),
+    }
+}
+
+/// What was found and what is wanted where `check` refuses a network for `Mismatch`: the place is that of the refusal.
+///
+/// `None` where it is refused for another rule or not at all. So it is where what is blamed is a call of a template or
+/// stands in an argument of one, or is a name that stands for no value or for no process.
+pub fn difference(
+    alloc: Global,
+    program: &Program,
+    functions: &Registry,
+) -> Result<Option<Difference>, AllocError>
+    // In the form that is blamed stands a type that was found, and in its place others are wanted.
+    ensures differs { IfOk result (λ found. IfSome found (λ d. NetworkDiffers (⟦<Registry as Holds>⟧.types functions.now) program.now d)) }
+    // `check` refuses the network there.
+    ensures refused { IfOk result (λ found. IfSome found (λ d. RefusesNetwork (⟦<Registry as Holds>⟧.types functions.now) program.now (breach_of Mismatch d.spot))) }
+{
+    let signatures = functions.signatures(alloc)?;
+    match explain_network(alloc, program, &signatures) {
+        Ok(()) => Ok(None),
+        Err(Blame::Silent) => Ok(None),
+        Err(Blame::Memory) => Err(AllocError),
+        Err(Blame::Differs(difference)) => Ok(Some(difference)),
+    }
+}

@@ -1,0 +1,23 @@
+use Rattle.std.proofs.Common.{sym, ap, ◌∙◌, subst}
+use Rattle.std.specs.Prelude.{◌≢◌}
+use Rattle.sf_value.specs.Values.{Name}
+use Rattle.sf_expr.specs.declared.exprs.Exprs.{Exprs}
+use Rattle.sf_expr.specs.Patterns.{PlacedPattern, pattern_of}
+use Rattle.sf_expr.specs.Arena.{name_at, placed_at}
+use Rattle.sf_coincidence.specs.Mentions.{BindsOthers}
+use Rattle.sf_law.proofs.Naming.{ok_both}
+use Rattle.sf_law.proofs.Covering.{covers_releasing}
+use Rattle.sf_law.proofs.mentioned.Mentioned.add_releasing.Goals as goal
+
+pub returns : goal.returns
+returns c = λ t B.
+    let p = c.args.plan.now in
+    let s = c.args.releasing.now in
+    let placed = c.placed.ensures ∙ ap (λ (x : Exprs). placed_at x s.pattern) c.expressions-exprs.ensures in
+    let name = c.name_of-name.ensures ∙ ap (λ (x : Exprs). name_at x s.name) c.expressions-exprs.ensures in
+    let members = rw c.deref.ensures at c.in_ok-add_collection.ensures.added in
+    let observer = c.in_ok-add_part.ensures in
+    ok_both c.add_body.result
+    (λ kept added. covers_releasing p c.add_body.new.self B (λ k x h. kept x (observer.kept x (members k x h))) (λ x h. kept x (observer.added x (c.requires s.observer x h)))
+    (λ x h free. added x (c.requires s.body x h) (subst (λ (n : Name). n ≢ x) (sym name) free.0, subst (λ (q : PlacedPattern). BindsOthers (pattern_of q) x) (sym placed) free.1)))
+    c.add_body.ensures.kept c.add_body.ensures.added

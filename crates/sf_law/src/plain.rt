@@ -1,0 +1,331 @@
+//! The plan that is a program itself.
+ghost use Rattle.std.specs.Prelude.{◌≡◌, List, map, All, IsTrue, IfOk, OnOk};
+ghost use Rattle.std.specs.List.{AllZip};
+ghost use Rattle.sf_expr.specs.Arena.{function_at, placed_at, HoldsPattern, Keeps};
+ghost use Rattle.sf_expr.specs.Patterns.{placed_name};
+ghost use Rattle.sf_term.specs.Arena.{expressions_of as program_expressions, headers_of as program_headers};
+ghost use Rattle.sf_term.specs.declared.node.Node.TheVariants.{Call as call_node, Named as named_node};
+ghost use Rattle.sf_code.specs.Worth.{IsCodeOfFunction};
+ghost use Rattle.sf_refusal.specs.declared.spot.Spot.{Spot};
+ghost use Rattle.sf_law.specs.Headers.{PlanHeader};
+ghost use Rattle.sf_law.specs.Entries.{IsCodedPrimitive, IsCodedArgument, IsCoded, calls_first};
+ghost use Rattle.sf_law.specs.Arena.{plan_expressions, plan_asked, node_count, plan_headers};
+ghost use Rattle.sf_law.specs.Copies.{plan_id as id_of, named_process, CopiesArgument, CopiesPrimitive, CopiesNode, CopiesParameter, CopiesTemplate, ShowsTerms};
+ghost use Rattle.sf_law.specs.Plans.{IsPlanOf};
+ghost use Rattle.sf_law.specs.declared.mentioned.Mentioned.TheVariants.{Any as any_name};
+
+use crate::node::{PlanArgument, PlanId, PlanNode, PlanPrimitive};
+use crate::plan::Plan;
+use crate::template::{PlanParameter, PlanTemplate};
+use sf_code::{OpenCode, expression_code, function_code};
+use sf_expr::{Exprs, FunctionId, NameId, Pat, PatternId};
+use sf_term::{
+    Argument, ArgumentsId, Naming, Node, Parameter, Primitive, Program, Start, Template, TermId,
+};
+use std::alloc::{AllocError, Global};
+use std::rc::Rc;
+
+/// The plan that is a program itself, of which this term is run.
+pub fn plain_plan(alloc: Global, program: &Program, main: TermId) -> Result<Plan, AllocError>
+    ensures { IfOk result (λ plan. IsPlanOf program.now main plan) }
+{
+    let empty = empty_plan(alloc, program)?;
+    let plan = with_terms(alloc, empty, program)?;
+    let listed = plan.with_main(plan_id(main)).with_mentions(alloc)?;
+    Ok(listed)
+}
+
+/// A plan with the expressions and the templates of a program, and no term yet.
+pub fn empty_plan(alloc: Global, program: &Program) -> Result<Plan, AllocError>
+    ensures empty { IfOk result (λ plan. node_count plan ≡ 0) }
+    ensures asked { IfOk result (λ plan. plan_asked plan ≡ any_name) }
+    ensures kept { IfOk result (λ plan. Keeps (program_expressions program.now) (plan_expressions plan)) }
+    ensures copied { IfOk result (λ plan. AllZip (CopiesTemplate (plan_expressions plan)) (program_headers program.now) (plan_headers plan)) }
+{
+    let mut expressions = program.expressions().clone_in(alloc)?;
+    let templates = plan_templates(alloc, &mut expressions, program.templates())?;
+    Plan::new(alloc, expressions, templates)
+}
+
+// The templates of a program, in order, with names and patterns of their parameters among expressions.
+fn plan_templates(
+    alloc: Global,
+    expressions: &mut Exprs,
+    templates: &[Template],
+) -> Result<Vec<PlanTemplate>, AllocError>
+    ensures kept { OnOk result (Keeps expressions.old expressions.new) }
+    ensures copied { IfOk result (λ copies. AllZip (CopiesTemplate expressions.new) templates.now copies.items) }
+{
+    let mut copies = Vec::new(alloc);
+    for template in templates {
+        copies.push(plan_template(alloc, expressions, template)?)?;
+    }
+    Ok(copies)
+}
+
+// A template, with names and patterns of its parameters among expressions.
+fn plan_template(
+    alloc: Global,
+    expressions: &mut Exprs,
+    template: &Template,
+) -> Result<PlanTemplate, AllocError>
+    ensures kept { OnOk result (Keeps expressions.old expressions.new) }
+    ensures copied { IfOk result (λ copy. CopiesTemplate expressions.new template.now copy) }
+{
+    let mut parameters = Vec::new(alloc);
+    for parameter in template.parameters() {
+        parameters.push(plan_parameter(alloc, expressions, parameter)?)?;
+    }
+    let name = String::from_str(alloc, template.name())?;
+    let input = template.input().clone_in(alloc)?;
+    let output = template.output().clone_in(alloc)?;
+    let body = plan_id(template.body());
+    Ok(PlanTemplate::new(name, parameters, input, output, body))
+}
+
+// A parameter, with its name and the pattern that binds it among expressions.
+fn plan_parameter(
+    alloc: Global,
+    expressions: &mut Exprs,
+    parameter: &Parameter,
+) -> Result<PlanParameter, AllocError>
+    ensures kept { OnOk result (Keeps expressions.old expressions.new) }
+    ensures copied { IfOk result (λ copy. CopiesParameter expressions.new parameter.now copy) }
+{
+    let name = expressions.name(String::from_str(alloc, parameter.name())?)?;
+    let pattern = parameter_pattern(alloc, expressions, parameter)?;
+    let form = parameter.form().clone_in(alloc)?;
+    Ok(PlanParameter::new(name, pattern, form))
+}
+
+// The pattern that binds the name of a parameter, among expressions.
+fn parameter_pattern(
+    alloc: Global,
+    expressions: &mut Exprs,
+    parameter: &Parameter,
+) -> Result<PatternId, AllocError>
+    ensures kept { OnOk result (Keeps expressions.old expressions.new) }
+    ensures held { IfOk result (λ pattern. HoldsPattern expressions.new pattern) }
+    ensures bound { IfOk result (λ pattern. placed_at expressions.new pattern ≡ placed_name parameter.now.name parameter.now.spot) }
+{
+    let pattern = Pat::name(String::from_str(alloc, parameter.name())?, parameter.spot());
+    match expressions.pattern_in(pattern) {
+        Ok(pattern) => Ok(pattern),
+        Err(_) => Err(AllocError),
+    }
+}
+
+// A plan with the terms of a program, where it has none yet.
+fn with_terms(alloc: Global, empty: Plan, program: &Program) -> Result<Plan, AllocError>
+    requires empty { node_count empty ≡ 0 }
+    requires kept { Keeps (program_expressions program.now) (plan_expressions empty) }
+    ensures terms { IfOk result (λ plan. ShowsTerms program.now plan) }
+    ensures templates { IfOk result (λ plan. plan_headers plan ≡ plan_headers empty) }
+    ensures expressions { IfOk result (λ plan. plan_expressions plan ≡ plan_expressions empty) }
+{
+    let mut plan = empty;
+    copy_terms(alloc, &mut plan, program).map(|()| plan)
+}
+
+// The terms of a program, under ids of the same numbers, each with its code.
+fn copy_terms(alloc: Global, plan: &mut Plan, program: &Program) -> Result<(), AllocError>
+    requires empty { node_count plan.old ≡ 0 }
+    requires kept { Keeps (program_expressions program.now) (plan_expressions plan.old) }
+    ensures terms { OnOk result (ShowsTerms program.now plan.new) }
+    ensures templates { plan_headers plan.new ≡ plan_headers plan.old }
+    ensures expressions { plan_expressions plan.new ≡ plan_expressions plan.old }
+{
+    for number in 0..program.len() {
+        let node = program.node(program.term(number));
+        let copy = plan_node(alloc, plan, program, node)?;
+        plan.add(copy)?;
+    }
+    Ok(())
+}
+
+// A node with the ids of the same numbers, and with its code.
+fn plan_node(
+    alloc: Global,
+    plan: &Plan,
+    program: &Program,
+    node: Node,
+) -> Result<PlanNode, AllocError>
+    ensures same { IfOk result (λ copy. CopiesNode program.now node copy) }
+    ensures coded { IfOk result (λ copy. IsCoded (plan_expressions plan.now) copy) }
+    ensures called { IfOk result (λ copy. IsTrue (calls_first (plan_expressions plan.now) (plan_headers plan.now) copy)) }
+{
+    let exprs = plan.expressions();
+    match node {
+        Node::Primitive(primitive) => {
+            let primitive = plan_primitive(alloc, exprs, primitive)?;
+            Ok(PlanNode::Primitive(primitive))
+        }
+        Node::Named(form, name, _) => {
+            let named = plan_named(alloc, program, form, name)?;
+            Ok(named)
+        }
+        Node::Call(name, arguments) => plan_call(alloc, plan, program, name, arguments),
+        Node::Joined(join, first, second) => {
+            Ok(PlanNode::Joined(join, plan_id(first), plan_id(second)))
+        }
+        Node::Sided(side, part) => Ok(PlanNode::Sided(side, plan_id(part))),
+        Node::Headed(heading, value, part) => {
+            let code = expression_code(alloc, exprs, value)?;
+            Ok(PlanNode::Headed(heading, value, code, plan_id(part)))
+        }
+        Node::Transformed(function, part) => {
+            let head = function_code(alloc, exprs, function)?;
+            Ok(PlanNode::Transformed(function, head, plan_id(part)))
+        }
+        Node::Switching(form, source, pattern, body) => {
+            let source = plan_id(source);
+            Ok(PlanNode::Switching(form, source, pattern, plan_id(body)))
+        }
+        Node::Keeping(shown, source, observer, name, _, pattern, body) => {
+            let source = plan_id(source);
+            let observer = plan_id(observer);
+            let body = plan_id(body);
+            Ok(PlanNode::Keeping(shown, source, observer, name, pattern, body))
+        }
+    }
+}
+
+/// A form that is a name alone.
+pub fn plan_named(
+    alloc: Global,
+    program: &Program,
+    form: Naming,
+    name: NameId,
+) -> Result<PlanNode, AllocError>
+    ensures same { IfOk result (λ copy. (place : Spot) → CopiesNode program.now (named_node form name place) copy) }
+    ensures coded { IfOk result (λ copy. (x : Exprs) → IsCoded x copy) }
+    ensures called { IfOk result (λ copy. (x : Exprs) (headers : List PlanHeader) → IsTrue (calls_first x headers copy)) }
+{
+    match form {
+        Naming::Process(start) => Ok(PlanNode::Started(start, name)),
+        Naming::Probe => {
+            let text = String::from_str(alloc, program.expressions().name_of(name))?;
+            let shared = Rc::new(alloc, text)?;
+            Ok(PlanNode::Probe(shared))
+        }
+    }
+}
+
+// A call of the first template of a name.
+fn plan_call(
+    alloc: Global,
+    plan: &Plan,
+    program: &Program,
+    name: NameId,
+    arguments: ArgumentsId,
+) -> Result<PlanNode, AllocError>
+    ensures same { IfOk result (λ copy. CopiesNode program.now (call_node name arguments) copy) }
+    ensures coded { IfOk result (λ copy. IsCoded (plan_expressions plan.now) copy) }
+    ensures called { IfOk result (λ copy. IsTrue (calls_first (plan_expressions plan.now) (plan_headers plan.now) copy)) }
+{
+    let exprs = plan.expressions();
+    let template = plan.template_named(exprs.name_of(name));
+    let arguments = plan_arguments(alloc, exprs, program, program.arguments(arguments))?;
+    Ok(PlanNode::Call(name, template, arguments))
+}
+
+// The arguments of a call, in order, with their code.
+fn plan_arguments(
+    alloc: Global,
+    exprs: &Exprs,
+    program: &Program,
+    arguments: &[Argument],
+) -> Result<Vec<PlanArgument>, AllocError>
+    ensures same { IfOk result (λ copies. AllZip (CopiesArgument program.now) arguments.now copies.items) }
+    ensures coded { IfOk result (λ copies. All (IsCodedArgument exprs.now) copies.items) }
+{
+    let mut copies = Vec::new(alloc);
+    for argument in arguments {
+        copies.push(plan_argument(alloc, exprs, program, argument)?)?;
+    }
+    Ok(copies)
+}
+
+// An argument, with its code. A named process is told apart here.
+fn plan_argument(
+    alloc: Global,
+    exprs: &Exprs,
+    program: &Program,
+    argument: &Argument,
+) -> Result<PlanArgument, AllocError>
+    ensures same { IfOk result (λ copy. CopiesArgument program.now argument.now copy) }
+    ensures coded { IfOk result (λ copy. IsCodedArgument exprs.now copy) }
+{
+    match *argument {
+        Argument::Value(value) => {
+            let code = expression_code(alloc, exprs, value)?;
+            Ok(PlanArgument::Value(value, code))
+        }
+        Argument::Process(term) => match started(program.node(term)) {
+            Some((start, name)) => Ok(PlanArgument::Started(start, name)),
+            None => Ok(PlanArgument::Closed(plan_id(term))),
+        },
+    }
+}
+
+/// Where the process begins that a node is, and its name, where it is a named one.
+pub fn started(node: Node) -> Option<(Start, NameId)>
+    ensures { result ≡ named_process node }
+{
+    match node {
+        Node::Named(Naming::Process(start), name, _) => Some((start, name)),
+        _ => None,
+    }
+}
+
+/// A primitive with its code.
+pub fn plan_primitive(
+    alloc: Global,
+    exprs: &Exprs,
+    primitive: Primitive,
+) -> Result<PlanPrimitive, AllocError>
+    ensures same { IfOk result (λ copy. CopiesPrimitive primitive copy) }
+    ensures coded { IfOk result (λ copy. IsCodedPrimitive exprs.now copy) }
+{
+    match primitive {
+        Primitive::Bare(form) => Ok(PlanPrimitive::Bare(form)),
+        Primitive::Never(constant) => Ok(PlanPrimitive::Never(constant)),
+        Primitive::WithValue(form, value) => {
+            let code = expression_code(alloc, exprs, value)?;
+            Ok(PlanPrimitive::WithValue(form, value, code))
+        }
+        Primitive::Timed(form, time, value) => {
+            let code = expression_code(alloc, exprs, value)?;
+            Ok(PlanPrimitive::Timed(form, time, value, code))
+        }
+        Primitive::Selected(form, count) => Ok(PlanPrimitive::Selected(form, count)),
+        Primitive::Arrow(function) => {
+            let code = shared_code(alloc, exprs, function)?;
+            Ok(PlanPrimitive::Arrow(function, code))
+        }
+        Primitive::Accumulated(form, value, function) => {
+            let start = expression_code(alloc, exprs, value)?;
+            let code = shared_code(alloc, exprs, function)?;
+            Ok(PlanPrimitive::Accumulated(form, value, start, function, code))
+        }
+    }
+}
+
+// The code of a function, to be shared.
+fn shared_code(
+    alloc: Global,
+    exprs: &Exprs,
+    function: FunctionId,
+) -> Result<Rc<OpenCode>, AllocError>
+    ensures { IfOk result (λ code. IsCodeOfFunction (function_at exprs.now function) code.value) }
+{
+    let code = function_code(alloc, exprs, function)?;
+    Ok(Rc::new(alloc, code)?)
+}
+
+// The id of the same number.
+fn plan_id(term: TermId) -> PlanId
+    ensures { result ≡ id_of term }
+{
+    PlanId(term.number())
+}

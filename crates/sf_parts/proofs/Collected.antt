@@ -1,0 +1,269 @@
+-- What a collection makes, and what goes on after it.
+use Rattle.std.proofs.Common.{◌≡◌, ℕ, Bool, true, false, cond, List, [], ◌∷◌, ◌++◌, map, length, Result, Ok, Err, refl, sym, ap, ◌∙◌, subst, arith, ◌⊎◌, inl, inr, Vec}
+use Rattle.std.specs.declared.alloc.Global.{Global}
+use Rattle.std.specs.declared.rc.Rc.{Rc}
+use Rattle.sf_value.specs.Values.{KeyData, Data}
+use Rattle.sf_value.specs.View.{key_of}
+use Rattle.sf_value.specs.declared.fault.Fault.{Fault}
+use Rattle.sf_value.specs.declared.value.Key.{Key}
+use Rattle.sf_func.specs.Registries.{AnswersByName}
+use Rattle.sf_operator.specs.Answers.{Evaluates}
+use Rattle.sf_operator.specs.FunctionForms.{value_of_key}
+use Rattle.sf_operator.specs.declared.fault.EvalFault.{EvalFault}
+use Rattle.sf_operator.specs.declared.fault.EvalFault.TheVariants.{Value as EValue, Memory as EMemory}
+use Rattle.sf_expr.specs.Expressions.{Expression}
+use Rattle.sf_expr.specs.Evaluation.{Evaluated, Scope, answer, failed, ◌>>=◌, eval}
+use Rattle.sf_code.specs.Names.{scope_with}
+use Rattle.sf_term.specs.Trees.{Term}
+use Rattle.sf_mean.specs.Lives.{Process, closure, Environment, Members, no_members, member, scope_around}
+use Rattle.sf_mean.specs.Formulas.{is_high}
+use Rattle.sf_mean.specs.Collections.{as_key, add, drop, keep}
+use Rattle.sf_law.specs.declared.plan.Plan.{Plan}
+use Rattle.sf_state.specs.declared.state.State.{State}
+use Rattle.sf_state.specs.declared.env.Env.{Env}
+use Rattle.sf_state.specs.Names.{values_around}
+use Rattle.sf_state.specs.Standing.{IsNames, Stands, Gathers, EachStands, none_stands, one_stands, keys_in}
+use Rattle.sf_state.specs.declared.state.Live.TheVariants.{Gathered as LGathered}
+use Rattle.sf_state.proofs.Copies.{gathers_where}
+use Rattle.sf_state.proofs.Scopes.{scope_is}
+use Rattle.sf_parts.specs.declared.placing.Gathered.{Gathered}
+use Rattle.sf_parts.specs.Answering.{fault_from}
+use Rattle.sf_parts.specs.Beginning.{Makes, makes, makes_fault, makes_nothing}
+use Rattle.sf_parts.specs.Collecting.{HasMembers, MakesMembers}
+
+-- ## What goes on after an evaluation
+
+module _ {A B C : Type 0} (stands : A → B → Type 0) (w : Evaluated C) (f : C → Evaluated B) where
+  -- with what it answers
+  pub goes_on : (c : C) (r : Result A Fault) → w ≡ answer c → Makes stands (f c) r → Makes stands (w >>= f) r
+  goes_on c r h m = subst (λ w. Makes stands (w >>= f) r) (sym h) m
+
+  module _ {D : Type 0} (before : D → C → Type 0) where
+    pub after_made : (d : D) (r : Result A Fault) → Makes before w (Ok d) → ((c : C) → before d c → Makes stands (f c) r) → Makes stands (w >>= f) r
+    after_made d r (makes {b = c} h s) g = goes_on c r h (g c s)
+
+    -- its fault is that of all
+    pub after_fault : (x : Fault) → Makes before w (Err x) → Makes stands (w >>= f) (Err x)
+    after_fault x (makes_fault h) = makes_fault (ap (λ w. w >>= f) h)
+    after_fault x makes_nothing = makes_nothing
+
+module _ (φ : AnswersByName) (p : Plan) (names : Env) (e : Environment) (N : IsNames φ p names e) where
+  -- ## What is evaluated among names
+
+  -- the scope, as the names have it
+  abbrev scope_in : Scope
+  scope_in = scope_with (values_around p names) φ
+
+  module _ (run : Scope → Evaluated Data) where
+    pub worth_in : (v : Data) → run scope_in ≡ answer v → run (scope_around φ e) ≡ answer v
+    worth_in v h = ap run (sym (scope_is φ p names e N)) ∙ h
+
+    pub told_in : {A : Type 0} (stands : A → Data → Type 0) (v : Data) (a : A) → run scope_in ≡ answer v → stands a v → Makes stands (run (scope_around φ e)) (Ok a)
+    told_in stands v a h s = makes (worth_in v h) s
+
+    pub fails_in : {A B : Type 0} (stands : A → B → Type 0) (f : Data → Evaluated B) (x : EvalFault) → Evaluates (Err x) (run scope_in) → Makes stands (run (scope_around φ e) >>= f) (Err (fault_from x))
+    fails_in stands f (EValue y) h = makes_fault (ap (λ w. w >>= f) (ap run (sym (scope_is φ p names e N)) ∙ h))
+    fails_in stands f EMemory h = makes_nothing
+
+    pub not_told_in : {A : Type 0} (stands : A → Data → Type 0) (x : EvalFault) → Evaluates (Err x) (run scope_in) → Makes stands (run (scope_around φ e)) (Err (fault_from x))
+    not_told_in stands (EValue y) h = makes_fault (ap run (sym (scope_is φ p names e N)) ∙ h)
+    not_told_in stands EMemory h = makes_nothing
+
+  module _ (j : Expression) (v : Data) (k : KeyData) (g : Gathered) (ms : Members) (h : eval j scope_in ≡ answer v) (same : k ≡ as_key v) where
+    -- one more member under the key that a value is
+    pub is_added : (t : Term) → HasMembers φ p g (add k (closure t e) ms) → MakesMembers φ p (eval j (scope_around φ e) >>= λ v. answer (add (as_key v) (closure t e) ms)) (Ok g)
+    is_added t G = goes_on (HasMembers φ p) (eval j (scope_around φ e)) (λ v. answer (add (as_key v) (closure t e) ms)) v (Ok g) (worth_in (eval j) v h) (makes refl (subst (λ k. HasMembers φ p g (add k (closure t e) ms)) same G))
+
+    -- one less
+    pub is_dropped : HasMembers φ p g (drop k ms) → MakesMembers φ p (eval j (scope_around φ e) >>= λ v. answer (drop (as_key v) ms)) (Ok g)
+    is_dropped G = goes_on (HasMembers φ p) (eval j (scope_around φ e)) (λ v. answer (drop (as_key v) ms)) v (Ok g) (worth_in (eval j) v h) (makes refl (subst (λ k. HasMembers φ p g (drop k ms)) same G))
+
+-- ## The members whose keys a function keeps
+
+same_answer : {A : Type 0} (w : Evaluated A) → w ≡ (w >>= λ a. answer a)
+same_answer (answer a) = refl
+same_answer (failed x) = refl
+
+answers_twice : {A B C : Type 0} (w : Evaluated A) (f : A → B) (g : B → C) → ((w >>= λ a. answer (f a)) >>= λ b. answer (g b)) ≡ (w >>= λ a. answer (g (f a)))
+answers_twice (answer a) f g = refl
+answers_twice (failed x) f g = refl
+
+answers_alike : {A B : Type 0} (w : Evaluated A) (f g : A → B) → ((a : A) → f a ≡ g a) → (w >>= λ a. answer (f a)) ≡ (w >>= λ a. answer (g a))
+answers_alike (answer a) f g h = ap answer (h a)
+answers_alike (failed x) f g h = refl
+
+-- members and others after them
+abbrev pub followed : Members → Members → Members
+followed no_members ns = ns
+followed (member k P ms) ns = member k P (followed ms ns)
+
+-- members and one after them
+abbrev pub ended_by : Members → KeyData → Process → Members
+ended_by no_members k P = member k P no_members
+ended_by (member l Q ms) k P = member l Q (ended_by ms k P)
+
+followed_by_none : (ms : Members) → followed ms no_members ≡ ms
+followed_by_none no_members = refl
+followed_by_none (member k P ms) = ap (member k P) (followed_by_none ms)
+
+followed_by_one : (ms : Members) (k : KeyData) (P : Process) (ns : Members) → followed ms (member k P ns) ≡ followed (ended_by ms k P) ns
+followed_by_one no_members k P ns = refl
+followed_by_one (member l Q ms) k P ns = ap (member l Q) (followed_by_one ms k P ns)
+
+keys_ended : (ms : Members) (k : KeyData) (P : Process) → keys_in (ended_by ms k P) ≡ keys_in ms ++ k ∷ []
+keys_ended no_members k P = refl
+keys_ended (member l Q ms) k P = ap (λ ks. l ∷ ks) (keys_ended ms k P)
+
+first_same : {A : Type 0} {a b : A} {xs ys : List A} → a ∷ xs ≡ b ∷ ys → a ≡ b
+first_same e = cc
+
+rest_same : {A : Type 0} {a b : A} {xs ys : List A} → a ∷ xs ≡ b ∷ ys → xs ≡ ys
+rest_same e = cc
+
+map_last : {A B : Type 0} (f : A → B) (xs : List A) (x : A) → map f (xs ++ x ∷ []) ≡ map f xs ++ f x ∷ []
+map_last f [] x = refl
+map_last f (y ∷ xs) x = ap (λ ys. f y ∷ ys) (map_last f xs x)
+
+module _ (φ : AnswersByName) (p : Plan) where
+  stand_ended : {bs : List State} {ms : Members} {a : State} {P : Process} (k : KeyData) → EachStands φ p bs ms [] → Stands φ p a P [] → EachStands φ p (bs ++ a ∷ []) (ended_by ms k P) []
+  stand_ended k none_stands A = one_stands A none_stands
+  stand_ended k (one_stands B S) A = one_stands B (stand_ended k S A)
+
+  module _ (ask : Data → Evaluated Data) (ms : Members) where
+    -- Some keys have been asked for, and these are kept; the others come next.
+    pub record Sifted (ks : List Key) (bs : List State) (under : List Key) (kept : List State) : Type 0 where
+      pub next : Members
+      pub done : Members
+      pub next_keys : map key_of ks ≡ keys_in next
+      pub next_stand : EachStands φ p bs next []
+      pub done_keys : map key_of under ≡ keys_in done
+      pub done_stand : EachStands φ p kept done []
+      pub goes : keep ask ms ≡ (keep ask next >>= λ ns. answer (followed done ns))
+
+    pub none_sifted : (ks : List Key) (bs : List State) (under : List Key) (kept : List State) → map key_of ks ≡ keys_in ms → EachStands φ p bs ms [] → under ≡ [] → kept ≡ [] → Sifted ks bs under kept
+    none_sifted ks bs under kept K S no_key no_state = record {
+      next = ms;
+      done = no_members;
+      next_keys = K;
+      next_stand = S;
+      done_keys = ap (map key_of) no_key;
+      done_stand = subst (λ bs. EachStands φ p bs no_members []) (sym no_state) none_stands;
+      goes = same_answer (keep ask ms);
+    }
+
+    -- what is told of a key
+    abbrev Told : KeyData → Result Bool Fault → Type 0
+    Told k r = Makes (λ b v. b ≡ is_high v) (ask (value_of_key k)) r
+
+    -- the first that comes next, with what it tells
+    asked_one : (k : KeyData) (P : Process) (rest done : Members) (v : Data) → ask (value_of_key k) ≡ answer v
+        → (keep ask (member k P rest) >>= λ ns. answer (followed done ns)) ≡ (keep ask rest >>= λ ns. answer (followed done (cond (is_high v) (member k P ns) ns)))
+    asked_one k P rest done v h =
+        ap (λ w. (w >>= λ b. keep ask rest >>= λ ns. answer (cond (is_high b) (member k P ns) ns)) >>= λ ns. answer (followed done ns)) h
+        ∙ answers_twice (keep ask rest) (λ ns. cond (is_high v) (member k P ns) ns) (followed done)
+
+    -- it is kept
+    one_kept : {k : KeyData} {P : Process} {rest : Members} (key own : Key) (ks under more : List Key) (a : State) (bs kept longer : List State) (done : Members)
+        → key_of key ∷ map key_of ks ≡ k ∷ keys_in rest → Stands φ p a P [] → EachStands φ p bs rest [] → map key_of under ≡ keys_in done → EachStands φ p kept done []
+        → keep ask ms ≡ (keep ask (member k P rest) >>= λ ns. answer (followed done ns))
+        → Told (key_of key) (Ok true) → key_of own ≡ key_of key → more ≡ under ++ own ∷ [] → longer ≡ kept ++ a ∷ [] → Sifted ks bs more longer
+    one_kept {k} {P} {rest} key own ks under more a bs kept longer done K A S D E goes (makes {b = v} h told) same put also = record {
+      next = rest;
+      done = ended_by done k P;
+      next_keys = rest_same K;
+      next_stand = S;
+      done_keys = ap (map key_of) put ∙ map_last key_of under own ∙ ap (λ ls. ls ++ key_of own ∷ []) D ∙ ap (λ l. keys_in done ++ l ∷ []) (same ∙ first_same K) ∙ sym (keys_ended done k P);
+      done_stand = subst (λ bs. EachStands φ p bs (ended_by done k P) []) (sym also) (stand_ended k E A);
+      goes = goes ∙ asked_one k P rest done v (ap (λ l. ask (value_of_key l)) (sym (first_same K)) ∙ h)
+          ∙ answers_alike (keep ask rest) (λ ns. followed done (cond (is_high v) (member k P ns) ns)) (followed (ended_by done k P)) (λ ns. ap (λ b. followed done (cond b (member k P ns) ns)) (sym told) ∙ followed_by_one done k P ns);
+    }
+
+    -- it is left out
+    one_left : {k : KeyData} (P : Process) (rest : Members) (key : Key) (ks under : List Key) (bs kept : List State) (done : Members)
+        → key_of key ∷ map key_of ks ≡ k ∷ keys_in rest → EachStands φ p bs rest [] → map key_of under ≡ keys_in done → EachStands φ p kept done []
+        → keep ask ms ≡ (keep ask (member k P rest) >>= λ ns. answer (followed done ns))
+        → Told (key_of key) (Ok false) → Sifted ks bs under kept
+    one_left {k} P rest key ks under bs kept done K S D E goes (makes {b = v} h told) = record {
+      next = rest;
+      done = done;
+      next_keys = rest_same K;
+      next_stand = S;
+      done_keys = D;
+      done_stand = E;
+      goes = goes ∙ asked_one k P rest done v (ap (λ l. ask (value_of_key l)) (sym (first_same K)) ∙ h)
+          ∙ answers_alike (keep ask rest) (λ ns. followed done (cond (is_high v) (member k P ns) ns)) (followed done) (λ ns. ap (λ b. followed done (cond b (member k P ns) ns)) (sym told));
+    }
+
+    -- it has a fault
+    one_fails : {k : KeyData} (P : Process) (rest done : Members) (key : Key) (ks : List Key) (x : Fault) → key_of key ∷ map key_of ks ≡ k ∷ keys_in rest
+        → keep ask ms ≡ (keep ask (member k P rest) >>= λ ns. answer (followed done ns)) → Told (key_of key) (Err x) → MakesMembers φ p (keep ask ms) (Err x)
+    one_fails {k} P rest done key ks x K goes (makes_fault h) =
+        makes_fault (goes ∙ ap (λ w. (w >>= λ b. keep ask rest >>= λ ns. answer (cond (is_high b) (member k P ns) ns)) >>= λ ns. answer (followed done ns)) (ap (λ l. ask (value_of_key l)) (sym (first_same K)) ∙ h))
+    one_fails P rest done key ks x K goes makes_nothing = makes_nothing
+
+    module _ (ks ks' : List Key) (bs bs' : List State) (under : List Key) (kept : List State) (key : Key) (a : State) (keys_are : ks ≡ key ∷ ks') (states_are : bs ≡ a ∷ bs') (F : Sifted ks bs under kept) where
+      head_keys : map key_of (key ∷ ks') ≡ keys_in F.next
+      head_keys = ap (map key_of) (sym keys_are) ∙ F.next_keys
+
+      head_stands : EachStands φ p (a ∷ bs') F.next []
+      head_stands = subst (λ bs. EachStands φ p bs F.next []) states_are F.next_stand
+
+      pub sifted_kept : (own : Key) (more : List Key) (longer : List State) → Told (key_of key) (Ok true) → key_of own ≡ key_of key → more ≡ under ++ own ∷ [] → longer ≡ kept ++ a ∷ [] → Sifted ks' bs' more longer
+      sifted_kept own more longer told same put also = by head_keys head_stands F.goes
+        where
+          by : {ns : Members} → map key_of (key ∷ ks') ≡ keys_in ns → EachStands φ p (a ∷ bs') ns [] → keep ask ms ≡ (keep ask ns >>= λ ns. answer (followed F.done ns)) → Sifted ks' bs' more longer
+          by K (one_stands A S) goes = one_kept key own ks' under more a bs' kept longer F.done K A S F.done_keys F.done_stand goes told same put also
+
+      pub sifted_out : Told (key_of key) (Ok false) → Sifted ks' bs' under kept
+      sifted_out told = by head_keys head_stands F.goes
+        where
+          by : {ns : Members} → map key_of (key ∷ ks') ≡ keys_in ns → EachStands φ p (a ∷ bs') ns [] → keep ask ms ≡ (keep ask ns >>= λ ns. answer (followed F.done ns)) → Sifted ks' bs' under kept
+          by K (one_stands {P = P} {ms = rest} A S) goes = one_left P rest key ks' under bs' kept F.done K S F.done_keys F.done_stand goes told
+
+      pub not_sifted : (x : Fault) → Told (key_of key) (Err x) → MakesMembers φ p (keep ask ms) (Err x)
+      not_sifted x told = by head_keys head_stands F.goes
+        where
+          by : {ns : Members} → map key_of (key ∷ ks') ≡ keys_in ns → EachStands φ p (a ∷ bs') ns [] → keep ask ms ≡ (keep ask ns >>= λ ns. answer (followed F.done ns)) → MakesMembers φ p (keep ask ms) (Err x)
+          by K (one_stands {P = P} {ms = rest} A S) goes = one_fails P rest F.done key ks' x K goes told
+
+    -- no key comes next
+    none_next : (ks : List Key) (bs : List State) (ns : Members) → map key_of ks ≡ keys_in ns → EachStands φ p bs ns [] → (length ks ≡ 0) ⊎ (length bs ≡ 0) → ns ≡ no_members
+    none_next ks bs no_members K S none = refl
+    none_next [] bs (member k P ns) K S none = absurd cc
+    none_next (k ∷ ks) [] (member l P ns) K S none = elim S [ ]
+    none_next (k ∷ ks) (b ∷ bs) (member l P ns) K S (inl h) = absurd (omega arith)
+    none_next (k ∷ ks) (b ∷ bs) (member l P ns) K S (inr h) = absurd (omega arith)
+
+    pub all_sifted : (ks : List Key) (bs : List State) (under : Vec Key Global) (keys : Rc (Vec Key Global) Global) (kept : Vec State Global) → Sifted ks bs under.items kept.items → (length ks ≡ 0) ⊎ (length bs ≡ 0) → keys.value ≡ under
+        → MakesMembers φ p (keep ask ms) (Ok (record { keys = keys; states = kept }))
+    all_sifted ks bs under keys kept F none same =
+        let last = none_next ks bs F.next F.next_keys F.next_stand none in
+        makes (F.goes ∙ ap (λ ns. keep ask ns >>= λ ns. answer (followed F.done ns)) last ∙ ap answer (followed_by_none F.done))
+        (gathers_where φ p keys kept (ap (λ (v : Vec Key Global). map key_of v.items) same ∙ F.done_keys) F.done_stand)
+
+-- ## All of a collection
+
+module _ (φ : AnswersByName) (p : Plan) where
+  -- no keys and no states
+  pub none_gathered : (keys : Rc (Vec Key Global) Global) (under : Vec Key Global) (states : Vec State Global) → keys.value ≡ under → under.items ≡ [] → states.items ≡ [] → HasMembers φ p (record { keys = keys; states = states }) no_members
+  none_gathered keys under states is no_key no_state =
+      gathers_where φ p keys states (ap (λ (v : Vec Key Global). map key_of v.items) is ∙ ap (map key_of) no_key) (subst (λ (bs : List State). EachStands φ p bs no_members []) (sym no_state) none_stands)
+
+module _ (φ : AnswersByName) (p : Plan) (w : Evaluated Members) where
+  pub members_collected : (g : Gathered) → MakesMembers φ p w (Ok g) → Makes (λ l ms. Gathers φ p l ms []) w (Ok (LGathered g.keys g.states))
+  members_collected g (makes h G) = makes h G
+
+  pub collecting_fails : (x : Fault) → MakesMembers φ p w (Err x) → Makes (λ l ms. Gathers φ p l ms []) w (Err x)
+  collecting_fails x (makes_fault h) = makes_fault h
+  collecting_fails x makes_nothing = makes_nothing
+
+-- one of two, by a condition
+module _ (φ : AnswersByName) (p : Plan) (w : Evaluated Data) (first second : Evaluated Members) (b : Bool) (r : Result Gathered Fault) where
+  chosen_as : (c : Bool) → Makes (λ b v. b ≡ is_high v) w (Ok b) → b ≡ c → MakesMembers φ p (cond c first second) r → MakesMembers φ p (w >>= λ v. cond (is_high v) first second) r
+  chosen_as c (makes {b = v} h told) is m = goes_on (HasMembers φ p) w (λ v. cond (is_high v) first second) v r h (subst (λ t. Makes (HasMembers φ p) (cond t first second) r) (sym is ∙ told) m)
+
+  pub first_chosen : Makes (λ b v. b ≡ is_high v) w (Ok b) → b ≡ true → MakesMembers φ p first r → MakesMembers φ p (w >>= λ v. cond (is_high v) first second) r
+  first_chosen = chosen_as true
+
+  pub second_chosen : Makes (λ b v. b ≡ is_high v) w (Ok b) → b ≡ false → MakesMembers φ p second r → MakesMembers φ p (w >>= λ v. cond (is_high v) first second) r
+  second_chosen = chosen_as false

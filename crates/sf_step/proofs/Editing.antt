@@ -1,0 +1,239 @@
+-- Members that are edited: those that run are stepped on inputs without their events, and at an event those of the edit take
+-- their place.
+use Rattle.std.proofs.Common.{◌≡◌, ℕ, ◌≤◌, List, [], ◌∷◌, ◌++◌, Option, Some, None, Result, Ok, Err, refl, sym, ap, ◌∙◌, subst, arith, option_map}
+use Rattle.std.proofs.lemmas.List.{append-nil}
+use Rattle.sf_value.specs.Values.{Name, Data, first_of}
+use Rattle.sf_value.specs.declared.fault.Fault.{Fault}
+use Rattle.sf_func.specs.Registries.{AnswersByName}
+use Rattle.sf_expr.specs.Expressions.{Pattern}
+use Rattle.sf_expr.specs.Evaluation.{Evaluated, answer, failed as no_answer, ◌>>=◌}
+use Rattle.sf_expr.specs.Patterns.{pattern_of}
+use Rattle.sf_expr.specs.Arena.{placed_at, name_at}
+use Rattle.sf_term.specs.declared.form.Observation.{Observation}
+use Rattle.sf_term.specs.declared.form.Observation.TheVariants.{Immediate, Delayed}
+use Rattle.sf_term.specs.Trees.{Term, Collection, editing}
+use Rattle.sf_mean.specs.Lives.{Step, step, Life, closure, Members, Environment, with_inputs}
+use Rattle.sf_mean.specs.Meaning.{Network, Readings, Outcome, gave, faulted, combined, Cost, no_cost, both_costs, over, members_made, edit_of, since_edit, since_event, kept_before, edited, which_run, switched_value, event_beside, unless_faulted, without_event, Gives, gives, and_gave, of_form, Form, of_editing, Edited, no_edit, edit_failed, edit_now, Tables, no_tables, and_table, Each}
+use Rattle.sf_mean.proofs.Once.{once_each}
+use Rattle.sf_law.specs.declared.plan.Plan.{Plan}
+use Rattle.sf_law.specs.Arena.{plan_collection, plan_expressions, network_of_plan}
+use Rattle.sf_law.specs.Entries.{IsCodedCollection}
+use Rattle.sf_state.specs.declared.state.Live.{Live}
+use Rattle.sf_state.specs.declared.state.Gathering.TheVariants.{Editing}
+use Rattle.sf_state.specs.declared.state.Editing.{Editing as EditingNode}
+use Rattle.sf_state.specs.declared.env.Env.{Env}
+use Rattle.sf_state.specs.Standing.{IsNames, Gathers, WaitsGathered, edits_so}
+use Rattle.sf_parts.specs.declared.meter.Meter.{Meter}
+use Rattle.sf_parts.specs.Meters.{entered_of, height_of}
+use Rattle.sf_parts.specs.Answering.{Rel, Ticks, Within, StopsFor, faults, memory, Answers, answers, fails, left_or}
+use Rattle.sf_parts.specs.Beginning.{Makes, makes, makes_fault, makes_nothing}
+use Rattle.sf_step.specs.Sampling.{MembersSteps, GatheringSteps}
+use Rattle.sf_step.proofs.Parts.{Over, counted, Single, single, Then, then_on, then_stop, Alike, over_spent, both_spent, alike_within, over_within, then_within, fails_alike, over_fails, then_fails, rest_fails, spent_within, answered, failed}
+use Rattle.sf_step.proofs.Forms.{form_alike}
+use Rattle.sf_step.proofs.Turning.{as_members}
+use Rattle.sf_step.proofs.Members.{ticked_low}
+use Rattle.sf_step.proofs.Switches.{no_more_spent}
+
+same_members : {a b : Members} → answer a ≡ answer b → a ≡ b
+same_members e = cc
+
+some_answer : {a b : Evaluated Members} → Some a ≡ Some b → a ≡ b
+some_answer e = cc
+
+-- a failure goes on as it is
+pub stopped : {A : Type 0} {view : A → Data} {after : A → Type 0} {R : Rel} {m n : Meter} {depth : ℕ} {f g : Fault} → f ≡ g → StopsFor R g m n depth → Answers view after R (Err f) m n depth
+stopped {A} {view} {after} {R} {m} {n} {depth} e h = subst (λ (f : Fault). Answers view after R (Err f) m n depth) (sym e) (fails h)
+
+module _ (φ : AnswersByName) (p : Plan) where
+  abbrev net : Network
+  net = network_of_plan φ p
+
+  -- what comes beside a table: it stays, or the edit fails, or its members begin
+  data Newly (s : Step) (y : Data) : Option (Evaluated Members) → Outcome → Cost → Type 0 where
+    as_it_is : Newly s y None (gave y []) no_cost
+    edit_fails : {x : _} → Newly s y (Some (no_answer x)) (faulted x) no_cost
+    edit_steps : {ms : Members} {o : Outcome} {c : Cost} → Each net ms s [] o c → Newly s y (Some (answer ms)) o c
+
+  shown_as : (w : Observation) (x : Data) (r : Readings) → combined (switched_value w) (gave x r) (gave x []) ≡ gave x r
+  shown_as Immediate x r = ap (gave x) (append-nil r)
+  shown_as Delayed x r = ap (gave x) (append-nil r)
+
+  edited_to : {w : Observation} {s : Step} {x : Data} {q : Option (Evaluated Members)} {o : Outcome} {c : Cost} (r : Readings) → Newly s x q o c → Edited net w q s (gave x r) (combined (switched_value w) (gave x r) o) c
+  edited_to {w} {s} {x} r as_it_is = subst (λ o. Edited net w None s (gave x r) o no_cost) (sym (shown_as w x r)) no_edit
+  edited_to r edit_fails = edit_failed
+  edited_to r (edit_steps E) = edit_now E
+
+  data FromEdit (w : Observation) (s : Step) (x : Data) (r : Readings) (q : Option (Evaluated Members)) (o : Outcome) (c : Cost) : Type 0 where
+    from_edit : {o' : Outcome} → Newly s x q o' c → combined (switched_value w) (gave x r) o' ≡ o → FromEdit w s x r q o c
+
+  edited_back : {w : Observation} {s : Step} {q : Option (Evaluated Members)} {a o : Outcome} {c : Cost} (x : Data) (r : Readings) → a ≡ gave x r → Edited net w q s a o c → FromEdit w s x r q o c
+  edited_back {w = w} x r e no_edit = from_edit as_it_is (shown_as w x r ∙ sym e)
+  edited_back x r e edit_failed = from_edit edit_fails refl
+  edited_back {w = w} x r e (edit_now {o' = o'} E) = from_edit (edit_steps E) (ap (λ a. combined (switched_value w) a o') (sym e))
+
+  newly_back : {s : Step} {x : Data} {q : Option (Evaluated Members)} {rs : Members} {o : Outcome} {c : Cost} → q ≡ Some (answer rs) → Newly s x q o c → Each net rs s [] o c
+  newly_back e as_it_is = absurd cc
+  newly_back e edit_fails = absurd cc
+  newly_back {s = s} {o = o} {c = c} e (edit_steps {ms = ms} E) = subst (λ ms. Each net ms s [] o c) (same_members (some_answer e)) E
+
+  newly_alike : (s : Step) (x : Data) (q : Option (Evaluated Members)) (rs : Members) → q ≡ Some (answer rs) → Alike (Each net rs s []) (Newly s x q)
+  newly_alike s x q rs e = record {
+    to = λ o c E. subst (λ q. Newly s x q o c) (sym e) (edit_steps E);
+    back = λ o c H. newly_back e H;
+  }
+
+  single_each : (ms : Members) (s : Step) (L : Life) → Single (Each net ms s L)
+  single_each ms s L = single (λ a b j k G H. once_each net G H)
+
+  -- those that run are stepped, and then those of the edit where there is an event
+  abbrev EditRel : Observation → Members → (Data → Evaluated Members) → Step → Life → Rel
+  EditRel w qs E s L = Over (Then (Each net qs (without_event s) (since_edit L)) (switched_value w) no_cost (λ y. Newly (without_event s) y (option_map E (event_beside s))))
+
+  edit_from : {w : Observation} {qs : Members} (E : Data → Evaluated Members) (s : Step) (L : Life) {y : Data} {r : Readings} {o : Outcome} {k c : Cost} → Each net qs (without_event s) (since_edit L) (gave y r) k
+      → FromEdit w (without_event s) y r (option_map E (event_beside s)) o c → EditRel w qs E s L o (over (both_costs k c))
+  edit_from {w = w} {qs = qs} E s L {k = k} {c = c} G (from_edit H e) = subst (λ o. EditRel w qs E s L o (over (both_costs k c))) e (counted (then_on G H))
+
+  edit_at : {w : Observation} (E : Members → Data → Evaluated Members) (qs : Members) (s : Step) (L : Life) (a : Outcome) {o : Outcome} {k c : Cost} → Each net qs (without_event s) (since_edit L) a k
+      → Edited net w (option_map (E qs) (unless_faulted a (event_beside s))) (without_event s) a o c → EditRel w qs (E qs) s L o (over (both_costs k c))
+  edit_at E qs s L (gave y r) G D = edit_from (E qs) s L G (edited_back y r refl D)
+  edit_at E qs s L (faulted x) G no_edit = counted (then_stop G)
+
+  module _ {w : Observation} {i u : Collection} {c : Name} {q : Pattern} {e : Environment} {ms qs : Members} (s : Step) (L : Life) (run : which_run (edit_of φ c q u e) ms L ≡ answer qs) where
+    editing_to : (o : Outcome) (k : Cost) → EditRel w qs (edit_of φ c q u e (since_edit L) s qs) s L o k → Form net (editing w i c q u) e (members_made ms) s L o k
+    editing_to o k (counted (then_on {r = r} G H)) = of_editing run G (edited_to r H)
+    editing_to o k (counted (then_stop G)) = of_editing run G no_edit
+
+    editing_back : (o : Outcome) (k : Cost) → Form net (editing w i c q u) e (members_made ms) s L o k → EditRel w qs (edit_of φ c q u e (since_edit L) s qs) s L o k
+    editing_back o k (of_editing {qs = rs} {o = a} run' G D) =
+        let same : rs ≡ qs = same_members (sym run' ∙ run) in
+        subst (λ qs. EditRel w qs (edit_of φ c q u e (since_edit L) s qs) s L o k) same (edit_at (edit_of φ c q u e (since_edit L) s) rs s L a G D)
+
+    editing_alike : Alike (EditRel w qs (edit_of φ c q u e (since_edit L) s qs) s L) (Form net (editing w i c q u) e (members_made ms) s L)
+    editing_alike = record { to = editing_to; back = editing_back }
+
+  tables_at : {ms : Members} {K M : Life} {ys : List Data} → K ≡ M → Tables net ms M ys → Tables net ms K ys
+  tables_at {ms = ms} {ys = ys} e Y = subst (λ (K : Life). Tables net ms K ys) (sym e) Y
+
+  gathers_at : {l : Live} {ms : Members} {K M : Life} → K ≡ M → Gathers φ p l ms M → Gathers φ p l ms K
+  gathers_at {l = l} {ms = ms} e G = subst (λ (K : Life). Gathers φ p l ms K) (sym e) G
+
+  -- members that were made
+  record IsAnswer (l : Live) (z : Evaluated Members) : Type 0 where
+    rs : Members
+    is : z ≡ answer rs
+    stand : Gathers φ p l rs []
+
+  made_is : {l : Live} {z : Evaluated Members} → Makes (λ l ms. Gathers φ p l ms []) z (Ok l) → IsAnswer l z
+  made_is (makes {b = rs} e G) = record { rs = rs; is = e; stand = G }
+
+  -- ## A step of members that are edited
+
+  module _ (names : Env) (k : EditingNode) (d : ℕ) (x i : Data) (taken : i ≡ first_of x) (n n1 : Meter) (inside : ℕ) where
+    -- members step on the first part of the input
+    on_input : {l : Live} {j : Data} {r : Result (Live × Data) Fault} {m m' : Meter} → j ≡ i → MembersSteps φ p l (step d j) r m m' inside → MembersSteps φ p l (without_event (step d x)) r m m' inside
+    on_input {l} {j} {r} {m} {m'} same h = subst (λ j. MembersSteps φ p l (step d j) r m m' inside) (same ∙ taken) h
+
+    -- those that run fail
+    pub old_fail : (f : Fault) → MembersSteps φ p k.members (step d i) (Err f) n n1 inside
+        → (m : Meter) (depth : ℕ) → Ticks m n depth inside → (t : Term) (e : Environment) (L : Life) → IsNames φ p names e → WaitsGathered φ p (Editing k) (closure t e) L → StopsFor (Gives net (closure t e) (step d x ∷ L)) f m n1 depth
+    old_fail f hs m depth T t e L N (edits_so coded j run O Y G) =
+        fails_alike (form_alike net (step d x) L (ap (as_members φ p) j) O) (fails_alike (editing_alike (step d x) L run) (over_fails T (then_fails (failed (on_input refl hs (ticked_low φ p T) _ _ G)))))
+
+    module _ (a : Live) (y : Data) (hs : MembersSteps φ p k.members (step d i) (Ok (a, y)) n n1 inside) where
+      -- memory runs out after they were stepped
+      pub old_memory : (n2 : Meter) → entered_of n2 ≡ entered_of n1 → height_of n2 ≡ height_of n1
+          → (m : Meter) (depth : ℕ) → Ticks m n depth inside → (t : Term) (e : Environment) (L : Life) → IsNames φ p names e → WaitsGathered φ p (Editing k) (closure t e) L → Within (Gives net (closure t e) (step d x ∷ L)) m n2 depth
+      old_memory n2 en hn m depth T t e L N (edits_so {qs = qs} coded j run O Y G) =
+          let one = answered (on_input refl hs (ticked_low φ p T) _ _ G) in
+          alike_within (form_alike net (step d x) L (ap (as_members φ p) j) O) (alike_within (editing_alike (step d x) L run) (over_within T (then_within (spent_within (single_each qs _ _) one.given one.spent en hn))))
+
+      -- there is no event
+      pub members_run_on : event_beside (step d x) ≡ None → (k' : EditingNode) → k' ≡ record { shown = k.shown; members = a; name = k.name; pattern = k.pattern; edit = k.edit }
+          → GatheringSteps φ p names (Editing k) (step d x) (Ok ((None, Editing k'), y)) n n1 inside
+      members_run_on none k' ek m depth T t e L N (edits_so {i = i0} {ms = ms} {qs = qs} coded j run O Y G) =
+          let one = answered (on_input refl hs (ticked_low φ p T) _ _ G) in
+          let s = step d x in
+          let c = name_at (plan_expressions p) k.name in
+          let q = pattern_of (placed_at (plan_expressions p) k.pattern) in
+          let u = plan_collection p k.edit.value in
+          let B = edit_of φ c q u e in
+          let F : Form net (editing k.shown i0 c q u) e (members_made ms) s L (gave y one.r) (over (both_costs one.k no_cost)) =
+          of_editing run one.given (subst (λ v. Edited net k.shown (option_map (B (since_edit L) s qs) v) (without_event s) (gave y one.r) (gave y one.r) no_cost) (sym none) no_edit) in
+          let M = of_form (ap (as_members φ p) j) F in
+          let runs : which_run B ms (s ∷ L) ≡ answer qs = ap (λ w. w >>= λ qs. edited (B (since_edit L) s qs) qs (event_beside s)) run ∙ ap (edited (B (since_edit L) s qs) qs) none in
+          let since : since_edit (s ∷ L) ≡ without_event s ∷ since_edit L = ap (λ v. with_inputs first_of (s ∷ kept_before v (since_event L))) none in
+          answers (gives O M) (over_spent T (no_more_spent one.spent))
+          (subst (λ (k' : EditingNode). WaitsGathered φ p (Editing k') (closure (editing k.shown i0 c q u) e) (s ∷ L)) (sym ek)
+          (edits_so coded j runs (and_gave O M) (tables_at since (and_table Y one.given)) (gathers_at since one.holds)))
+
+      module _ (v : Data) (some : event_beside (step d x) ≡ Some v) where
+        -- what the edit makes of the members that ran
+        abbrev pub IsMade : Result Live Fault → Type 0
+        IsMade r = (e : Environment) (qs : Members) (K : Life) → IsNames φ p names e → Gathers φ p k.members qs K → IsCodedCollection (plan_expressions p) k.edit.value
+            → Makes (λ l ms. Gathers φ p l ms []) (edit_of φ (name_at (plan_expressions p) k.name) (pattern_of (placed_at (plan_expressions p) k.pattern)) (plan_collection p k.edit.value) e K (step d x) qs v) r
+
+        -- the edit fails
+        edit_stops : (f : Fault) (n2 : Meter) → entered_of n2 ≡ entered_of n1 → height_of n2 ≡ height_of n1 → {z : Evaluated Members} (s : Step) (E : Data → Evaluated Members) → E v ≡ z → event_beside s ≡ Some v
+            → Makes (λ l ms. Gathers φ p l ms []) z (Err f) → StopsFor (Newly (without_event s) y (option_map E (event_beside s))) f n1 n2 inside
+        edit_stops f n2 en hn s E ez some' (makes_fault {x = x} e) =
+            let at : option_map E (event_beside s) ≡ Some (no_answer x) = ap (option_map E) some' ∙ ap Some (ez ∙ e) in
+            faults (subst (λ q. Newly (without_event s) y q (faulted x) no_cost) (sym at) edit_fails) (record { entered = omega (arith, en); high = omega (arith, hn) })
+        edit_stops f n2 en hn s E ez some' makes_nothing = memory (record { most = λ o k G. record { entered = omega (arith, en); high = omega (arith, hn) } })
+
+        pub edit_stops_it : (f : Fault) → IsMade (Err f) → (n2 : Meter) → entered_of n2 ≡ entered_of n1 → height_of n2 ≡ height_of n1
+            → (m : Meter) (depth : ℕ) → Ticks m n depth inside → (t : Term) (e : Environment) (L : Life) → IsNames φ p names e → WaitsGathered φ p (Editing k) (closure t e) L → StopsFor (Gives net (closure t e) (step d x ∷ L)) f m n2 depth
+        edit_stops_it f hm n2 en hn m depth T t e L N (edits_so {i = i0} {ms = ms} {qs = qs} coded j run O Y G) =
+            let one = answered (on_input refl hs (ticked_low φ p T) _ _ G) in
+            let s = step d x in
+            let E = edit_of φ (name_at (plan_expressions p) k.name) (pattern_of (placed_at (plan_expressions p) k.pattern)) (plan_collection p k.edit.value) e (since_edit L) s qs in
+            let H = edit_stops f n2 en hn s E refl some (hm e qs (since_edit L) N G coded) in
+            fails_alike (form_alike net s L (ap (as_members φ p) j) O) (fails_alike (editing_alike s L run) (over_fails T (rest_fails (λ z. Newly (without_event s) z (option_map E (event_beside s))) (single_each qs _ _) one.given one.spent H)))
+
+        module _ (l0 : Live) (hm : IsMade (Ok l0)) (j0 : Data) (again : j0 ≡ i) (n2 : Meter) where
+          -- a member of the edit fails
+          new_fail : (f : Fault) → MembersSteps φ p l0 (step d j0) (Err f) n1 n2 inside → {z : Evaluated Members} (s : Step) (E : Data → Evaluated Members) → E v ≡ z → s ≡ step d x → inside ≤ height_of n1
+              → Makes (λ l ms. Gathers φ p l ms []) z (Ok l0) → StopsFor (Newly (without_event s) y (option_map E (event_beside s))) f n1 n2 inside
+          new_fail f hb s E ez es low (makes {b = rs} e G') =
+              let at : option_map E (event_beside s) ≡ Some (answer rs) = ap (λ s. option_map E (event_beside s)) es ∙ ap (option_map E) some ∙ ap Some (ez ∙ e) in
+              fails_alike (newly_alike (without_event s) y (option_map E (event_beside s)) rs at) (subst (λ s. StopsFor (Each net rs (without_event s) []) f n1 n2 inside) (sym es) (failed (on_input again hb low _ _ G')))
+
+          pub new_stops : (f : Fault) → MembersSteps φ p l0 (step d j0) (Err f) n1 n2 inside
+              → (m : Meter) (depth : ℕ) → Ticks m n depth inside → (t : Term) (e : Environment) (L : Life) → IsNames φ p names e → WaitsGathered φ p (Editing k) (closure t e) L → StopsFor (Gives net (closure t e) (step d x ∷ L)) f m n2 depth
+          new_stops f hb m depth T t e L N (edits_so {i = i0} {ms = ms} {qs = qs} coded j run O Y G) =
+              let one = answered (on_input refl hs (ticked_low φ p T) _ _ G) in
+              let s = step d x in
+              let E = edit_of φ (name_at (plan_expressions p) k.name) (pattern_of (placed_at (plan_expressions p) k.pattern)) (plan_collection p k.edit.value) e (since_edit L) s qs in
+              let low = ticked_low φ p T in
+              let H = new_fail f hb s E refl refl (let i = one.spent.high in omega (arith, low)) (hm e qs (since_edit L) N G coded) in
+              fails_alike (form_alike net s L (ap (as_members φ p) j) O) (fails_alike (editing_alike s L run) (over_fails T (rest_fails (λ z. Newly (without_event s) z (option_map E (event_beside s))) (single_each qs _ _) one.given one.spent H)))
+
+          -- the members of the edit run from now on
+          pub new_run : (l : Live) (z g : Data) → g ≡ switched_value k.shown y z → (k' : EditingNode) → k' ≡ record { shown = k.shown; members = l; name = k.name; pattern = k.pattern; edit = k.edit } → MembersSteps φ p l0 (step d j0) (Ok (l, z)) n1 n2 inside
+              → GatheringSteps φ p names (Editing k) (step d x) (Ok ((None, Editing k'), g)) n n2 inside
+          new_run l z g eg k' ek hb m depth T t e L N (edits_so {i = i0} {ms = ms} {qs = qs} coded j run O Y G) =
+              let one = answered (on_input refl hs (ticked_low φ p T) _ _ G) in
+              let s = step d x in
+              let c = name_at (plan_expressions p) k.name in
+              let q = pattern_of (placed_at (plan_expressions p) k.pattern) in
+              let u = plan_collection p k.edit.value in
+              let B = edit_of φ c q u e in
+              let E = B (since_edit L) s qs in
+              let low = ticked_low φ p T in
+              let H : IsAnswer l0 (E v) = made_is (hm e qs (since_edit L) N G coded) in
+              let two = answered (on_input again hb (let i = one.spent.high in omega (arith, low)) _ _ H.stand) in
+              let at : option_map E (event_beside s) ≡ Some (answer H.rs) = ap (option_map E) some ∙ ap Some H.is in
+              let r = one.r ++ two.r in
+              let F : Form net (editing k.shown i0 c q u) e (members_made ms) s L (gave (switched_value k.shown y z) r) (over (both_costs one.k two.k)) =
+              of_editing run one.given (subst (λ o. Edited net k.shown o (without_event s) (gave y one.r) (gave (switched_value k.shown y z) r) two.k) (sym at) (edit_now two.given)) in
+              let M = of_form (ap (as_members φ p) j) (subst (λ v. Form net (editing k.shown i0 c q u) e (members_made ms) s L (gave v r) (over (both_costs one.k two.k))) (sym eg) F) in
+              let runs : which_run B ms (s ∷ L) ≡ answer H.rs = ap (λ w. w >>= λ qs. edited (B (since_edit L) s qs) qs (event_beside s)) run ∙ ap (edited E qs) some ∙ H.is in
+              let since : since_edit (s ∷ L) ≡ without_event s ∷ [] = ap (λ v. with_inputs first_of (s ∷ kept_before v (since_event L))) some in
+              answers (gives O M) (over_spent T (both_spent one.spent two.spent))
+              (subst (λ (k' : EditingNode). WaitsGathered φ p (Editing k') (closure (editing k.shown i0 c q u) e) (s ∷ L)) (sym ek)
+              (edits_so coded j runs (and_gave O M) (tables_at since (and_table no_tables two.given)) (gathers_at since two.holds)))
+
+    -- what a step without an event answers
+    pub members_alone : {A E : Type 0} (r : Result A E) (a : Live) (y : Data) (f : Fault) → event_beside (step d x) ≡ None → (k' : EditingNode) → k' ≡ record { shown = k.shown; members = a; name = k.name; pattern = k.pattern; edit = k.edit }
+        → MembersSteps φ p k.members (step d i) (left_or r (a, y) f) n n1 inside → GatheringSteps φ p names (Editing k) (step d x) (left_or r ((None, Editing k'), y) f) n n1 inside
+    members_alone (Ok u) a y f none k' ek hs = members_run_on a y hs none k' ek
+    members_alone (Err q) a y f none k' ek hs = λ m depth t T e L N W. fails (old_fail f hs m depth t T e L N W)

@@ -1,0 +1,116 @@
+//! Plays networks in plain Rust, by the static library that was proved.
+//!
+//! The proof ends at the call of `gezmulda_play`: what stands here is plain Rust, which nothing proves.
+
+extern "C" {
+    fn gezmulda_play(
+        net: *const u8,
+        net_length: usize,
+        input: *const u8,
+        input_length: usize,
+        probes: bool,
+        out: *mut u8,
+        room: usize,
+        given: *mut usize,
+    ) -> u8;
+
+    fn gezmulda_check(
+        net: *const u8,
+        net_length: usize,
+        out: *mut u8,
+        room: usize,
+        given: *mut usize,
+    ) -> u8;
+}
+
+/// How a run ended.
+#[derive(Clone, Copy, Debug, PartialEq, Eq)]
+pub enum End {
+    /// All lines were played.
+    Done,
+    /// A sample had a fault, which the last line names.
+    Fault,
+    /// A line was refused, which the last line names.
+    BadLine,
+    /// The network was refused, and nothing was played.
+    Refused,
+    /// Memory ran out for what is given.
+    NoRoom,
+}
+
+/// What a run gave.
+#[derive(Clone, Debug, PartialEq, Eq)]
+pub struct Played {
+    /// How it ended.
+    pub end: End,
+    /// The lines that it gave: one a sample, behind those of its readings where these are asked for.
+    pub lines: String,
+}
+
+/// Plays the lines of an input through the network that a text is, which calls no stored functions.
+pub fn play(net: &str, input: &str, probes: bool) -> Played {
+    let (mut status, mut out, mut given) = play_into(net, input, probes, 4 * input.len() + 256);
+    if given > out.len() {
+        // The same run once more: what a network gives for lines is always the same.
+        (status, out, given) = play_into(net, input, probes, given);
+    }
+    out.truncate(given);
+    Played {
+        end: end_of(status),
+        lines: String::from_utf8(out).expect("lines are texts"),
+    }
+}
+
+/// Says whether a text is a network that is accepted without stored functions. The error is the rule that it breaks and the
+/// place where it does, as in `C5 BarePre 2:31`.
+pub fn check(net: &str) -> Result<(), String> {
+    // A rule with its place is shorter than this.
+    let mut out = vec![0; 64];
+    let mut given = 0;
+    // As for a run.
+    let status = unsafe {
+        gezmulda_check(
+            net.as_ptr(),
+            net.len(),
+            out.as_mut_ptr(),
+            out.len(),
+            &mut given,
+        )
+    };
+    out.truncate(given);
+    match end_of(status) {
+        End::Done => Ok(()),
+        _ => Err(String::from_utf8(out).expect("a refusal is a text")),
+    }
+}
+
+/// The status, what was written into a room of that size, and how many bytes are given.
+fn play_into(net: &str, input: &str, probes: bool, room: usize) -> (u8, Vec<u8>, usize) {
+    let mut out = vec![0; room];
+    let mut given = 0;
+    // Each length is that of what its pointer points to, no pointer of a slice is null, and `out` and `given` are our own.
+    let status = unsafe {
+        gezmulda_play(
+            net.as_ptr(),
+            net.len(),
+            input.as_ptr(),
+            input.len(),
+            probes,
+            out.as_mut_ptr(),
+            out.len(),
+            &mut given,
+        )
+    };
+    (status, out, given)
+}
+
+fn end_of(status: u8) -> End {
+    match status {
+        0 => End::Done,
+        3 => End::Fault,
+        4 => End::BadLine,
+        5 => End::Refused,
+        6 => End::NoRoom,
+        _ => unreachable!("a status of gezmulda_play"),
+    }
+}
