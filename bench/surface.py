@@ -204,7 +204,8 @@ def surface():
     rows = [row for group in groups.values() for row in group]
     absent = sum(not places for _, places, _ in rows)
     same = sum(not why for _, _, why in rows)
-    text = HEAD + f"\nOf {len(rows)} rows {same} are as they were laid out, {len(rows) - same - absent} differ, and {absent} are not there yet.\n"
+    others = f", {len(rows) - same - absent} differ, and {absent} are not there yet" if absent else f", and {len(rows) - same} differ"
+    text = HEAD + f"\nOf {len(rows)} rows {same} are as they were laid out{others}.\n"
     for group, rows in groups.items():
         text += f"\n## `{group}`\n\n| As it was laid out | Where | Signature | Why it differs |\n|---|---|---|---|\n"
         text += "".join(line(row, crates) for row in rows)

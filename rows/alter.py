@@ -32,6 +32,9 @@ OTHERS = [
     "timed(): Int ~> (Int, Event Int) = (>--(3, delay 10 0) &&& (-->(1, pre) >>> repeatedly 20 2))",
     "switched(): (Int, Event Int) ~> Int = (drSwitch(identity, x => constant x) >>> switch((identity &&& never Unit), _ => identity))",
     "kept(f: Int ~> Int): Int ~> Int = dkSwitch(run f, arr (_, x) => gate(event (), (x > 2)), k, _ => kept(sf run k))",
+    'gathered(n: Int, c: [Text: Int ~> Int]): Int ~> Table Text Int = parB if (n > 0) then add(use c, "a", iPre 0) else drop(empty Text Int, "a")',
+    'released(): Int ~> Table Text Int = dpSwitchB(empty Text Int, arr (_, t) => get(t, "b"), ks, n => gathered(n, col keep(use ks, k => (k < "c"))))',
+    "edited(c: [Int: Int ~> Int]): (Int, Event Int) ~> Table Int Int = drpSwitchB(use c, ks, k => add(use ks, k, integral))",
 ]
 REFUSED = re.compile(rb"sfplay: [LPC]\d+ \w+ \d+:\d+\n")
 

@@ -2,15 +2,16 @@
 
 There are a delay of numbers, a loop over pairs, one of texts, events and tables with functions inside, one that calls stored
 functions, one that switches, one that freezes a process and runs it twice, one whose state is saved and returned to, one of templates
-that are given values and processes, one with a probe in what is begun anew, one of forms that remember, and one of forms that go by
-time and by numbers of events; and then networks that laws rewrite. Last, a text of all these and of further forms is checked and
-written anew.
+that are given values and processes, one with a probe in what is begun anew, one of forms that remember, one of forms that go by
+time and by numbers of events, and three of collections; and then networks that laws rewrite. A text of all these and of further forms
+is checked and written anew. Last, each read and each write of a run fails in turn, and each write takes nothing in turn.
 
     python3 rows/refuse_growths.py --exe PATH
 
 What is written has to be the script of the lines before, then `! T Memory` or `! line N Memory`; or nothing, with the
 network refused for memory or the words or the file not read. Where a later growth is refused, the run has come as far or further. Of a
-check and of a text nothing is written, or all of it. Each ends with the first number that refuses nothing.
+check and of a text nothing is written, or all of it. Each ends with the first number that refuses nothing. Where a read fails, the
+lines that were complete have their output, and where a write fails or takes nothing, a front of it.
 The last line is `N passed, M failed`.
 """
 
@@ -65,6 +66,21 @@ RUNS = [
      " = (((delay 20 0 &&& repeatedly 30 1) &&& (arr x => event x >>> takeEvents 2))"
      ' &&& fby(snd(("", 8)), >--(9, >=-(x => fst(((x + 1), "")), identity))))',
      samples(["1", "2", "3"], ["(((0,none),event 1),8)", "(((0,none),event 2),10)", "(((1,event 1),none),2)"])),
+    # members that come and go
+    ("(Unit, Event (Bool, Int)) ~> Table Int Int = rpSwitchB(add(empty Int Int, 1, localTime), ks,"
+     " (b, k) => if b then add(use ks, k, localTime) else drop(use ks, k))",
+     [("0 ((),none)", "> 0 {1:0}"), ("10 ((),event (true,2))", "> 10 {1:10,2:0}"), ("10 ((),event (false,1))", "> 20 {2:10}"),
+      ("5 ((),event (true,2))", "> 25 {2:0}"), ("5 ((),event (false,9))", "> 30 {2:5}")]),
+    # members that are frozen, of which one goes on
+    ("Unit ~> Table Int Int = pSwitchB(add(add(empty Int Int, 1, localTime), 2, (localTime >>> arr v => (v * 2))),"
+     " arr (_, t) => filterE(get(t, 1), v => (v >= 20)), ks, _ => parB drop(use ks, 1))",
+     [("0 ()", "> 0 {1:0,2:0}"), ("10 =", "> 10 {1:10,2:20}"), ("15 =", "> 25 {2:50}"), ("5 =", "> 30 {2:60}")]),
+    # members under texts, which a template is given
+    ('(Int, Event Text) ~> Table Text Int = edited(col add(add(empty Text Int, "b", iPre 7), "a", integral));'
+     "\ntemplate edited(c: [Text: Int ~> Int]): (Int, Event Text) ~> Table Text Int = drpSwitchB(use c, ks,"
+     ' k => if (k == "b") then keep(use ks, j => (j != k)) else add(use c, k, sscan(0, (s, x) => (s + x))))',
+     [('0 (1,none)', '> 0 {"b":7,"a":0}'), ('16 (2,event "b")', '> 16 {"b":1,"a":16}'), ('16 (3,event "cd")', '> 32 {"a":48}'),
+      ("16 (4,none)", '> 48 {"b":3,"a":48,"cd":7}')]),
     # functions that are neighbours, of which two share their input
     ("Int ~> (Int, Int) = ((arr x => (x + 1) >>> arr x => (x * 2)) >>> (arr x => (x - 3) &&& arr x => (x + 3)))",
      samples(["1", "2", "3"], ["(1,7)", "(3,9)", "(5,11)"])),
@@ -129,7 +145,7 @@ def refuse(shim, words, lines, wanted, played):
     """How many refused growths went well and how many didn't, and the statuses that were met."""
     passed = failed = number = furthest = 0
     ends = set()
-    while 0 not in ends and number < 1000:
+    while 0 not in ends and number < 2000:
         number += 1
         settings = {**os.environ, "LD_PRELOAD": shim, "REFUSED_GROWTH": str(number)}
         done = subprocess.run(words, input=lines, capture_output=True, env=settings, timeout=60)
@@ -176,16 +192,51 @@ def write(exe, place, shim, flag, output):
     return passed, failed + unmet(flag, ends, [(0, "no growth refused"), (5, "a network refused for memory")])
 
 
+def fail(exe, place, shim, network, script):
+    """The same of failed reads and writes of a run, and of writes that take nothing."""
+    path = os.path.join(place, "network")
+    with open(path, "w") as file:
+        file.write(f"network 2;\ntemplate main(): {network};\n")
+    lines, whole = ("".join(f"{part}\n" for part in parts).encode("ascii") for parts in zip(*script))
+    passed = failed = 0
+    for setting, words in (("FAILED_READ", b"sfplay: read fault\n"), ("FAILED_WRITE", b"sfplay: write fault\n"), ("EMPTY_WRITE", b"sfplay: write fault\n")):
+        status, number = 6, 0
+        while status and number < 1000:
+            number += 1
+            settings = {**os.environ, "LD_PRELOAD": shim, setting: str(number)}
+            done = subprocess.run([exe, path], input=lines, capture_output=True, env=settings, timeout=60)
+            status = done.returncode
+            # (a read of standard input gives 7 bytes at most, and a write takes 5)
+            complete = lines[: 7 * (number - 1)].count(b"\n")
+            before = b"".join(whole.splitlines(True)[:complete])
+            well = done.stdout == before if setting == "FAILED_READ" else whole.startswith(done.stdout) and done.stdout != whole
+            well = (status, done.stderr) == (6, words) and well if status else (done.stdout, done.stderr) == (whole, b"")
+            passed, failed = passed + well, failed + (not well)
+            if not well:
+                print(f"{network}: {setting} {number}: {(status, done.stdout, done.stderr)!r}")
+        if number < 5:
+            failed += 1
+            print(f"{network}: {setting} met {number - 1} calls alone")
+    return passed, failed
+
+
+def built(place, name):
+    """A library of rows/, to be loaded before the C library."""
+    shim = os.path.join(place, f"{name}.so")
+    subprocess.run(["cc", "-O1", "-shared", "-fPIC", "-o", shim, os.path.join(HERE, f"{name}.c"), "-ldl"], check=True)
+    return shim
+
+
 def main():
     parser = argparse.ArgumentParser()
     parser.add_argument("--exe", required=True)
     options = parser.parse_args()
     with tempfile.TemporaryDirectory() as place:
-        shim = os.path.join(place, "refused_growth.so")
-        subprocess.run(["cc", "-O1", "-shared", "-fPIC", "-o", shim, os.path.join(HERE, "refused_growth.c"), "-ldl"], check=True)
+        shim = built(place, "refused_growth")
         exe = os.path.abspath(options.exe)
         counts = [play(exe, place, shim, *run, *mode) for run in RUNS for mode in ([], ["--plain"])]
         counts += [write(exe, place, shim, "--check", "ok\n"), write(exe, place, shim, "--dump", many())]
+        counts.append(fail(exe, place, built(place, "failed_call"), *next(run for run in RUNS if "rpSwitchB" in run[0])))
     passed, failed = (sum(part) for part in zip(*counts))
     print(f"{passed} passed, {failed} failed")
     return 1 if failed else 0

@@ -1,9 +1,9 @@
 """Has an executable `sfplay` refuse the networks of refused.json, and looks at what is shown of each.
 
-    python3 rows/refused.py --exe PATH [--only NAME]
+    python3 rows/refused.py --exe PATH [--explainer PATH] [--only NAME]
 
 A case has what the program says (`said`), and either all lines that are shown (`shown`), or the hint behind the mark and, for P1, what
-can stand there (`can`). Each hint has to be shown in one of them, and the words that the hints know be those of docs/LANGUAGE.md.
+can stand there (`can`) and, for C4, which types do not fit (`types`), as an executable `sftypes` says it. Each hint has to be shown in one of them, and the words that the hints know be those of docs/LANGUAGE.md.
 The last line is `N passed, M failed`.
 """
 
@@ -21,20 +21,23 @@ import hints
 import refusals
 
 NAME = "a file"
+EXPLAINER = os.path.join(HERE, "..", "crates", "sftypes", "out", "sftypes")
 
 
-def faults(case, program):
+def faults(case, program, explainer):
     text = text_of(case["network"])
     found = refusals.refusal(program, text)
     said = found[0] if found else "nothing"
     if said != f"sfplay: {case['said']}":
         return [f"said {said!r}, wanted {case['said']!r}"]
-    shown = refusals.shown(NAME, text, said, program).splitlines()
+    shown = refusals.shown(NAME, text, said, program, explainer).splitlines()
     if "shown" in case:
         return [] if shown == case["shown"] else [f"shown {shown}, wanted {case['shown']}"]
     wanted = [f"^ {case['hint']}".rstrip()]
     if "can" in case:
         wanted.append(f"| Here can stand: {case['can']}")
+    if "types" in case:
+        wanted.append(f"| {case['types']}")
     well = len(shown) == 2 + len(wanted) and all(line.endswith(end) for line, end in zip(shown[2:], wanted))
     return [] if well else [f"shown {shown[2:]}, wanted {wanted}"]
 
@@ -67,6 +70,7 @@ def unknown_words():
 def main():
     parser = argparse.ArgumentParser()
     parser.add_argument("--exe", required=True)
+    parser.add_argument("--explainer", default=EXPLAINER)
     parser.add_argument("--only")
     options = parser.parse_args()
     with open(os.path.join(HERE, "refused.json"), encoding="utf-8") as file:
@@ -74,7 +78,7 @@ def main():
     passed, failed, seen = 0, 0, set()
     note_hints(seen)
     for case in cases:
-        found = faults(case, os.path.abspath(options.exe))
+        found = faults(case, os.path.abspath(options.exe), os.path.abspath(options.explainer))
         passed, failed = passed + (not found), failed + bool(found)
         if found:
             print(f"refusal '{case['name']}': {'; '.join(found)}")

@@ -73,7 +73,59 @@ def going_on(samples, **others):
     )
 
 
+def summed_ages(number):
+    """For how many milliseconds 50 members have run in all, of which the oldest goes and one comes at every third sample."""
+    come = (number + 1) // 3
+    first = max(1, come - 49)
+    since = sum(3 * event - 1 for event in (first, come)) * (come - first + 1) // 2
+    return 50 * number - since
+
+
+def added(count, member, others="empty Int"):
+    """So many members, under the keys from 1 on."""
+    for key in range(1, count + 1):
+        others = f"add({others}, {key}, {member})"
+    return others
+
+
+COUNTS_MEMBERS = "arr t => size(t)"
 RUNS = [
+    Run(
+        "holds 50 members, of which the oldest goes and one comes at every third sample",
+        f"(Unit, Event Unit) ~> Int = (second count >>> (rpSwitchB({added(50, 'localTime')}, ks,"
+        " k => drop(add(use ks, (k + 50), localTime), k)) >>> arr t => fold(t, 0, (s, (_, v)) => (s + v))))",
+        ["((),none)", "((),none)", "((),event ())"],
+        summed_ages,
+    ),
+    Run(
+        "has its members edited at every sample but the first, and keeps them",
+        f"Int ~> Int = ((identity &&& {EVENT}) >>> (rpSwitchB({added(3, 'integral')}, ks, _ => use ks)"
+        " >>> arr t => fold(t, 0, (s, (_, v)) => (s + v))))",
+        ["1"],
+        lambda number: 3 * number,
+    ),
+    Run(
+        "hands itself members, each with those of its kind that it froze before",
+        f"Int ~> Int = (go(col {added(2, 'integral')}) >>> {COUNTS_MEMBERS});\n"
+        f"template go(c: [Int ~> Int]): Int ~> Table Int = pSwitchB(use c, {EVENT}, ks,"
+        " _ => go(col add(add(use ks, 1, held(col drop(use ks, 2))), 2, held(col drop(use ks, 1)))));\n"
+        f"template held(c: [Int ~> Int]): Int ~> Int = kSwitch(identity, never Unit, k, _ => (parB use c >>> {COUNTS_MEMBERS}))",
+        ["1"],
+        lambda number: 2,
+        makes_chains=True,
+        grows=True,
+    ),
+    Run(
+        "hands itself two collections, each with what it was given, and runs them never",
+        "Int ~> Int = go(col empty Int, col empty Int);\n"
+        f"template go(c: [Int ~> Int], d: [Int ~> Int]): Int ~> Int = switch((identity &&& {EVENT}),"
+        f" _ => go(col {added(1, 'held(col use c)')}, col {added(1, 'held(col use d)')}));\n"
+        f"template held(c: [Int ~> Int]): Int ~> Int = (parB use c >>> {COUNTS_MEMBERS})",
+        ["1"],
+        lambda number: 1,
+        makes_chains=True,
+        grows=True,
+    ),
     waiting(1000, as_quick_as=waiting(10)),
     going_on(1000, as_quick_as=going_on(10)),
     Run(

@@ -16,7 +16,7 @@ import time
 
 HERE = os.path.dirname(os.path.abspath(__file__))
 TOP = os.path.join(HERE, "..")
-CRATES = "# lowest first\nlow: thiserror\nhigh: low\nsfplay: high clap\napart: low\n"
+CRATES = "# lowest first\nlow: thiserror\nhigh: low\nsfplay: high clap\nsftypes: high\napart: low\n"
 PROVED = [f"sfplay: proving {crate}, {left} of 3 left\n" for crate, left in (("low", 3), ("high", 2), ("sfplay", 1))]
 BUILT = "".join(PROVED) + "sfplay: building the program\n"
 # It notes each call, proves all crates but the one that the file `broken` names, and builds the program below, or tries it. A proof or a
@@ -45,6 +45,11 @@ elif [ "$1" = all ]; then
     echo "== summary"
 else
     mkdir -p out
+    if [ "${PWD##*/}" = sftypes ]; then
+        printf '#!/bin/sh\necho 2:5 found Int, wanted Bool\n' > out/sftypes
+        chmod +x out/sftypes
+        exit 2
+    fi
     cp "$TOP/program" out/sfplay
     [ ! -e "$TOP/edited" ] || touch "$TOP/crates/low/src/lib.rt"
     out/sfplay
@@ -65,6 +70,7 @@ NOT_PROVED = f"sfplay: this answer is not proved yet: rt try gives it from the s
 NOT_A_TERMINAL = f"sfplay: only the proved program answers the lines of a terminal, and it is not built yet: {PROVE}\n"
 TOO_LONG = f"sfplay: only the proved program answers more than 64 MiB of input, and it is not built yet: {PROVE}\n"
 PLACE = "sfplay: C4 Mismatch 2:5\na b:2:5:\n    2 | the network;\n      |     ^ types do not fit in the form that begins here\n"
+EXPLAINED = PLACE + "      | Found Int, wanted Bool\n"
 
 
 class Repository:
@@ -72,7 +78,7 @@ class Repository:
 
     def __init__(self, top):
         self.top = os.path.realpath(top)
-        for crate in ("low", "high", "sfplay", "apart"):
+        for crate in ("low", "high", "sfplay", "sftypes", "apart"):
             for part in ("src", "specs", "proofs"):
                 self.write(f"crates/{crate}/{part}/lib.rt", "")
         figures = '{"elapsed": {"first": 2051}, "processors": 4}'
@@ -126,7 +132,7 @@ class Repository:
 
 def first_and_second(at):
     yield "the first run builds", at.prove() == (PLAYED, BUILT, 3)
-    yield "it has all crates proved, and the program built", at.calls() == ["all", "run"]
+    yield "it has all crates proved, and the program built", at.calls() == ["all", "run", "run"]
     os.symlink(at.path("sfplay"), at.path("bin/linked"))
     yield "the second only plays", at.play() == (PLAYED, "", 3)
     yield "so does a link to it", at.play(program=at.path("bin/linked")) == (PLAYED, "", 3)
@@ -164,7 +170,7 @@ def two_at_once(at):
     players = [at.start(*words), at.start(*words)]
     played = [player.communicate("0 1\n") for player in players]
     yield "both play", [output for output, _ in played] == [PLAYED, PLAYED]
-    yield "one builds", at.calls() == ["all", "run"]
+    yield "one builds", at.calls() == ["all", "run", "run"]
 
 
 def while_it_is_tried(at):
@@ -240,7 +246,7 @@ def through_a_pipe(at):
         output, errors, status = at.play(network, pass_fds=[back])
         os.close(back)
         if refused:
-            yield "a pipe that is refused", (output, errors, status) == ("", PLACE.replace("a b", network), 5)
+            yield "a pipe that is refused", (output, errors, status) == ("", EXPLAINED.replace("a b", network), 5)
         else:
             yield "a pipe", output.endswith(f".{NETWORK}0 1\n") and (errors, status) == ("", 3)
         at.write("refused", "")
@@ -250,7 +256,11 @@ def refused(at):
     at.prove()
     yield "there is no such network", at.play("none") == ("none.0 1\n", "sfplay: none: No such file or directory\n", 3)
     at.write("refused", "")
-    yield "the place is shown", at.play() == ("", PLACE, 5)
+    yield "the place is shown, and which types do not fit", at.play() == ("", EXPLAINED, 5)
+    at.write("crates/sftypes/out/sftypes", "#!/bin/sh\necho 1:1 found Int, wanted Bool\n")
+    yield "types at another place are not", at.play() == ("", PLACE, 5)
+    os.remove(at.path("crates/sftypes/out/sftypes"))
+    yield "the place is shown alone", at.play() == ("", PLACE, 5)
     at.write("crates/sfplay/out/sfplay", PROGRAM.replace("C4 Mismatch 2:5", "Memory"))
     yield "there is no place", at.play() == ("", "sfplay: Memory\n", 5)
 

@@ -21,16 +21,19 @@ KEYWORDS = frozenset(
 # The words and symbols of the forms that there are, in groups.
 with open(os.path.join(os.path.dirname(os.path.abspath(__file__)), "..", "rows", "forms.json")) as file:
     FORMS = json.load(file)
-TO_COME = KEYWORDS - {"network", "template", "_"} - {word for group in FORMS.values() for word in group}
 JOINS = frozenset((">>>", "***", "&&&"))
 TERMS = frozenset(FORMS["terms"]) - JOINS - {"fresh"}
+COLLECTIONS = frozenset(FORMS["collections"])
+# Forms that begin with a collection, which give way to a term or are edited, or make another one of it.
+GIVING_WAY, EDITING, CHANGING = frozenset(("pSwitchB", "dpSwitchB")), frozenset(("rpSwitchB", "drpSwitchB")), frozenset(("add", "drop", "keep"))
+ON_MEMBERS = GIVING_WAY | EDITING | CHANGING
 OPERATORS = frozenset(FORMS["operators"]) - {"not"}
 EXPRESSIONS = frozenset(
     word for group in ("literals", "parts of pairs", "events", "tables", "functions inside") for word in FORMS[group]
 ) - {"in"} | {"not", "if", "call"}
 # Forms with one part, which stands behind them as it is, and forms with their parts in brackets.
-OF_ONE = frozenset("Event Table constant initially iPre now iEdge edgeTag hold dHold never none first second not event arr".split())
-OF_PARTS = frozenset(FORMS["parts of pairs"] + FORMS["events"] + FORMS["tables"]) - {"event"} | frozenset(
+OF_ONE = frozenset("Event Table constant initially iPre now iEdge edgeTag hold dHold never none first second not event arr parB empty use".split())
+OF_PARTS = ON_MEMBERS | frozenset(FORMS["parts of pairs"] + FORMS["events"] + FORMS["tables"]) - {"event"} | frozenset(
     "filterE mapE match mergeBy fold edgeBy accumBy accumHoldBy sscan fby loopPre --> >-- >=- switch dSwitch rSwitch drSwitch kSwitch dkSwitch".split()
 )
 # What types are called elsewhere.
@@ -135,7 +138,7 @@ class Place:
 
     @property
     def type_meant(self):
-        stands_for_type = self.is_header or self.before in ("Event", "Table", "none", "never")
+        stands_for_type = self.is_header or self.before in ("Event", "Table", "none", "never", "empty")
         return TYPES.get(self.token.lower(), "") if stands_for_type and self.token not in KEYWORDS else ""
 
     @property
@@ -166,7 +169,16 @@ class Place:
     def is_as_name(self):
         """Whether the token is a word of the language that stands as a name does."""
         stands_as_name = self.before in ("(", ",", "arr", "let", "=>") and self.after in (",", ")", "=>", ":", "=")
-        return self.token in KEYWORDS and (stands_as_name or self.before in ("template", "call", "run", "probe"))
+        return self.token in KEYWORDS and (stands_as_name or self.before in ("template", "call", "run", "probe", "use"))
+
+    @property
+    def is_edit(self):
+        return self.before == "=>" and self.opener in EDITING
+
+    @property
+    def wants_collection(self):
+        """Whether a collection stands here alone."""
+        return self.before in ("parB", "col") or self.is_edit or self.before == "(" and self.opener in ON_MEMBERS
 
     @property
     def version(self):
@@ -202,9 +214,20 @@ HINTS = [
     (lambda at: "Table" in (at.before, at.earlier), "a table is Table and the type of its values; Text keys are of `network 2;`"),
     (lambda at: at.token in ("if", "match") and not at.is_operand, "{at.token} stands in expressions: terms are chosen by a switch"),
     (lambda at: at.token == "let" and not at.is_operand, "let stands in expressions: a term is named by a template"),
+    (lambda at: at.version == ["2"] and "empty" in (at.before, at.earlier), "behind empty stand the type of its keys, Int or Text, and the type of its outputs"),
+    (lambda at: "empty" in (at.before, at.earlier) and not at.is_header, "behind empty stands the type of its outputs; Text keys are of `network 2;`"),
+    (lambda at: at.is_header and at.version == ["2"] and "[" in (at.before, at.earlier), "a collection is [Int: a ~> b] or [Text: a ~> b]"),
+    (lambda at: at.is_header and "[" in (at.before, at.earlier), "a collection is [a ~> b]; Text keys are of `network 2;`"),
+    (lambda at: at.wants_collection and is_name(at.token), "the members of a name are use {at.token}"),
+    (lambda at: at.is_edit and at.token in TERMS, "an edit is a collection, and no term"),
+    (lambda at: at.wants_collection and at.token in TERMS, "a collection stands here: {at.token} can be a member, as in add(.., 1, {at.token})"),
+    (lambda at: at.wants_collection and at.token == "(", "a collection has no brackets of its own"),
+    (lambda at: at.token in COLLECTIONS and at.before == "=>" and at.opener in GIVING_WAY, "a body is a term: parB {at.token} .."),
+    (lambda at: at.token in COLLECTIONS and is_name(at.opener) and not at.is_header, "a collection is given as col {at.token} .."),
     (lambda at: at.token in TERMS and is_name(at.opener) and not at.is_header, "a process is given as sf {at.token}"),
     (lambda at: at.is_as_name, "{at.token} is a word of the language, and no name"),
-    (lambda at: at.token in TO_COME, "{at.token} is a word of the language, but not there yet"),
+    (lambda at: at.token in COLLECTIONS, "{at.token} makes a collection, which stands behind parB or col, or in another form of collections"),
+    (lambda at: at.token in ("sf", "col"), "{at.token} stands in front of an argument alone"),
     (lambda at: at.token == "-" and not at.is_operand, "only a number can have a sign: (0 - x)"),
     (lambda at: at.token in OPERATORS, "each operator has two operands in brackets of its own: ((a {at.token} b) {at.token} c)"),
     (lambda at: at.token == "(" and at.before in at.templates, "{at.before} is a template: it is called among terms, and in no expression"),
@@ -228,6 +251,12 @@ def hint_on_name(place):
     return f"nothing here is called {place.token}" + (f": is {close} meant?" if close else "")
 
 
+def hint_on_types(place):
+    """What is often meant where types do not fit."""
+    wanted = {"run": "a process", "fresh": "a process", "use": "a collection"}.get(place.before)
+    return f"behind {place.before} stands the name of {wanted}" if wanted else RULES["C4"]
+
+
 def hint(rule, front, rest, can=None):
     """What is often meant where a rule is broken, between what stands before and the rest; "" where nothing is known."""
     place = Place(tokens_of(front), tokens_of(rest), can)
@@ -239,6 +268,8 @@ def hint(rule, front, rest, can=None):
         return hint_on_name(place)
     if rule == "C8":
         return f"behind {place.token} stands a number: {NUMBERS[place.token]}"
+    if rule == "C4":
+        return hint_on_types(place)
     if rule != "P1":
         return RULES.get(rule, "")
     return next((words.format(at=place) for holds, words in HINTS if holds(place)), "")

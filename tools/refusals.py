@@ -1,6 +1,6 @@
 """Shows where a network is refused: its line, a mark below the place, what is often meant there, and what can stand there.
 
-The last is asked of the program. P1 stands at the first token that no network has after the tokens before it. So a token can stand
+The last is asked of the program, and which types do not fit of the program of crates/sftypes. P1 stands at the first token that no network has after the tokens before it. So a token can stand
 there exactly where the program doesn't blame it when the text ends with it.
 """
 
@@ -9,7 +9,7 @@ import re
 import subprocess
 from concurrent.futures import ThreadPoolExecutor
 
-from hints import EXPRESSIONS, FORMS, JOINS, KEYWORDS, OPERATORS, TERMS, hint
+from hints import COLLECTIONS, EXPRESSIONS, FORMS, JOINS, KEYWORDS, OPERATORS, TERMS, hint
 
 SAID = re.compile(r"^sfplay: (\w+) \w+ (\d+):(\d+)$", re.MULTILINE)
 SYMBOLS = "--> >-- >=- >>> *** &&& ~> => == != <= >= < > + - * ( ) [ ] , : ; =".split()
@@ -20,6 +20,7 @@ GROUPS = {
     "a term": TERMS | {"(", "a name"},
     "an expression": EXPRESSIONS | {"(", "a name", "a number", "a text"},
     "an operator": OPERATORS,
+    "a collection": COLLECTIONS | {"if"},
     "a type": frozenset(FORMS["types"]) | {"("},
     "a join": JOINS,
     "a pattern": frozenset(("_", "(", "a name")),
@@ -28,16 +29,27 @@ GROUPS = {
 WHOLE, BEFORE = 120, 80
 
 
-def refusal(program, text):
-    """What the program says of a text that it refuses."""
+def run_on(text, *words):
+    """Runs a program on a network's text, which stands in a file behind its words."""
     held = os.memfd_create("network", 0)
     try:
         os.write(held, text)
-        words = [program, "--check", f"/proc/self/fd/{held}"]
-        run = subprocess.run(words, stdin=subprocess.DEVNULL, stdout=subprocess.DEVNULL, stderr=subprocess.PIPE, text=True, pass_fds=[held])
+        return subprocess.run([*words, f"/proc/self/fd/{held}"], stdin=subprocess.DEVNULL, capture_output=True, text=True, pass_fds=[held])
     finally:
         os.close(held)
-    return SAID.search(run.stderr)
+
+
+def refusal(program, text):
+    """What the program says of a text that it refuses."""
+    return SAID.search(run_on(text, program, "--check").stderr)
+
+
+def explained(explainer, text, place):
+    """Which types do not fit at a place of a text, as the program of crates/sftypes says it; "" where it isn't built or doesn't say."""
+    if not explainer or not os.access(explainer, os.X_OK):
+        return ""
+    at, _, told = run_on(text, explainer).stdout.rstrip("\n").partition(" ")
+    return told[:1].upper() + told[1:] if at == place else ""
 
 
 def that_can_stand(program, front):
@@ -74,9 +86,9 @@ def marked(before, behind):
     return before + behind, re.sub(r"[^\t]", " ", before) + "^"
 
 
-def shown(path, text, said, program=None):
+def shown(path, text, said, program=None, explainer=None):
     """The lines that show where the network of a file is refused, as the program said; "" where it named no place. What can stand there
-    is left out where there is no program to ask."""
+    and which types do not fit are left out where there is no program to ask."""
     found = SAID.search(said)
     if not found:
         return ""
@@ -90,4 +102,7 @@ def shown(path, text, said, program=None):
     lines = [f"{path}:{number}:{len(before) + 1}:", f"{number:>5} | {line}", f"{edge}{mark} {hint(rule, front, rest, can)}"]
     if can:
         lines.append(f"{edge}Here can stand: {told(can)}")
+    types = explained(explainer, text, f"{number}:{column}") if rule == "C4" else ""
+    if types:
+        lines.append(f"{edge}{types}")
     return "".join(line.rstrip() + "\n" for line in lines)

@@ -2,7 +2,8 @@
 //! sample, by itself or with an actuator.
 #![tactic(auto)]
 
-pub use sf_check::{Checked, check};
+pub use sf_accept::{difference_text, explain_text};
+pub use sf_check::{Checked, Difference, Wanted, check, difference};
 pub use sf_engine::{Actuator, Embedded, Engine, EngineError, Mode, React, Sample};
 pub use sf_func::{
     AddRefusal, Function, FunctionFault, Holds, Int1, Int2, OnNumber, OnNumbers, Registry,

@@ -6,7 +6,7 @@ use Rattle.std.proofs.lemmas.Bool.{cases_lt}
 use Rattle.std.proofs.lemmas.List.{get_or_past}
 use Rattle.std.proofs.lemmas.List.Elements.{All-head, All-tail}
 use Rattle.std.proofs.lemmas.Option.{slice_get-map, same_Some, none-some}
-use Rattle.sf_value.specs.Values.{Name, Kind}
+use Rattle.sf_value.specs.Values.{KeyKind, Name, Kind}
 use Rattle.sf_func.specs.Registries.{TypesByName, types_named}
 use Rattle.sf_expr.specs.declared.exprs.ExprId.{ExprId}
 use Rattle.sf_expr.specs.declared.exprs.ExprNode.{ExprNode}
@@ -20,7 +20,7 @@ use Rattle.sf_expr.specs.Expressions.{Pattern, Expression, variable, literal, pa
 use Rattle.sf_expr.specs.Typing.{Names, functions_of, with_types, call_kind, AddsNames, adds_nothing, adds_name, adds_both, Binds, HasType, variable_has, literal_has, pair_has, applied_has, operation_has, conditional_has, mapped_has, folded_has, called_has, FunctionTakes, function_takes}
 use Rattle.sf_expr.proofs.Bound.{type_with, functions_with, binds_with}
 use Rattle.sf_expr.proofs.Entered.{node_builds, parts_below}
-use Rattle.sf_term.proofs.Kept.{parts_below as term_parts_below, expression_in}
+use Rattle.sf_term.proofs.Kept.{parts_below as term_parts_below, expression_in, function_at_in}
 use Rattle.sf_term.specs.declared.form.Naming.TheVariants.{Process, Probe}
 use Rattle.sf_term.specs.declared.node.TermId.{TermId}
 use Rattle.sf_term.specs.declared.node.Argument.{Argument}
@@ -29,12 +29,14 @@ use Rattle.sf_term.specs.declared.node.Primitive.{Primitive as PrimitiveNode}
 use Rattle.sf_term.specs.declared.node.Primitive.TheVariants as primitives
 use Rattle.sf_term.specs.declared.node.Node.{Node}
 use Rattle.sf_term.specs.declared.node.Node.TheVariants as terms
+use Rattle.sf_term.specs.declared.collection.CollExpr.{CollExpr}
+use Rattle.sf_term.specs.declared.collection.CollExpr.TheVariants as collections
 use Rattle.sf_term.specs.declared.program.Program.{Program}
 use Rattle.sf_term.specs.Headers.{Header}
-use Rattle.sf_term.specs.Trees.{Primitive, bare, probe, never, with_value, timed, selected, arrow, accumulated, fused, Term, primitive, Reference, reference, started, call, Arguments, no_arguments, value_argument, process_argument, collection_argument, closed_argument, joined, sided, headed, transformed, switching, keeping, gathered, releasing, editing, staged, Template, Templates}
-use Rattle.sf_term.specs.Arena.{term_number, tree, term_node_at, term_entry_of, expressions_of, arguments_under, arguments_of, headers_of, template_in, templates_of, ArgumentBelow, TermPartsBelow}
+use Rattle.sf_term.specs.Trees.{Primitive, bare, probe, never, with_value, timed, selected, arrow, accumulated, fused, Term, primitive, Reference, reference, started, call, Arguments, no_arguments, value_argument, process_argument, collection_argument, closed_argument, joined, sided, headed, transformed, switching, keeping, gathered, releasing, editing, staged, Collection, without_members, used, added, dropped, kept, chosen, Template, Templates}
+use Rattle.sf_term.specs.Arena.{term_number, tree, term_node_at, term_entry_of, expressions_of, expression_under, arguments_under, arguments_of, headers_of, template_in, templates_of, collection_under, collection_of, ArgumentBelow, CollectionBelow, TermPartsBelow}
 use Rattle.sf_mean.specs.Contexts.{NameKind, value, process, collection, Bindings, parameters_inside, context_with, bindings_inside, with_name_of, values_in}
-use Rattle.sf_mean.specs.Typing.{PrimitiveTakes, bare_takes, probe_takes, never_takes, value_takes, timed_takes, selected_takes, accumulated_takes, arrow_takes, fused_takes, Takes, takes, FormTakes, primitive_takes, started_takes, call_takes, ArgumentsFit, no_argument_fits, value_fits, process_fits, collection_fits, closed_fits, sequence_takes, parallel_takes, fan_takes, first_takes, second_takes, loop_takes, initialized_takes, replaced_takes, followed_takes, transformed_takes, switch_takes, recurring_takes, keeping_takes, gathered_takes, releasing_takes, editing_takes, stages_take, Accepted}
+use Rattle.sf_mean.specs.Typing.{PrimitiveTakes, bare_takes, probe_takes, never_takes, value_takes, timed_takes, selected_takes, accumulated_takes, arrow_takes, fused_takes, Takes, takes, FormTakes, primitive_takes, started_takes, call_takes, ArgumentsFit, no_argument_fits, value_fits, process_fits, collection_fits, closed_fits, sequence_takes, parallel_takes, fan_takes, first_takes, second_takes, loop_takes, initialized_takes, replaced_takes, followed_takes, transformed_takes, switch_takes, recurring_takes, keeping_takes, gathered_takes, releasing_takes, editing_takes, stages_take, Collects, collects_none, collects_used, collects_added, collects_dropped, collects_kept, collects_chosen, Accepted}
 use Rattle.sf_check.specs.Answering.{primitive_in}
 use Rattle.sf_check.specs.Calling.{IsCalledAlike, AreCalledAlike}
 use Rattle.sf_check.proofs.Made.{made, tree_made}
@@ -58,7 +60,7 @@ module _ (fs gs : TypesByName) where
   abbrev pub FunctionAlike : Function → Type 0
   FunctionAlike (function p i) = Alike i
 
-  -- programs have no functions made into one, no collections and no pipelines
+  -- programs have no functions made into one and no pipelines
   abbrev pub PrimitiveAlike : Primitive → Type 0
   PrimitiveAlike (bare k) = Unit {0}
   PrimitiveAlike (probe k) = Unit {0}
@@ -80,10 +82,18 @@ module _ (fs gs : TypesByName) where
     TermAlike (transformed f t) = FunctionAlike f × TermAlike t
     TermAlike (switching w t p u) = TermAlike t × TermAlike u
     TermAlike (keeping w t q k p u) = TermAlike t × TermAlike q × TermAlike u
-    TermAlike (gathered i) = ⊥
-    TermAlike (releasing w i q k p u) = ⊥
-    TermAlike (editing w i k p u) = ⊥
+    TermAlike (gathered i) = CollectionAlike i
+    TermAlike (releasing w i q k p u) = CollectionAlike i × TermAlike q × TermAlike u
+    TermAlike (editing w i k p u) = CollectionAlike i × CollectionAlike u
     TermAlike (staged x f g) = ⊥
+
+    pub CollectionAlike : Collection → Type 0
+    CollectionAlike (without_members k t) = Unit {0}
+    CollectionAlike (used x) = Unit {0}
+    CollectionAlike (added i j t) = CollectionAlike i × Alike j × TermAlike t
+    CollectionAlike (dropped i j) = CollectionAlike i × Alike j
+    CollectionAlike (kept i f) = CollectionAlike i × FunctionAlike f
+    CollectionAlike (chosen j a b) = Alike j × CollectionAlike a × CollectionAlike b
 
     pub ReferenceAlike : Reference → Type 0
     ReferenceAlike (started w k) = Unit {0}
@@ -93,7 +103,7 @@ module _ (fs gs : TypesByName) where
     ArgumentsAlike no_arguments = Unit {0}
     ArgumentsAlike (value_argument e vs) = Alike e × ArgumentsAlike vs
     ArgumentsAlike (process_argument t vs) = TermAlike t × ArgumentsAlike vs
-    ArgumentsAlike (collection_argument i vs) = ⊥
+    ArgumentsAlike (collection_argument i vs) = CollectionAlike i × ArgumentsAlike vs
     ArgumentsAlike (closed_argument t vs) = ⊥
 
   adds_functions : {p : Pattern} {t : Kind} {R S : Names} → AddsNames p t R S → functions_of S ≡ functions_of R
@@ -184,16 +194,28 @@ module _ (fs gs : TypesByName) where
       form_over bs k (keeping_takes {k = x} {p = p} {a = a} {b = b} {c = c} t q h u) =
           let inner : Bindings = (x, process a b) ∷ bs in
           keeping_takes (takes_over bs k.0 t) (takes_over bs k.1 q) (bound_around inner h) (takes_over (bindings_inside p c inner) k.2 u)
-      form_over bs k (gathered_takes i) = absurd k
-      form_over bs k (releasing_takes i q h u) = absurd k
-      form_over bs k (editing_takes i h u) = absurd k
+      form_over bs k (gathered_takes i) = gathered_takes (collects_over bs k i)
+      form_over bs k (releasing_takes {x = x} {p = p} {k = l} {a = a} {b = b} {c = c} i q h u) =
+          let inner : Bindings = (x, collection l a b) ∷ bs in
+          releasing_takes (collects_over bs k.0 i) (takes_over bs k.1 q) (bound_around inner h) (takes_over (bindings_inside p c inner) k.2 u)
+      form_over bs k (editing_takes {x = x} {p = p} {k = l} {a = a} {b = b} {c = c} i h u) =
+          let inner : Bindings = (x, collection l a b) ∷ bs in
+          editing_takes (collects_over bs k.0 i) (bound_around inner h) (collects_over (bindings_inside p c inner) k.1 u)
       form_over bs k (stages_take f g) = absurd k
+
+      collects_over : (bs : Bindings) {i : Collection} {k : KeyKind} {a b : Kind} → CollectionAlike i → Collects (context_with fs bs ts) i k a b → Collects (context_with gs bs ts) i k a b
+      collects_over bs k collects_none = collects_none
+      collects_over bs k (collects_used h) = collects_used h
+      collects_over bs k (collects_added i j t) = collects_added (collects_over bs k.0 i) (typed_around bs k.1 j) (takes_over bs k.2 t)
+      collects_over bs k (collects_dropped i j) = collects_dropped (collects_over bs k.0 i) (typed_around bs k.1 j)
+      collects_over bs k (collects_kept i f) = collects_kept (collects_over bs k.0 i) (function_around bs k.1 f)
+      collects_over bs k (collects_chosen j a b) = collects_chosen (typed_around bs k.0 j) (collects_over bs k.1 a) (collects_over bs k.2 b)
 
       arguments_over : (bs : Bindings) {vs : Arguments} {qs : Bindings} → ArgumentsAlike vs → ArgumentsFit (context_with fs bs ts) vs qs → ArgumentsFit (context_with gs bs ts) vs qs
       arguments_over bs k no_argument_fits = no_argument_fits
       arguments_over bs k (value_fits h rest) = value_fits (typed_around bs k.0 h) (arguments_over bs k.1 rest)
       arguments_over bs k (process_fits h rest) = process_fits (takes_over bs k.0 h) (arguments_over bs k.1 rest)
-      arguments_over bs k (collection_fits i rest) = absurd k
+      arguments_over bs k (collection_fits i rest) = collection_fits (collects_over bs k.0 i) (arguments_over bs k.1 rest)
       arguments_over bs k (closed_fits h rest) = absurd k
 
   -- ## Arenas of expressions
@@ -236,10 +258,22 @@ module _ (fs gs : TypesByName) where
   -- ## Programs
 
   module _ (p : Program) (all : AreCalledAlike (expressions_of p) fs gs) where
-    arguments_alike : (vs : List Argument) (k : ℕ) → All (ArgumentBelow k) vs → ((j : TermId) → term_number j < k → TermAlike (tree p j)) → ArgumentsAlike (arguments_of p vs)
+    expression_in_alike : (e : ExprId) → Alike (expression_under p e)
+    expression_in_alike e = subst Alike (expression_in p e) (expression_alike (expressions_of p) all e)
+
+    collection_alike : (c : CollExpr) (k : ℕ) → CollectionBelow k c → ((j : TermId) → term_number j < k → TermAlike (tree p j)) → CollectionAlike (collection_of p c)
+    collection_alike (collections.Empty l t s) k b parts = tt
+    collection_alike (collections.Used x r s) k b parts = tt
+    collection_alike (collections.Added' o c e t s) k b parts = (collection_alike c k b.0 parts, expression_in_alike e, parts t b.1)
+    collection_alike (collections.Dropped' o c e s) k b parts = (collection_alike c k b parts, expression_in_alike e)
+    collection_alike (collections.Kept' o c f s) k b parts = (collection_alike c k b parts, subst FunctionAlike (function_at_in p f) (expression_alike (expressions_of p) all (body_at (expressions_of p) f)))
+    collection_alike (collections.Chosen' e o c r d s) k b parts = (expression_in_alike e, collection_alike c k b.0 parts, collection_alike d k b.1 parts)
+
+    arguments_alike : (vs : List Argument) (k : ℕ) → All (ArgumentBelow p k) vs → ((j : TermId) → term_number j < k → TermAlike (tree p j)) → ArgumentsAlike (arguments_of p vs)
     arguments_alike [] k b parts = tt
-    arguments_alike (arguments.Value e ∷ vs) k b parts = (subst Alike (expression_in p e) (expression_alike (expressions_of p) all e), arguments_alike vs k (All-tail (ArgumentBelow k) (arguments.Value e) vs b) parts)
-    arguments_alike (arguments.Process t ∷ vs) k b parts = (parts t (All-head (ArgumentBelow k) (arguments.Process t) vs b), arguments_alike vs k (All-tail (ArgumentBelow k) (arguments.Process t) vs b) parts)
+    arguments_alike (arguments.Value e ∷ vs) k b parts = (expression_in_alike e, arguments_alike vs k (All-tail (ArgumentBelow p k) (arguments.Value e) vs b) parts)
+    arguments_alike (arguments.Process t ∷ vs) k b parts = (parts t (All-head (ArgumentBelow p k) (arguments.Process t) vs b), arguments_alike vs k (All-tail (ArgumentBelow p k) (arguments.Process t) vs b) parts)
+    arguments_alike (arguments.Collection i ∷ vs) k b parts = (collection_alike (collection_under p i) k (All-head (ArgumentBelow p k) (arguments.Collection i) vs b) parts, arguments_alike vs k (All-tail (ArgumentBelow p k) (arguments.Collection i) vs b) parts)
 
     made_alike : (n : Node) (k : ℕ) → TermPartsBelow p n k → ((j : TermId) → term_number j < k → TermAlike (tree p j)) → TermAlike (made p n)
     made_alike (terms.Primitive q) k b parts = node_alike (expressions_of p) all q
@@ -252,6 +286,9 @@ module _ (fs gs : TypesByName) where
     made_alike (terms.Transformed g f) k b parts = (expression_alike (expressions_of p) all (body_at (expressions_of p) g), parts f b)
     made_alike (terms.Switching w f q g) k b parts = (parts f b.0, parts g b.1)
     made_alike (terms.Keeping w f o x s q g) k b parts = (parts f b.0, parts o b.1, parts g b.2)
+    made_alike (terms.Gathered i) k b parts = collection_alike (collection_under p i) k b parts
+    made_alike (terms.Releasing n) k b parts = (collection_alike (collection_under p n.members) k b.0 parts, parts n.observer b.1, parts n.body b.2)
+    made_alike (terms.Editing n) k b parts = (collection_alike (collection_under p n.members) k b.0 parts, collection_alike (collection_under p n.edit) k b.1 parts)
 
     term_parts : (t : TermId) → TermPartsBelow p (term_node_at p t) (term_number t)
     unfolding term_node_at term_entry_of

@@ -4,7 +4,9 @@ use Rattle.std.specs.Prelude.{bytes_eq}
 use Rattle.std.proofs.lemmas.Option.{same_Some}
 use Rattle.std.proofs.lemmas.Bool.{cases_lt, cases_eq}
 use Rattle.std.proofs.lemmas.List.Elements.{All-head, All-tail}
-use Rattle.sf_value.specs.Values.{Name, Kind, pair_kind, event_kind, nodes as nodes_of}
+use Rattle.sf_value.specs.Values.{Name, KeyKind, int_keys, text_keys, Kind, bool_kind, pair_kind, event_kind, table_kind, nodes as nodes_of}
+use Rattle.sf_value.specs.KindView.{key_kind_of}
+use mathlib.Core.Path.{subst₂}
 use Rattle.sf_refusal.specs.declared.spot.Spot.{Spot}
 use Rattle.sf_refusal.specs.declared.rule.Rule.TheVariants.{UnknownName, Mismatch, TypeTooLarge}
 use Rattle.sf_refusal.specs.declared.refusal.Breach.{Breach}
@@ -43,24 +45,29 @@ use Rattle.sf_term.specs.declared.node.Primitive.{Primitive}
 use Rattle.sf_term.specs.declared.node.Primitive.TheVariants as primitives
 use Rattle.sf_term.specs.declared.node.Node.{Node}
 use Rattle.sf_term.specs.declared.node.Node.TheVariants as nodes
+use Rattle.sf_term.specs.declared.collection.CollectionId.{CollectionId}
+use Rattle.sf_term.specs.declared.collection.CollExpr.{CollExpr}
+use Rattle.sf_term.specs.declared.collection.CollExpr.TheVariants as collections
+use Rattle.sf_term.specs.declared.node.Releasing.{Releasing}
+use Rattle.sf_term.specs.declared.node.Editing.{Editing}
 use Rattle.sf_term.specs.declared.program.Program.{Program}
 use Rattle.sf_term.specs.Entries.{absent_payload}
-use Rattle.sf_term.specs.Arena.{term_number, tree, term_node_at, term_entry_of, term_spot_at, expressions_of, arguments_under, ArgumentBelow, TermPartsBelow}
-use Rattle.sf_term.proofs.Kept.{parts_below}
-use Rattle.sf_mean.specs.Contexts.{NameKind, value, process, collection, process_named, Bindings, bindings_inside, Signature, signature_named, Context, names_of_values, inside_pattern, inside_process}
-use Rattle.sf_mean.specs.Typing.{bare_kind, value_kind, takes_input, takes_time, timed_kind, takes_number, selected_kind, accumulated_argument, accumulated_kind, PrimitiveTakes, bare_takes, probe_takes, never_takes, value_takes, timed_takes, selected_takes, accumulated_takes, arrow_takes, Takes, FormTakes, primitive_takes, started_takes, call_takes, no_argument_fits, ParameterFits, sequence_takes, parallel_takes, fan_takes, first_takes, second_takes, loop_takes, replaced_takes, transformed_takes, keeping_takes}
-use Rattle.sf_operator.specs.Kinds.{same_kind, payload_of}
+use Rattle.sf_term.specs.Arena.{term_number, tree, term_node_at, term_entry_of, term_spot_at, expressions_of, expression_under, arguments_under, collection_under, collection_of, collection_at, ArgumentBelow, CollectionBelow, TermPartsBelow}
+use Rattle.sf_term.proofs.Kept.{parts_below, expression_in, function_at_in}
+use Rattle.sf_mean.specs.Contexts.{NameKind, value, process, collection, process_named, Bindings, bindings_inside, Signature, signature_named, Context, names_of_values, inside_pattern, inside_process, inside_collection}
+use Rattle.sf_mean.specs.Typing.{bare_kind, value_kind, takes_input, takes_time, timed_kind, takes_number, selected_kind, accumulated_argument, accumulated_kind, PrimitiveTakes, bare_takes, probe_takes, never_takes, value_takes, timed_takes, selected_takes, accumulated_takes, arrow_takes, Takes, FormTakes, primitive_takes, started_takes, call_takes, no_argument_fits, ParameterFits, sequence_takes, parallel_takes, fan_takes, first_takes, second_takes, loop_takes, replaced_takes, transformed_takes, keeping_takes, Collects, collects_none, collects_used, collects_added, collects_dropped, collects_kept, collects_chosen, gathered_takes, releasing_takes, editing_takes}
+use Rattle.sf_operator.specs.Kinds.{same_kind, payload_of, kind_of_keys}
 use Rattle.sf_operator.proofs.SameKinds.{same_is, is_same, payload_is}
 use Rattle.sf_mean.proofs.Inferred.{PartsAre, two_parts, no_parts, parts_are, names_inside, output_fits}
-use Rattle.sf_check.specs.Breaking.{IsNoEventBeside, kind_named, ProcessRefused, pattern_in, name_in, keeping_inside, BindsInside, Exceeds, PrimitiveBreaks, argument_refused, accumulator_refused, made_refused, value_refused, bare_refused, never_refused, given_refused, timed_value_refused, input_differs, time_outside, timed_refused, selected_refused, number_outside, start_value_refused, accumulation_breaks, function_refused, FormBreaks, primitive_breaks, no_process, process_differs, value_keeps, process_keeps, argument_refused, process_for_value, process_for_collection, CallBreaks, no_template, other_number, argument_breaks, call_differs, call_breaks, parallel_input, parallel_exceeds, fan_exceeds, side_input, first_exceeds, second_exceeds, start_refused, fed_exceeds, head_differs, transform_refused, transform_differs, BodyWanted, after_source, beside_input, BodyBreaks, pattern_refused, body_differs, source_differs, recurring_input, switch_body_breaks, observed_exceeds, observer_differs, keeping_body_breaks, Reaches, call_argument, sequence_left, sequence_right, parallel_left, parallel_right, fan_left, fan_right, first_part, second_part, head_part, transformed_part, switch_source, recurring_first, switch_body, keeping_source, keeping_observer, keeping_body, TermBreaks, itself, within}
+use Rattle.sf_check.specs.Breaking.{gathered_exceeds, tables_exceed, their_observer_differs, releasing_body_breaks, editing_input, edit_breaks, edited_exceeds, edit_pattern_refused, edit_differs, their_observer, releasing_body, ReachesMembers, argument_members, gathered_members, releasing_members, editing_members, their_edit, in_members, collection_keeps, collection_for_value, collection_for_process, CollectionRefused, CollectionBreaks, no_collection, collection_differs, before_added, added_key_refused, member_breaks, member_differs, before_dropped, dropped_key_refused, dropped_key_differs, before_kept, kept_refused, kept_differs, condition_refused, one_breaks, other_breaks, chosen_differs, members_inside, IsNoEventBeside, kind_named, ProcessRefused, pattern_in, name_in, keeping_inside, BindsInside, Exceeds, PrimitiveBreaks, argument_refused, accumulator_refused, made_refused, value_refused, bare_refused, never_refused, given_refused, timed_value_refused, input_differs, time_outside, timed_refused, selected_refused, number_outside, start_value_refused, accumulation_breaks, function_refused, FormBreaks, primitive_breaks, no_process, process_differs, value_keeps, process_keeps, argument_refused, process_for_value, process_for_collection, CallBreaks, no_template, other_number, argument_breaks, call_differs, call_breaks, parallel_input, parallel_exceeds, fan_exceeds, side_input, first_exceeds, second_exceeds, start_refused, fed_exceeds, head_differs, transform_refused, transform_differs, BodyWanted, after_source, beside_input, BodyBreaks, pattern_refused, body_differs, source_differs, recurring_input, switch_body_breaks, observed_exceeds, observer_differs, keeping_body_breaks, Reaches, call_argument, sequence_left, sequence_right, parallel_left, parallel_right, fan_left, fan_right, first_part, second_part, head_part, transformed_part, switch_source, recurring_first, switch_body, keeping_source, keeping_observer, keeping_body, TermBreaks, itself, within}
 use Rattle.sf_check.specs.Answering.{primitive_in, ArgumentFits}
 use Rattle.sf_check.proofs.Made.{made}
 use Rattle.sf_check.proofs.Terms.{form_ok, wanted_takes, IsAmongOutputs, output_reached, output_differs, output_takes}
 use Rattle.sf_check.specs.Laws.{ContextFits}
-use Rattle.sf_check.proofs.Types.{primitive_fits, no_event, expression_one, takes_one}
+use Rattle.sf_check.proofs.Types.{primitive_fits, no_event, expression_one, takes_one, members_one, keys_of_table, values_of_table}
 use Rattle.sf_check.proofs.Arguments.{rest_length}
 use Rattle.sf_check.proofs.Calls.{ArgumentsSo, first_so, next_so}
-use Rattle.sf_check.proofs.Contexts.{process_is}
+use Rattle.sf_check.proofs.Contexts.{process_is, collection_is}
 
 pub kinds_or : (t u : Kind) → (t ≡ u) ⊎ (t ≢ u)
 kinds_or t u = each (same_kind t u) refl
@@ -129,6 +136,10 @@ primitive_answered x Γ (primitives.Arrow g) a s fit f = elim (function_answered
 abbrev pub IsAnswered : Program → Context → TermId → Kind → Type 0
 IsAnswered p Γ t a = ((b : Kind) × Takes Γ (tree p t) a b) ⊎ ((e : Breach) × TermBreaks p Γ t a e)
 
+-- the members of a collection take inputs of a type, or a rule is broken
+abbrev pub AreAnswered : Program → Context → CollExpr → Kind → Type 0
+AreAnswered p Γ c a = ((k : KeyKind) × (b : Kind) × Collects Γ (collection_of p c) k a b) ⊎ ((e : Breach) × CollectionBreaks p Γ c a e)
+
 -- the answer for a body inside a pattern for a type, where what stands around it fits
 abbrev pub Body : Program → PatternId → TermId → Kind → Kind → Context → Type 0
 Body p q g c x Δ = ContextFits (inside_pattern (pattern_in p q) c Δ) → IsAnswered p (inside_pattern (pattern_in p q) c Δ) g x
@@ -156,6 +167,110 @@ kept_fits Γ x a b fits around = (λ y t. value_test y t (bytes_eq y x), λ y c 
     process_test y c d true h = subst (λ (k : Kind × Kind). Fits k.1) (same_Some (a, b) (c, d) h) fits
     process_test y c d false h = around.1 y c d h
 
+-- and inside the name of members
+members_fit : (Γ : Context) (x : Name) (k : KeyKind) (a b : Kind) → ContextFits Γ → ContextFits (inside_collection x k a b Γ)
+members_fit Γ x k a b around = (λ y t. value_test y t (bytes_eq y x), λ y c d. process_test y c d (bytes_eq y x), around.2)
+  where
+    value_test : (y : Name) (t : Kind) (s : Bool) → cond s None (type_of_name y (names_of_values Γ)) ≡ Some t → Fits t
+    value_test y t true h = absurd cc
+    value_test y t false h = around.0 y t h
+
+    process_test : (y : Name) (c d : Kind) (s : Bool) → cond s None (process_named y Γ.bindings) ≡ Some (c, d) → Fits d
+    process_test y c d true h = absurd cc
+    process_test y c d false h = around.1 y c d h
+
+keys_fit : (k : KeyKind) → Fits (kind_of_keys k)
+keys_fit int_keys = omega arith
+keys_fit text_keys = omega arith
+
+-- ## Collections
+
+module _ (p : Program) (Γ : Context) (n : ℕ) (a : Kind) (fits : Fits a) (parts : (j : TermId) → term_number j < n → IsAnswered p Γ j a) where
+  of_used : (x : NameId) (r s : Spot) → AreAnswered p Γ (collections.Used x r s) a
+  of_used x r s = each (kind_named (name_in p x) Γ.bindings) refl
+    where
+      each : (o : Option NameKind) → kind_named (name_in p x) Γ.bindings ≡ o → AreAnswered p Γ (collections.Used x r s) a
+      each None e = inr (_, no_collection (subst (λ o. CollectionRefused o r (breach_of UnknownName r)) (sym e) refl))
+      each (Some (value u)) e = inr (_, no_collection (subst (λ o. CollectionRefused o r (breach_of Mismatch r)) (sym e) refl))
+      each (Some (process b c)) e = inr (_, no_collection (subst (λ o. CollectionRefused o r (breach_of Mismatch r)) (sym e) refl))
+      each (Some (collection k b c)) e = elim (kinds_or a b) [
+        | inr other ↦ inr (_, collection_differs e other)
+        | inl same ↦
+            let named : kind_named (name_in p x) Γ.bindings ≡ Some (collection k a c) = e ∙ ap (λ b. Some (collection k b c)) (sym same) in
+            inl (k, c, collects_used (collection_is (name_in p x) Γ.bindings named))
+      ]
+
+  -- a key of the type of keys
+  key_under : (v : ExprId) {u t : Kind} → u ≡ t → HasType (names_of_values Γ) (expression (expressions_of p) v) u → HasType (names_of_values Γ) (expression_under p v) t
+  key_under v {u} {t} e h = subst (λ i. HasType (names_of_values Γ) i t) (expression_in p v) (subst (HasType (names_of_values Γ) (expression (expressions_of p) v)) e h)
+
+  of_added : {o : _} (c : CollExpr) (v : ExprId) (t : TermId) (s : Spot) (k : KeyKind) (b u d : Kind) → Collects Γ (collection_of p c) k a b → HasType (names_of_values Γ) (expression (expressions_of p) v) u → Takes Γ (tree p t) a d → AreAnswered p Γ (collections.Added' o c v t s) a
+  of_added c v t s k b u d C I T = elim (kinds_or u (kind_of_keys k)) [
+    | inr other ↦ inr (_, member_differs C I T (λ same. absurd (other same)))
+    | inl key ↦ elim (kinds_or d b) [
+      | inr other ↦ inr (_, member_differs C I T (λ same. other))
+      | inl e ↦ inl (k, b, collects_added C (key_under v key I) (subst (Takes Γ (tree p t) a) e T))
+    ]
+  ]
+
+  of_kept : {o : _} (c : CollExpr) (f : FunctionId) (s : Spot) (k : KeyKind) (b u : Kind) → Collects Γ (collection_of p c) k a b → FunctionTakes (names_of_values Γ) (function_at (expressions_of p) f) (kind_of_keys k) u → AreAnswered p Γ (collections.Kept' o c f s) a
+  of_kept c f s k b u C F = elim (kinds_or u bool_kind) [
+    | inr other ↦ inr (_, kept_differs C F other)
+    | inl e ↦
+        let G = subst (FunctionTakes (names_of_values Γ) (function_at (expressions_of p) f) (kind_of_keys k)) e F in
+        inl (k, b, collects_kept C (subst (λ f. FunctionTakes (names_of_values Γ) f (kind_of_keys k) bool_kind) (function_at_in p f) G))
+  ]
+
+  of_chosen : {o q : _} (v : ExprId) (c d : CollExpr) (s : Spot) (k l : KeyKind) (b h u : Kind) → HasType (names_of_values Γ) (expression (expressions_of p) v) u → Collects Γ (collection_of p c) k a b → Collects Γ (collection_of p d) l a h → AreAnswered p Γ (collections.Chosen' v o c q d s) a
+  of_chosen v c d s k l b h u I C D = elim (kinds_or u bool_kind) [
+    | inr other ↦ inr (_, chosen_differs I C D (λ same. absurd (other same)))
+    | inl truth ↦ elim (kinds_or (table_kind l h) (table_kind k b)) [
+      | inr other ↦ inr (_, chosen_differs I C D (λ same. other))
+      | inl e ↦ inl (k, b, collects_chosen (key_under v truth I) C (subst₂ (λ l h. Collects Γ (collection_of p d) l a h) (keys_of_table e) (values_of_table e) D))
+    ]
+  ]
+
+  collection_answered : (c : CollExpr) → CollectionBelow n c → AreAnswered p Γ c a
+  collection_answered (collections.Empty k t s) below = inl (key_kind_of k, t, collects_none)
+  collection_answered (collections.Used x r s) below = of_used x r s
+  collection_answered (collections.Added' o c v t s) below = elim (collection_answered c below.0) [
+    | inr r ↦ inr (r.0, before_added r.1)
+    | inl m ↦ elim (answered (expressions_of p) (names_of_values Γ) v) [
+      | inr r ↦ inr (_, added_key_refused m.2 r.1)
+      | inl u ↦ elim (parts t below.1) [
+        | inr r ↦ inr (r.0, member_breaks m.2 u.1 r.1)
+        | inl d ↦ of_added c v t s m.0 m.1 u.0 d.0 m.2 u.1 d.1
+      ]
+    ]
+  ]
+  collection_answered (collections.Dropped' o c v s) below = elim (collection_answered c below) [
+    | inr r ↦ inr (r.0, before_dropped r.1)
+    | inl m ↦ elim (answered (expressions_of p) (names_of_values Γ) v) [
+      | inr r ↦ inr (_, dropped_key_refused m.2 r.1)
+      | inl u ↦ elim (kinds_or u.0 (kind_of_keys m.0)) [
+        | inr other ↦ inr (_, dropped_key_differs m.2 u.1 other)
+        | inl key ↦ inl (m.0, m.1, collects_dropped m.2 (key_under v key u.1))
+      ]
+    ]
+  ]
+  collection_answered (collections.Kept' o c f s) below = elim (collection_answered c below) [
+    | inr r ↦ inr (r.0, before_kept r.1)
+    | inl m ↦ elim (function_answered (expressions_of p) (names_of_values Γ) f (kind_of_keys m.0) s (keys_fit m.0)) [
+      | inr r ↦ inr (_, kept_refused m.2 r.1)
+      | inl u ↦ of_kept c f s m.0 m.1 u.0 m.2 u.1
+    ]
+  ]
+  collection_answered (collections.Chosen' v o c q d s) below = elim (answered (expressions_of p) (names_of_values Γ) v) [
+    | inr r ↦ inr (_, condition_refused r.1)
+    | inl u ↦ elim (collection_answered c below.0) [
+      | inr r ↦ inr (r.0, one_breaks u.1 r.1)
+      | inl m ↦ elim (collection_answered d below.1) [
+        | inr r ↦ inr (r.0, other_breaks u.1 m.2 r.1)
+        | inl i ↦ of_chosen v c d s m.0 i.0 m.1 i.1 u.0 u.1 m.2 i.2
+      ]
+    ]
+  ]
+
 module _ (p : Program) (Γ : Context) (around : ContextFits Γ) where
   names : NamesFit (names_of_values Γ)
   names = around.0
@@ -166,6 +281,9 @@ module _ (p : Program) (Γ : Context) (around : ContextFits Γ) where
 
     in_part : {Δ : Context} {j : TermId} {b : Kind} {e : Breach} → Reaches p Γ n a Δ j b → TermBreaks p Δ j b e → IsAnswered p Γ t a
     in_part {Δ} {j} {b} {e} r h = inr (e, within (subst (λ m. Reaches p Γ m a Δ j b) (sym is) r) h)
+
+    in_collection : {Δ : Context} {i : CollectionId} {b : Kind} {e : Breach} → ReachesMembers p Γ n a Δ i b → CollectionBreaks p Δ (collection_under p i) b e → IsAnswered p Γ t a
+    in_collection {Δ} {i} {b} {e} r h = inr (e, in_members (subst (λ m. ReachesMembers p Γ m a Δ i b) (sym is) r) h)
 
     taken : (b : Kind) → Fits b → FormTakes Γ (made p n) a b → IsAnswered p Γ t a
     taken b f h = inl (b, form_ok p Γ t n a is b fits f h)
@@ -358,6 +476,72 @@ module _ (p : Program) (Γ : Context) (around : ContextFits Γ) where
       ]
     ]
 
+  of_gathered : (t : TermId) (i : CollectionId) (a : Kind) → term_node_at p t ≡ nodes.Gathered i → Fits a → AreAnswered p Γ (collection_under p i) a → IsAnswered p Γ t a
+  of_gathered t i a is f (inr r) = in_collection t _ a is f gathered_members r.1
+  of_gathered t i a is f (inl m) = elim (cases_lt 256 (nodes_of (table_kind m.0 m.1))) [
+    | inl big ↦ broken t _ a is f (gathered_exceeds m.2 big)
+    | inr fits ↦ taken t _ a is f (table_kind m.0 m.1) fits (gathered_takes m.2)
+  ]
+
+  module _ (t : TermId) (n : Releasing) (a : Kind) (is : term_node_at p t ≡ nodes.Releasing n) (f : Fits a) where
+    of_their_seen : (k : KeyKind) (b d : Kind) → Collects Γ (collection_at p n.members) k a b → Takes Γ (tree p n.observer) (pair_kind a (table_kind k b)) d
+        → ((c : Kind) → Body p n.pattern n.body c a (members_inside p n.name k a b Γ)) → (e : Option Kind) → payload_of d ≡ e → IsAnswered p Γ t a
+    of_their_seen k b d C O G None e = broken t _ a is f (their_observer_differs C O (no_event d e))
+    of_their_seen k b d C O G (Some c) e =
+        let E = subst (Takes Γ (tree p n.observer) (pair_kind a (table_kind k b))) (payload_is d e) O in
+        of_event t (nodes.Releasing n) a is f (members_inside p n.name k a b Γ) n.pattern n.body a (table_kind k b) c (λ r h. releasing_body_breaks C E h) (releasing_body C E) (releasing_takes C E)
+        (members_fit Γ (name_in p n.name) k a b around) (payload_fits c (output_fits E)) (G c)
+
+    of_releasing : AreAnswered p Γ (collection_under p n.members) a → ((x : Kind) → Fits x → IsAnswered p Γ n.observer x) → ((k : KeyKind) (b c : Kind) → Body p n.pattern n.body c a (members_inside p n.name k a b Γ)) → IsAnswered p Γ t a
+    of_releasing (inr r) O G = in_collection t _ a is f releasing_members r.1
+    of_releasing (inl m) O G = elim (cases_lt 256 (nodes_of (pair_kind a (table_kind m.0 m.1)))) [
+      | inl big ↦ broken t _ a is f (tables_exceed m.2 big)
+      | inr fits ↦ elim (O (pair_kind a (table_kind m.0 m.1)) fits) [
+        | inr r ↦ in_part t _ a is f (their_observer m.2 fits) r.1
+        | inl d ↦ of_their_seen m.0 m.1 d.0 m.2 d.1 (G m.0 m.1) (payload_of d.0) refl
+      ]
+    ]
+
+  -- the answer for an edit inside a pattern for a type, where what stands around it fits
+  abbrev Edit : Editing → KeyKind → (input output payload : Kind) → Type 0
+  Edit n k x b c = ContextFits (inside_pattern (pattern_in p n.pattern) c (members_inside p n.name k x b Γ)) → AreAnswered p (inside_pattern (pattern_in p n.pattern) c (members_inside p n.name k x b Γ)) (collection_under p n.edit) x
+
+  module _ (t : TermId) (n : Editing) (is : term_node_at p t ≡ nodes.Editing n) (x c : Kind) (f : Fits (pair_kind x (event_kind c))) where
+    of_edited : (k : KeyKind) (b : Kind) → Collects Γ (collection_at p n.members) k x b → BindsInside (pattern_in p n.pattern) c (members_inside p n.name k x b Γ)
+        → AreAnswered p (inside_pattern (pattern_in p n.pattern) c (members_inside p n.name k x b Γ)) (collection_under p n.edit) x → IsAnswered p Γ t (pair_kind x (event_kind c))
+    of_edited k b C binds (inr r) = in_collection t _ (pair_kind x (event_kind c)) is f (their_edit C binds) r.1
+    of_edited k b C binds (inl d) = elim (kinds_or (table_kind d.0 d.1) (table_kind k b)) [
+      | inr other ↦ broken t _ (pair_kind x (event_kind c)) is f (edit_breaks C (edit_differs binds d.2 other))
+      | inl e ↦
+          let E = subst₂ (λ l h. Collects (inside_pattern (pattern_in p n.pattern) c (members_inside p n.name k x b Γ)) (collection_at p n.edit) l x h) (keys_of_table e) (values_of_table e) d.2 in
+          elim (cases_lt 256 (nodes_of (table_kind k b))) [
+            | inl big ↦ broken t _ (pair_kind x (event_kind c)) is f (edited_exceeds C binds E big)
+            | inr fits ↦ taken t _ (pair_kind x (event_kind c)) is f (table_kind k b) fits (editing_takes C binds E)
+          ]
+    ]
+
+    of_editing_event : AreAnswered p Γ (collection_under p n.members) x → ((k : KeyKind) (b : Kind) → Edit n k x b c) → IsAnswered p Γ t (pair_kind x (event_kind c))
+    of_editing_event (inr r) E = in_collection t _ (pair_kind x (event_kind c)) is f editing_members r.1
+    of_editing_event (inl m) E =
+        let Δ = members_inside p n.name m.0 x m.1 Γ in
+        let inside = members_fit Γ (name_in p n.name) m.0 x m.1 around in
+        elim (bound_or (names_of_values Δ) (placed_at (expressions_of p) n.pattern) c (term_spot_at p t) inside.0 (event_fits x c f)) [
+          | inr r ↦ broken t _ (pair_kind x (event_kind c)) is f (edit_breaks m.2 (edit_pattern_refused r.1))
+          | inl b ↦
+              let inner = names_inside Δ.functions Δ.bindings b.1.adds refl in
+              of_edited m.0 m.1 m.2 (subst (Binds (pattern_in p n.pattern) c (names_of_values Δ)) inner b.1)
+              (E m.0 m.1 (subst (λ R. NamesFit R) inner b.2, λ y a d h. inside.1 y a d (process_inside (pattern_in p n.pattern) c Δ.bindings y h), inside.2))
+        ]
+
+  of_editing : (t : TermId) (n : Editing) (a : Kind) → term_node_at p t ≡ nodes.Editing n → Fits a → ((x : Kind) → Fits x → AreAnswered p Γ (collection_under p n.members) x) → ((k : KeyKind) (x b c : Kind) → Fits x → Edit n k x b c) → IsAnswered p Γ t a
+  of_editing t n a is f C E = elim (beside_or a) [
+    | inr none ↦ broken t _ a is f (editing_input none)
+    | inl e ↦
+        let fits = subst Fits e.2 f in
+        let small = value_fits e.0 e.1 fits in
+        subst (IsAnswered p Γ t) (sym e.2) (of_editing_event t n is e.0 e.1 fits (C e.0 small) (λ k b. E k e.0 b e.1 small))
+  ]
+
   of_probe : (t : TermId) (m : NameId) (n : Spot) (a : Kind) → term_node_at p t ≡ nodes.Named Probe m n → Fits a → IsAnswered p Γ t a
   of_probe t m n a is k = taken t _ a is k a k (primitive_takes (probe_takes k))
 
@@ -394,6 +578,11 @@ module _ (p : Program) (Γ : Context) (around : ContextFits Γ) where
   process_fits : (j : TermId) (b c d : Kind) → Takes Γ (tree p j) b d → IsTrue (same_kind d c) ↔ ArgumentFits p Γ (arguments.Process j) (process b c)
   process_fits j b c d h = (λ same. subst (Takes Γ (tree p j) b) (same_is d c same) h, λ other. ap (same_kind d) (takes_one other h) ∙ is_same d)
 
+  members_fits : (i : CollectionId) (k l : KeyKind) (b c d : Kind) → Collects Γ (collection_at p i) k b c → IsTrue (same_kind (table_kind k c) (table_kind l d)) ↔ ArgumentFits p Γ (arguments.Collection i) (collection l b d)
+  members_fits i k l b c d h =
+      let to : IsTrue (same_kind (table_kind k c) (table_kind l d)) → Collects Γ (collection_at p i) l b d = λ same. let e = same_is (table_kind k c) (table_kind l d) same in subst₂ (λ l d. Collects Γ (collection_at p i) l b d) (keys_of_table e) (values_of_table e) h in
+      (to, λ other. ap (same_kind (table_kind k c)) (members_one other h) ∙ is_same (table_kind k c))
+
   module _ (t : TermId) (k : NameId) (vs : ArgumentsId) (a : Kind) (is : term_node_at p t ≡ nodes.Call k vs) (f : Fits a)
       (parts : (j : TermId) → term_number j < term_number t → (b : Kind) → Fits b → IsAnswered p Γ j b) where
     breaks_call : {o : Option Signature} {e : Breach} → signature_named (name_in p k) Γ.signatures ≡ o → CallBreaks p Γ (term_spot_at p t) (arguments_under p vs) a o e → IsAnswered p Γ t a
@@ -406,24 +595,35 @@ module _ (p : Program) (Γ : Context) (around : ContextFits Γ) where
       all_known true so (inl e) = taken t (nodes.Call k vs) a is f g.output (around.2 (name_in p k) g named).2 (subst (λ a. FormTakes Γ (made p (nodes.Call k vs)) a g.output) (sym e) (call_takes named (so.fits refl no_argument_fits)))
 
       of_arguments : (ws : List Argument) (rs : Bindings) (fit : Bool) → ArgumentsSo p Γ (arguments_under p vs) g.parameters ws rs fit
-          → All (ArgumentBelow (term_number t)) ws → All FitsIn rs → IsAnswered p Γ t a
+          → All (ArgumentBelow p (term_number t)) ws → All FitsIn rs → IsAnswered p Γ t a
       of_arguments [] [] fit so below fits = all_known fit so (kinds_or a g.input)
       of_arguments [] (r ∷ rs) fit so below fits = absurd (omega (arith, rest_length so.left))
       of_arguments (v ∷ ws) [] fit so below fits = absurd (omega (arith, rest_length so.left))
       of_arguments (arguments.Value e ∷ ws) ((x, q) ∷ rs) fit so below fits = elim (answered (expressions_of p) (names_of_values Γ) e) [
         | inr r ↦ breaks_call named (argument_breaks so.left (argument_refused r.1))
-        | inl u ↦ of_arguments ws rs (fit && fits_kind u.0 q) (next_so fit (fits_kind u.0 q) so (value_keeps u.1) (kind_fits e u.0 u.1 q)) (All-tail (ArgumentBelow (term_number t)) (arguments.Value e) ws below) (All-tail FitsIn (x, q) rs fits)
+        | inl u ↦ of_arguments ws rs (fit && fits_kind u.0 q) (next_so fit (fits_kind u.0 q) so (value_keeps u.1) (kind_fits e u.0 u.1 q)) (All-tail (ArgumentBelow p (term_number t)) (arguments.Value e) ws below) (All-tail FitsIn (x, q) rs fits)
       ]
       of_arguments (arguments.Process j ∷ ws) ((x, value u) ∷ rs) fit so below fits = breaks_call named (argument_breaks so.left process_for_value)
       of_arguments (arguments.Process j ∷ ws) ((x, collection c b d) ∷ rs) fit so below fits = breaks_call named (argument_breaks so.left process_for_collection)
       of_arguments (arguments.Process j ∷ ws) ((x, process b c) ∷ rs) fit so below fits =
           let small = All-head FitsIn (x, process b c) rs fits in
-          elim (parts j (All-head (ArgumentBelow (term_number t)) (arguments.Process j) ws below) b small.0) [
+          elim (parts j (All-head (ArgumentBelow p (term_number t)) (arguments.Process j) ws below) b small.0) [
             | inr r ↦ in_part t (nodes.Call k vs) a is f (call_argument named so.left) r.1
-            | inl d ↦ of_arguments ws rs (fit && same_kind d.0 c) (next_so fit (same_kind d.0 c) so (process_keeps d.1) (process_fits j b c d.0 d.1)) (All-tail (ArgumentBelow (term_number t)) (arguments.Process j) ws below) (All-tail FitsIn (x, process b c) rs fits)
+            | inl d ↦ of_arguments ws rs (fit && same_kind d.0 c) (next_so fit (same_kind d.0 c) so (process_keeps d.1) (process_fits j b c d.0 d.1)) (All-tail (ArgumentBelow p (term_number t)) (arguments.Process j) ws below) (All-tail FitsIn (x, process b c) rs fits)
+          ]
+      of_arguments (arguments.Collection i ∷ ws) ((x, value u) ∷ rs) fit so below fits = breaks_call named (argument_breaks so.left collection_for_value)
+      of_arguments (arguments.Collection i ∷ ws) ((x, process b c) ∷ rs) fit so below fits = breaks_call named (argument_breaks so.left collection_for_process)
+      of_arguments (arguments.Collection i ∷ ws) ((x, collection l b d) ∷ rs) fit so below fits =
+          let small = All-head FitsIn (x, collection l b d) rs fits in
+          let members = collection_answered p Γ (term_number t) b small.0 (λ j less. parts j less b small.0) (collection_under p i) (All-head (ArgumentBelow p (term_number t)) (arguments.Collection i) ws below) in
+          elim members [
+            | inr r ↦ in_collection t (nodes.Call k vs) a is f (argument_members named so.left) r.1
+            | inl m ↦
+                let same = same_kind (table_kind m.0 m.1) (table_kind l d) in
+                of_arguments ws rs (fit && same) (next_so fit same so (collection_keeps m.2) (members_fits i m.0 l b m.1 d m.2)) (All-tail (ArgumentBelow p (term_number t)) (arguments.Collection i) ws below) (All-tail FitsIn (x, collection l b d) rs fits)
           ]
 
-    of_call : All (ArgumentBelow (term_number t)) (arguments_under p vs) → (o : Option Signature) → signature_named (name_in p k) Γ.signatures ≡ o → IsAnswered p Γ t a
+    of_call : All (ArgumentBelow p (term_number t)) (arguments_under p vs) → (o : Option Signature) → signature_named (name_in p k) Γ.signatures ≡ o → IsAnswered p Γ t a
     of_call below None e = breaks_call e no_template
     of_call below (Some g) e = elim (cases_eq (length (arguments_under p vs)) (length g.parameters)) [
       | inr other ↦ breaks_call e (other_number other)
@@ -458,6 +658,13 @@ answered_within p (suc fuel) Γ around t h a f = by_node (term_node_at p t) refl
     by_node (nodes.Switching (Recurring w) l q r) is b parts = of_recurring p Γ around t w l q r a f is (parts Γ around l b.0) (λ c x h fit. parts (inside_pattern (pattern_in p q) c Γ) fit r b.1 x h)
     by_node (nodes.Keeping w l o k n q r) is b parts =
         of_keeping p Γ around t w l o k n q r a is f (parts Γ around l b.0 a f) (parts Γ around o b.1) (λ d c fit. parts (inside_pattern (pattern_in p q) c (keeping_inside p k a d Γ)) fit r b.2 a f)
+    by_node (nodes.Gathered i) is b parts = of_gathered p Γ around t i a is f (collection_answered p Γ (term_number t) a f (λ j k. parts Γ around j k a f) (collection_under p i) b)
+    by_node (nodes.Releasing n) is b parts =
+        of_releasing p Γ around t n a is f (collection_answered p Γ (term_number t) a f (λ j k. parts Γ around j k a f) (collection_under p n.members) b.0) (parts Γ around n.observer b.1)
+        (λ k d c fit. parts (inside_pattern (pattern_in p n.pattern) c (members_inside p n.name k a d Γ)) fit n.body b.2 a f)
+    by_node (nodes.Editing n) is b parts =
+        of_editing p Γ around t n a is f (λ x g. collection_answered p Γ (term_number t) x g (λ j k. parts Γ around j k x g) (collection_under p n.members) b.0)
+        (λ k x d c g fit. let Θ = inside_pattern (pattern_in p n.pattern) c (members_inside p n.name k x d Γ) in collection_answered p Θ (term_number t) x g (λ j l. parts Θ fit j l x g) (collection_under p n.edit) b.1)
 
 pub term_answered : (p : Program) (Γ : Context) → ContextFits Γ → (t : TermId) (a : Kind) → Fits a → IsAnswered p Γ t a
 term_answered p Γ around t a f = answered_within p (suc (term_number t)) Γ around t (omega arith) a f

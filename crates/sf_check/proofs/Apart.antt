@@ -1,7 +1,7 @@
 -- What is said to differ in a term, and that it is refused there.
-use Rattle.std.proofs.Common.{◌≡◌, ◌≢◌, Bool, true, false, IsTrue, Option, Some, None, Result, Ok, Err, IfErr, inl, inr, refl, sym, ap, ◌∙◌, subst}
+use Rattle.std.proofs.Common.{◌≡◌, ◌≢◌, List, ◌∷◌, Bool, true, false, IsTrue, Option, Some, None, Result, Ok, Err, IfErr, inl, inr, refl, sym, ap, ◌∙◌, subst}
 use Rattle.std.proofs.lemmas.Option.{same_Some}
-use Rattle.sf_value.specs.Values.{Kind, bool_kind, int_kind, pair_kind, event_kind}
+use Rattle.sf_value.specs.Values.{Name, KeyKind, Kind, bool_kind, int_kind, pair_kind, event_kind, table_kind}
 use Rattle.sf_refusal.specs.declared.spot.Spot.{Spot}
 use Rattle.sf_refusal.specs.declared.rule.Rule.TheVariants.{Mismatch}
 use Rattle.sf_refusal.specs.declared.refusal.Breach.{Breach}
@@ -11,6 +11,7 @@ use Rattle.sf_operator.specs.Kinds.{found_then, only, same_kind, payload_of}
 use Rattle.sf_operator.specs.Breaches.{KindRefused, AnswersKind}
 use Rattle.sf_expr.specs.Typing.{Fits}
 use Rattle.sf_operator.proofs.SameKinds.{same_is, is_same, only_is, found_is, payload_is}
+use Rattle.sf_expr.specs.declared.exprs.NameId.{NameId}
 use Rattle.sf_expr.specs.declared.exprs.PatternId.{PatternId}
 use Rattle.sf_expr.specs.declared.exprs.Exprs.{Exprs}
 use Rattle.sf_term.specs.declared.form.Bare.{Bare}
@@ -24,26 +25,32 @@ use Rattle.sf_term.specs.declared.form.Accumulation.TheVariants as accumulation
 use Rattle.sf_term.specs.declared.form.Heading.TheVariants.{LoopPre, Initialized, Replaced, Followed}
 use Rattle.sf_term.specs.declared.node.TermId.{TermId}
 use Rattle.sf_term.specs.declared.node.Primitive.{Primitive}
+use Rattle.sf_term.specs.declared.node.ArgumentsId.{ArgumentsId}
+use Rattle.sf_term.specs.declared.node.Argument.{Argument}
 use Rattle.sf_term.specs.declared.node.Node.{Node}
+use Rattle.sf_term.specs.declared.node.Node.TheVariants as nodes
+use Rattle.sf_term.specs.declared.collection.CollectionId.{CollectionId}
+use Rattle.sf_term.specs.declared.collection.CollExpr.{CollExpr}
 use Rattle.sf_term.specs.declared.program.Program.{Program}
 use Rattle.sf_term.specs.Headers.{Header}
 use Rattle.sf_term.specs.Parameters.{parameters_of}
-use Rattle.sf_term.specs.Arena.{tree, term_node_at, term_spot_at, expressions_of, templates_of}
-use Rattle.sf_mean.specs.Contexts.{Context, context_of, inside_pattern}
+use Rattle.sf_term.specs.Arena.{tree, term_node_at, term_spot_at, expressions_of, arguments_under, collection_under, templates_of}
+use Rattle.sf_mean.specs.Contexts.{NameKind, Bindings, Signature, signature_named, Context, context_of, inside_pattern}
 use Rattle.sf_mean.specs.Typing.{bare_kind, value_kind, takes_input, selected_kind, accumulated_argument, accumulated_kind, Takes}
 use Rattle.sf_differ.specs.declared.difference.Wanted.{Wanted}
 use Rattle.sf_differ.specs.declared.difference.Wanted.TheVariants.{Exactly, Event}
 use Rattle.sf_differ.specs.declared.difference.Difference.{Difference}
 use Rattle.sf_differ.specs.declared.blame.Blame.{Blame}
-use Rattle.sf_differ.specs.Differences.{Suits, AreWanted, WantsAny, IsOther, DiffersAt, Explains}
+use Rattle.sf_differ.specs.Differences.{AreWanted, WantsAny, IsOther, DiffersAt, Explains}
 use Rattle.sf_differ.specs.Wanting.{IsMade}
 use Rattle.sf_differ.proofs.Told.{told_as, differs_from}
 use Rattle.sf_differ.proofs.Placed.{made_by, only_same, only_self, wants_as, exactly_first, event_wants}
 use Rattle.sf_differ.proofs.Refused.{none_stands, expression_refused, function_refused as refused_function}
 use Rattle.sf_check.specs.Breaking as breaking
-use Rattle.sf_check.specs.Breaking.{pattern_in, BindsInside, BareRefused, PrimitiveBreaks, BodyBreaks, FormBreaks, Reaches, TermBreaks, TemplateBreaks}
+use Rattle.sf_check.specs.Breaking.{pattern_in, name_in, BindsInside, BareRefused, PrimitiveBreaks, BodyBreaks, EditBreaks, ArgumentsLeft, CallBreaks, FormBreaks, Reaches, call_argument, ReachesMembers, argument_members, TermBreaks, CollectionBreaks, TemplateBreaks}
 use Rattle.sf_check.specs.Refusing.{RefusesNetwork, type_refused}
-use Rattle.sf_check.specs.Differing.{bare_wants, value_wants, input_wants, timed_wants, start_wants, accumulated_wants, made_wants, PrimitiveDiffers, bare_differs, value_differs_within, value_differs, input_differs, timed_differs_within, timed_differs, selected_differs, start_differs_within, accumulated_differs, accumulator_differs, start_differs, made_differs, function_differs, BodyDiffers, body_pattern, body_output, BodyStops, FormDiffers, primitive_differs, process_input, both_inputs, side_inputs, head_within, fed_output, initial_output, followed_output, replaced_input, transform_within, transformed_input, source_output, event_beside, switch_body_differs, observer_output, keeping_body_differs, TermDiffers, term_itself, term_within, TemplateDiffers, template_within, header_output, NetworkDiffers}
+use Rattle.sf_check.proofs.Unlike.{other_than, call_apart}
+use Rattle.sf_check.specs.Differing.{bare_wants, value_wants, input_wants, timed_wants, start_wants, accumulated_wants, made_wants, PrimitiveDiffers, bare_differs, value_differs_within, value_differs, input_differs, timed_differs_within, timed_differs, selected_differs, start_differs_within, accumulated_differs, accumulator_differs, start_differs, made_differs, function_differs, BodyDiffers, body_pattern, body_output, BodyStops, EditDiffers, edit_pattern, edit_tables, EditUnfit, CallDiffers, argument_within, FormDiffers, primitive_differs, process_input, call_itself, both_inputs, side_inputs, head_within, fed_output, initial_output, followed_output, replaced_input, transform_within, transformed_input, source_output, event_beside, switch_body_differs, observer_output, keeping_body_differs, their_observer_output, released_body_differs, event_beside_members, members_edit_differs, TermDiffers, term_itself, term_within, term_members, CollectionDiffers, used_inputs, added_members, added_key_within, member_within, added_key, member_output, dropped_members, dropped_key_within, dropped_key, kept_members, kept_within, kept_truth, choice_within, one_members, other_members, choice_truth, choice_tables, ArgumentDiffersWithin, within_value, within_process, within_members, TemplateDiffers, template_within, header_output, NetworkDiffers}
 
 -- ## What primitives want
 
@@ -138,6 +145,10 @@ module _ (p : Program) (Γ : Context) (t : TermId) (n : Node) (a : Kind) (is : t
   pub part_tells : {Δ : Context} {j : TermId} {b : Kind} {e : Blame} → Reaches p Γ n a Δ j b → Explains (TermDiffers p Δ j b) e → Explains (TermDiffers p Γ t a) e
   part_tells {Δ} {j} {b} reached h = told_as (λ d k. term_within (subst (λ m. Reaches p Γ m a Δ j b) (sym is) reached) k) h
 
+  -- a collection does
+  pub members_tell : {Δ : Context} {c : CollectionId} {b : Kind} {e : Blame} → ReachesMembers p Γ n a Δ c b → Explains (CollectionDiffers p Δ (collection_under p c) b) e → Explains (TermDiffers p Γ t a) e
+  members_tell {Δ} {c} {b} reached h = told_as (λ d k. term_members (subst (λ m. ReachesMembers p Γ m a Δ c b) (sym is) reached) k) h
+
   module _ (s : Spot) (at : s ≡ term_spot_at p t) where
     form_differs : (d : Difference) → FormDiffers p Γ s n a d → TermDiffers p Γ t a d
     form_differs d k = term_itself (subst (λ m. FormDiffers p Γ (term_spot_at p t) m a d) (sym is) (subst (λ s. FormDiffers p Γ s n a d) at k))
@@ -162,6 +173,40 @@ module _ (p : Program) (Γ : Context) (t : TermId) (n : Node) (a : Kind) (is : t
         each d (inl k) = form_differs d (f d k)
         each d (inr k) = term_within (subst (λ m. Reaches p Γ m a (inside_pattern (pattern_in p q) c Δ) u x) (sym is) (g k.0)) k.1
 
+    -- so it is where the body is to give what is wanted in other words
+    pub stops_as : {A : Type 0} (Δ : Context) (q : PatternId) (u : TermId) (x b v c : Kind) (r : Result A Blame) → v ≡ b
+        → ((d : Difference) → BodyDiffers p Δ s q u x b c d → FormDiffers p Γ s n a d)
+        → (BindsInside (pattern_in p q) c Δ → Reaches p Γ n a (inside_pattern (pattern_in p q) c Δ) u x)
+        → IfErr r (λ e. Explains (BodyStops p Δ s q u x v c) e) → IfErr r (λ e. Explains (TermDiffers p Γ t a) e)
+    stops_as Δ q u x b v c r same f g h = stops_last Δ q u x b c r f g (subst (λ (v : Kind). IfErr r (λ e. Explains (BodyStops p Δ s q u x v c) e)) same h)
+
+    -- an edit does
+    pub edit_last : {A : Type 0} (Δ : Context) (q : PatternId) (u : CollectionId) (k : KeyKind) (x b c : Kind) (r : Result A Blame)
+        → ((d : Difference) → EditDiffers p Δ s q u k x b c d → FormDiffers p Γ s n a d)
+        → (BindsInside (pattern_in p q) c Δ → ReachesMembers p Γ n a (inside_pattern (pattern_in p q) c Δ) u x)
+        → IfErr r (λ e. Explains (EditUnfit p Δ s q u k x b c) e) → IfErr r (λ e. Explains (TermDiffers p Γ t a) e)
+    edit_last Δ q u k x b c (Ok y) f g h = tt
+    edit_last Δ q u k x b c (Err e) f g h = told_as (λ d l. each d l) h
+      where
+        each : (d : Difference) → EditUnfit p Δ s q u k x b c d → TermDiffers p Γ t a d
+        each d (inl l) = form_differs d (f d l)
+        each d (inr l) = term_members (subst (λ m. ReachesMembers p Γ m a (inside_pattern (pattern_in p q) c Δ) u x) (sym is) (g l.0)) l.1
+
+-- what is told of a call
+module _ (p : Program) (Γ : Context) (t : TermId) (a : Kind) (k : NameId) (vs : ArgumentsId) (is : term_node_at p t ≡ nodes.Call k vs) (g : Signature) (named : signature_named (name_in p k) Γ.signatures ≡ Some g) where
+  pub argument_tells : {v : Argument} {x : Name} {q : NameKind} {ws : List Argument} {rs : Bindings} {e : Blame}
+      → ArgumentsLeft p Γ (arguments_under p vs) g.parameters (v ∷ ws) ((x, q) ∷ rs) → Explains (ArgumentDiffersWithin p Γ v q) e → Explains (TermDiffers p Γ t a) e
+  argument_tells {x = x} {ws = ws} {rs = rs} left h = told_as (λ d k. each left k) h
+    where
+      each : {v : Argument} {q : NameKind} {d : Difference} → ArgumentsLeft p Γ (arguments_under p vs) g.parameters (v ∷ ws) ((x, q) ∷ rs) → ArgumentDiffersWithin p Γ v q d → TermDiffers p Γ t a d
+      each {d = d} left (within_value h) = term_itself (subst (λ m. FormDiffers p Γ (term_spot_at p t) m a d) (sym is) (call_itself named (argument_within left h)))
+      each left (within_process {t = u} {a = b} h) = term_within (subst (λ n. Reaches p Γ n a Γ u b) (sym is) (call_argument named left)) h
+      each left (within_members {i = i} {a = b} h) = term_members (subst (λ n. ReachesMembers p Γ n a Γ i b) (sym is) (argument_members named left)) h
+
+  pub call_tells : {A : Type 0} (ws : List Argument) (r : Result A Blame) → ws ≡ arguments_under p vs → IfErr r (λ e. Explains (CallDiffers p Γ (term_spot_at p t) ws a g) e) → IfErr r (λ e. Explains (TermDiffers p Γ t a) e)
+  call_tells ws r same h =
+      form_last p Γ t (nodes.Call k vs) a is (term_spot_at p t) refl _ r (λ d l. call_itself named (subst (λ ws. CallDiffers p Γ (term_spot_at p t) ws a g d) same l)) h
+
 -- the same of other contexts and programs that are the same
 pub differs_under : (p q : Program) (Γ Δ : Context) (t : TermId) (a : Kind) {e : Blame} → p ≡ q → Γ ≡ Δ → Explains (TermDiffers p Γ t a) e → Explains (TermDiffers q Δ t a) e
 differs_under p q Γ Δ t a {e} same alike h = subst (λ (Γ : Context). Explains (TermDiffers q Γ t a) e) alike (subst (λ (p : Program). Explains (TermDiffers p Γ t a) e) same h)
@@ -175,6 +220,9 @@ fed_takes s h = (sym (same_Some _ _ h.0), h.1)
 
 pub watched_takes : (p : Program) {Γ : Context} (o : TermId) {a b w d : Kind} (s : Spot) → AnswersKind (Some (pair_kind a b)) s (Ok w) → Takes Γ (tree p o) w d → Takes Γ (tree p o) (pair_kind a b) d
 watched_takes p {Γ} o {d = d} s h T = subst (λ (w : Kind). Takes Γ (tree p o) w d) (sym (same_Some _ _ h.0)) T
+
+pub table_made : {k : KeyKind} {b d : Kind} (s : Spot) → AnswersKind (Some (table_kind k b)) s (Ok d) → d ≡ table_kind k b
+table_made s h = sym (same_Some _ _ h.0)
 
 -- the type that is wanted is this one
 pub exactly_as : {u v : Kind} {s : Spot} {t : Kind} {d : Difference} → u ≡ v → IsOther (Some (Exactly u)) s t d → IsOther (Some (Exactly v)) s t d
@@ -195,9 +243,6 @@ module _ (fs : TypesByName) (p : Program) (h : Header) {Γ : Context} {t : TermI
       (subst (λ (s : Spot). IsOther (Some (Exactly h.output)) s b d) (at ∙ ap (term_spot_at p) is) k)
 
 -- ## What differs is refused
-
-other_than : {w : Wanted} {s : Spot} {t : Kind} {d : Difference} → IsOther (Some w) s t d → Suits w t → ⊥
-other_than {t = t} h k = h.other (subst (λ w. Suits w t) (same_Some _ _ h.wanted) k)
 
 kind_apart : (o : Option Kind) {s q : Spot} → (IsMade o → ⊥) → q ≡ s → KindRefused o s (breach_of Mismatch q)
 kind_apart None none at = ap (breach_of Mismatch) at
@@ -238,6 +283,10 @@ module _ {p : Program} where
   body_apart (body_pattern h) = breaking.pattern_refused h.refused
   body_apart {Δ} {s} {q} {u} {a} {b} {c} (body_output binds T h) = subst (λ r. BodyBreaks p Δ s q u a b c (breach_of Mismatch r)) (sym h.at) (breaking.body_differs binds T (other_than h))
 
+  edit_apart : {Δ : Context} {s : Spot} {q : PatternId} {u : CollectionId} {k : KeyKind} {a b c : Kind} {d : Difference} → EditDiffers p Δ s q u k a b c d → EditBreaks p Δ s q u k a b c (breach_of Mismatch d.spot)
+  edit_apart (edit_pattern h) = breaking.edit_pattern_refused h.refused
+  edit_apart {Δ} {s} {q} {u} {k} {a} {b} {c} (edit_tables binds C h) = subst (λ r. EditBreaks p Δ s q u k a b c (breach_of Mismatch r)) (sym h.at) (breaking.edit_differs binds C (other_than h))
+
   module _ {Γ : Context} {s : Spot} where
     form_apart : {n : Node} {a : Kind} {d : Difference} → FormDiffers p Γ s n a d → FormBreaks p Γ s n a (breach_of Mismatch d.spot)
     form_apart h = each h
@@ -248,6 +297,7 @@ module _ {p : Program} where
         each : {n : Node} {a : Kind} {d : Difference} → FormDiffers p Γ s n a d → FormBreaks p Γ s n a (breach_of Mismatch d.spot)
         each (primitive_differs h) = breaking.primitive_breaks (primitive_apart h)
         each (process_input named h) = at_spot h.at (breaking.process_differs named (other_than h))
+        each {d = d} (call_itself {vs = vs} {a = a} named h) = breaking.call_breaks (subst (λ o. CallBreaks p Γ s (arguments_under p vs) a o (breach_of Mismatch d.spot)) (sym named) (call_apart h))
         each (both_inputs h) = at_spot h.at (breaking.parallel_input (λ b c e. other_than h (b, c, e)))
         each (side_inputs h) = at_spot h.at (breaking.side_input (λ b c e. other_than h (b, c, e)))
         each (head_within h) = breaking.start_refused (expression_refused (expressions_of p) h)
@@ -262,11 +312,40 @@ module _ {p : Program} where
         each (switch_body_differs w h) = breaking.switch_body_breaks w (body_apart h)
         each (observer_output F O h) = at_spot h.at (breaking.observer_differs F O (λ c e. other_than h (c, e)))
         each (keeping_body_differs F O h) = breaking.keeping_body_breaks F O (body_apart h)
+        each (their_observer_output C O h) = at_spot h.at (breaking.their_observer_differs C O (λ c e. other_than h (c, e)))
+        each (released_body_differs C O h) = breaking.releasing_body_breaks C O (body_apart h)
+        each (event_beside_members h) = at_spot h.at (breaking.editing_input (λ b c e. other_than h (b, c, e)))
+        each (members_edit_differs C h) = breaking.edit_breaks C (edit_apart h)
 
-  term_apart : {Γ : Context} {i : TermId} {a : Kind} {d : Difference} → TermDiffers p Γ i a d → TermBreaks p Γ i a (breach_of Mismatch d.spot)
+of_collection : {p : Program} {Γ : Context} {c : CollExpr} {a : Kind} {q s : Spot} → q ≡ s → CollectionBreaks p Γ c a (breach_of Mismatch s) → CollectionBreaks p Γ c a (breach_of Mismatch q)
+of_collection {p} {Γ} {c} {a} at k = subst (λ r. CollectionBreaks p Γ c a (breach_of Mismatch r)) (sym at) k
+
+mutual
+  term_apart : {p : Program} {Γ : Context} {i : TermId} {a : Kind} {d : Difference} → TermDiffers p Γ i a d → TermBreaks p Γ i a (breach_of Mismatch d.spot)
   term_apart (term_itself h) = breaking.itself (form_apart h)
   term_apart (term_within reached h) = breaking.within reached (term_apart h)
+  term_apart (term_members reached h) = breaking.in_members reached (collection_apart h)
 
+  collection_apart : {p : Program} {Γ : Context} {c : CollExpr} {a : Kind} {d : Difference} → CollectionDiffers p Γ c a d → CollectionBreaks p Γ c a (breach_of Mismatch d.spot)
+  collection_apart (used_inputs named h) = of_collection h.at (breaking.collection_differs named (other_than h))
+  collection_apart (added_members h) = breaking.before_added (collection_apart h)
+  collection_apart {p} (added_key_within C h) = breaking.added_key_refused C (expression_refused (expressions_of p) h)
+  collection_apart (member_within C I h) = breaking.member_breaks C I (term_apart h)
+  collection_apart (added_key C I T h) = of_collection h.at (breaking.member_differs C I T (λ same. absurd (other_than h same)))
+  collection_apart (member_output C I T h) = of_collection h.at (breaking.member_differs C I T (λ same. other_than h))
+  collection_apart (dropped_members h) = breaking.before_dropped (collection_apart h)
+  collection_apart {p} (dropped_key_within C h) = breaking.dropped_key_refused C (expression_refused (expressions_of p) h)
+  collection_apart (dropped_key C I h) = of_collection h.at (breaking.dropped_key_differs C I (other_than h))
+  collection_apart (kept_members h) = breaking.before_kept (collection_apart h)
+  collection_apart {p} (kept_within C h) = breaking.kept_refused C (refused_function (expressions_of p) h)
+  collection_apart (kept_truth C F h) = of_collection h.at (breaking.kept_differs C F (other_than h))
+  collection_apart {p} (choice_within h) = breaking.condition_refused (expression_refused (expressions_of p) h)
+  collection_apart (one_members I h) = breaking.one_breaks I (collection_apart h)
+  collection_apart (other_members I C h) = breaking.other_breaks I C (collection_apart h)
+  collection_apart (choice_truth I C D h) = of_collection h.at (breaking.chosen_differs I C D (λ same. absurd (other_than h same)))
+  collection_apart (choice_tables I C D h) = of_collection h.at (breaking.chosen_differs I C D (λ same. other_than h))
+
+module _ {p : Program} where
   module _ {fs : TypesByName} where
     template_apart : {h : Header} {d : Difference} → TemplateDiffers fs p h d → TemplateBreaks fs p h (breach_of Mismatch d.spot)
     template_apart (template_within k) = breaking.breaks_within (term_apart k)

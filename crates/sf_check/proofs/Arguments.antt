@@ -2,7 +2,7 @@
 use Rattle.std.proofs.Common.{◌≡◌, ◌≢◌, List, [], ◌∷◌, length, Option, Some, refl, sym, subst, ◌∙◌, arith}
 use Rattle.std.proofs.lemmas.Option.{same_Some}
 use mathlib.Core.Path.{subst₂}
-use Rattle.sf_value.specs.Values.{Name, Kind}
+use Rattle.sf_value.specs.Values.{Name, KeyKind, Kind}
 use Rattle.sf_refusal.specs.declared.spot.Spot.{Spot}
 use Rattle.sf_refusal.specs.declared.refusal.Breach.{Breach}
 use Rattle.sf_expr.specs.Typing.{HasType}
@@ -11,17 +11,19 @@ use Rattle.sf_expr.proofs.Judged.{refused_once}
 use Rattle.sf_term.specs.declared.node.TermId.{TermId}
 use Rattle.sf_term.specs.declared.node.Argument.{Argument}
 use Rattle.sf_term.specs.declared.node.Argument.TheVariants as arguments
+use Rattle.sf_term.specs.declared.collection.CollectionId.{CollectionId}
 use Rattle.sf_term.specs.declared.program.Program.{Program}
-use Rattle.sf_term.specs.Arena.{tree, arguments_of}
+use Rattle.sf_term.specs.Arena.{tree, arguments_of, collection_at}
 use Rattle.sf_term.proofs.Kept.{expression_in}
-use Rattle.sf_mean.specs.Contexts.{NameKind, process, Bindings, Signature, Context, names_of_values}
-use Rattle.sf_mean.specs.Typing.{Takes, ArgumentsFit, no_argument_fits, value_fits, process_fits}
-use Rattle.sf_check.specs.Breaking.{ArgumentKeeps, value_keeps, process_keeps, ArgumentsLeft, all_left, after_one, ArgumentBreaks, argument_refused, process_for_value, process_for_collection, CallBreaks, no_template, other_number, argument_breaks, call_differs}
+use Rattle.sf_mean.specs.Contexts.{NameKind, process, collection, Bindings, Signature, Context, names_of_values}
+use Rattle.sf_mean.specs.Typing.{Takes, Collects, ArgumentsFit, no_argument_fits, value_fits, process_fits, collection_fits}
+use Rattle.sf_check.specs.Breaking.{ArgumentKeeps, value_keeps, process_keeps, collection_keeps, ArgumentsLeft, all_left, after_one, ArgumentBreaks, argument_refused, process_for_value, process_for_collection, collection_for_value, collection_for_process, CallBreaks, no_template, other_number, argument_breaks, call_differs}
 
 pub fit_length : (p : Program) {Γ : Context} (vs : List Argument) {qs : Bindings} → ArgumentsFit Γ (arguments_of p vs) qs → length vs ≡ length qs
 fit_length p [] no_argument_fits = refl
 fit_length p (arguments.Value e ∷ vs) (value_fits h rest) = omega (arith, fit_length p vs rest)
 fit_length p (arguments.Process t ∷ vs) (process_fits h rest) = omega (arith, fit_length p vs rest)
+fit_length p (arguments.Collection i ∷ vs) (collection_fits h rest) = omega (arith, fit_length p vs rest)
 
 module _ {p : Program} {Γ : Context} where
   -- what is left fits where all do
@@ -29,6 +31,7 @@ module _ {p : Program} {Γ : Context} where
   left_fits (all_left e) h = h
   left_fits (after_one (value_keeps k) left) (value_fits h rest) = left_fits left rest
   left_fits (after_one (process_keeps k) left) (process_fits h rest) = left_fits left rest
+  left_fits (after_one (collection_keeps k) left) (collection_fits h rest) = left_fits left rest
 
   -- there are as many arguments as parameters
   pub left_length : {vs ws : List Argument} {qs rs : Bindings} → ArgumentsLeft p Γ vs qs ws rs → length vs ≡ length qs
@@ -64,20 +67,30 @@ module _ {p : Program} {Γ : Context} where
   breaks_keeps (argument_refused h) (value_keeps k) = refused_untyped h k
   breaks_keeps process_for_value keeps = elim keeps [ ]
   breaks_keeps process_for_collection keeps = elim keeps [ ]
+  breaks_keeps collection_for_value keeps = elim keeps [ ]
+  breaks_keeps collection_for_process keeps = elim keeps [ ]
 
   -- a term where a process stands breaks no rule of its call
   pub no_breaks : {s : Spot} {t : TermId} {a b : Kind} {r : Breach} → ArgumentBreaks p Γ s (arguments.Process t) (process a b) r → ⊥
   no_breaks h = elim h [ ]
 
+  -- and so does a collection where a collection stands
+  pub no_members_break : {s : Spot} {i : CollectionId} {k : KeyKind} {a b : Kind} {r : Breach} → ArgumentBreaks p Γ s (arguments.Collection i) (collection k a b) r → ⊥
+  no_members_break h = elim h [ ]
+
   argument_once : {s : Spot} {v : Argument} {k : NameKind} {e f : Breach} → ArgumentBreaks p Γ s v k e → ArgumentBreaks p Γ s v k f → e ≡ f
   argument_once (argument_refused h) (argument_refused k) = refused_once h k
   argument_once process_for_value process_for_value = refl
   argument_once process_for_collection process_for_collection = refl
+  argument_once collection_for_value collection_for_value = refl
+  argument_once collection_for_process collection_for_process = refl
 
   breaks_unfit : {s : Spot} {v : Argument} (vs : List Argument) {x : Name} {k : NameKind} {qs : Bindings} {r : Breach} → ArgumentBreaks p Γ s v k r → ArgumentsFit Γ (arguments_of p (v ∷ vs)) ((x, k) ∷ qs) → ⊥
   breaks_unfit vs (argument_refused {e = e} h) (value_fits {t = t} k rest) = refused_untyped h (subst (λ i. HasType (names_of_values Γ) i t) (sym (expression_in p e)) k)
   breaks_unfit vs process_for_value fit = elim fit [ ]
   breaks_unfit vs process_for_collection fit = elim fit [ ]
+  breaks_unfit vs collection_for_value fit = elim fit [ ]
+  breaks_unfit vs collection_for_process fit = elim fit [ ]
 
   -- a call that breaks a rule of its own takes no inputs
   pub call_untyped : {s : Spot} {vs : List Argument} {a : Kind} {g : Signature} {o : Option Signature} {r : Breach} → CallBreaks p Γ s vs a o r → o ≡ Some g → ArgumentsFit Γ (arguments_of p vs) g.parameters → a ≢ g.input
@@ -115,30 +128,63 @@ module _ {p : Program} {Γ : Context} where
       first : (ws : List Argument) {qs : Bindings} → ArgumentsFit Γ (arguments_of p (arguments.Process t ∷ ws)) ((x, process a b) ∷ qs) → Takes Γ (tree p t) a b
       first ws (process_fits h rest) = h
 
-  -- where it doesn't take them, the call breaks no rule of its own
-  pub call_part : {s : Spot} {vs ws : List Argument} {g : Signature} {t : TermId} {x : Name} {a b c : Kind} {qs : Bindings} {o : Option Signature} {r : Breach}
-      → CallBreaks p Γ s vs a o r → o ≡ Some g → ArgumentsLeft p Γ vs g.parameters (arguments.Process t ∷ ws) ((x, process b c) ∷ qs) → (ArgumentKeeps p Γ (arguments.Process t) (process b c) → ⊥) → ⊥
-  call_part {s = s} {vs = vs} {ws = ws} {g = g} {t = t} {x = x} {a = a} {b = b} {c = c} {qs = qs} h same left away = each h same
+  -- so does a collection
+  pub argument_collects : {vs ws : List Argument} {g k : Signature} {i : CollectionId} {x : Name} {l : KeyKind} {a b : Kind} {qs : Bindings} {o : Option Signature}
+      → o ≡ Some g → ArgumentsLeft p Γ vs g.parameters (arguments.Collection i ∷ ws) ((x, collection l a b) ∷ qs) → o ≡ Some k → ArgumentsFit Γ (arguments_of p vs) k.parameters → Collects Γ (collection_at p i) l a b
+  argument_collects {vs = vs} {i = i} {x = x} {l = l} {a = a} {b = b} e left f fit =
+      first _ (left_fits left (subst (λ (g : Signature). ArgumentsFit Γ (arguments_of p vs) g.parameters) (same_Some _ _ (sym f ∙ e)) fit))
     where
-      left_of : {k : Signature} → Some k ≡ Some g → ArgumentsLeft p Γ vs k.parameters (arguments.Process t ∷ ws) ((x, process b c) ∷ qs)
-      left_of e = subst (λ (g : Signature). ArgumentsLeft p Γ vs g.parameters (arguments.Process t ∷ ws) ((x, process b c) ∷ qs)) (sym (same_Some _ _ e)) left
+      first : (ws : List Argument) {qs : Bindings} → ArgumentsFit Γ (arguments_of p (arguments.Collection i ∷ ws)) ((x, collection l a b) ∷ qs) → Collects Γ (collection_at p i) l a b
+      first ws (collection_fits h rest) = h
+
+  -- where an argument doesn't keep its rules, and breaks none of the call, the call breaks no rule of its own
+  call_next : {s : Spot} {vs ws : List Argument} {g : Signature} {v : Argument} {x : Name} {k : NameKind} {a : Kind} {qs : Bindings} {o : Option Signature} {r : Breach}
+      → ((e : Breach) → ArgumentBreaks p Γ s v k e → ⊥) → CallBreaks p Γ s vs a o r → o ≡ Some g → ArgumentsLeft p Γ vs g.parameters (v ∷ ws) ((x, k) ∷ qs) → (ArgumentKeeps p Γ v k → ⊥) → ⊥
+  call_next {s = s} {vs = vs} {ws = ws} {g = g} {v = v} {x = x} {k = k} {a = a} {qs = qs} none h same left away = each h same
+    where
+      left_of : {f : Signature} → Some f ≡ Some g → ArgumentsLeft p Γ vs f.parameters (v ∷ ws) ((x, k) ∷ qs)
+      left_of e = subst (λ (g : Signature). ArgumentsLeft p Γ vs g.parameters (v ∷ ws) ((x, k) ∷ qs)) (sym (same_Some _ _ e)) left
 
       each : {o : Option Signature} {r : Breach} → CallBreaks p Γ s vs a o r → o ≡ Some g → ⊥
       each no_template e = absurd cc
       each (other_number other) e = other (left_length (left_of e))
       each {r = r} (argument_breaks more h) e =
           let is = next_same more (left_of e) (breaks_keeps h) away in
-          no_breaks (subst₂ (λ v k. ArgumentBreaks p Γ s v k r) is.0 is.1 h)
+          none r (subst₂ (λ v k. ArgumentBreaks p Γ s v k r) is.0 is.1 h)
       each (call_differs all differ) e = away (next_keeps (left_of e) all)
 
-  -- the first whose term doesn't take them is one
+  pub call_part : {s : Spot} {vs ws : List Argument} {g : Signature} {t : TermId} {x : Name} {a b c : Kind} {qs : Bindings} {o : Option Signature} {r : Breach}
+      → CallBreaks p Γ s vs a o r → o ≡ Some g → ArgumentsLeft p Γ vs g.parameters (arguments.Process t ∷ ws) ((x, process b c) ∷ qs) → (ArgumentKeeps p Γ (arguments.Process t) (process b c) → ⊥) → ⊥
+  call_part h same left away = call_next (λ e h. no_breaks h) h same left away
+
+  pub call_members : {s : Spot} {vs ws : List Argument} {g : Signature} {i : CollectionId} {x : Name} {k : KeyKind} {a b c : Kind} {qs : Bindings} {o : Option Signature} {r : Breach}
+      → CallBreaks p Γ s vs a o r → o ≡ Some g → ArgumentsLeft p Γ vs g.parameters (arguments.Collection i ∷ ws) ((x, collection k b c) ∷ qs) → (ArgumentKeeps p Γ (arguments.Collection i) (collection k b c) → ⊥) → ⊥
+  call_members h same left away = call_next (λ e h. no_members_break h) h same left away
+
+  -- the first that doesn't keep its rules is one, where the call is of one template
+  pub same_next : {vs ws us : List Argument} {g h : Signature} {v w : Argument} {x y : Name} {k l : NameKind} {qs rs : Bindings} {o : Option Signature}
+      → o ≡ Some g → ArgumentsLeft p Γ vs g.parameters (v ∷ ws) ((x, k) ∷ qs) → o ≡ Some h → ArgumentsLeft p Γ vs h.parameters (w ∷ us) ((y, l) ∷ rs)
+      → (ArgumentKeeps p Γ v k → ⊥) → (ArgumentKeeps p Γ w l → ⊥) → (v ≡ w) × (k ≡ l)
+  same_next {vs = vs} {us = us} {w = w} {y = y} {l = l} {rs = rs} e left f more away none =
+      let there = subst (λ (g : Signature). ArgumentsLeft p Γ vs g.parameters (w ∷ us) ((y, l) ∷ rs)) (same_Some _ _ (sym f ∙ e)) more in
+      next_same left there away none
+
   pub same_part : {vs ws us : List Argument} {g h : Signature} {t u : TermId} {x y : Name} {a b c d : Kind} {qs rs : Bindings} {o : Option Signature}
       → o ≡ Some g → ArgumentsLeft p Γ vs g.parameters (arguments.Process t ∷ ws) ((x, process a b) ∷ qs)
       → o ≡ Some h → ArgumentsLeft p Γ vs h.parameters (arguments.Process u ∷ us) ((y, process c d) ∷ rs)
       → (ArgumentKeeps p Γ (arguments.Process t) (process a b) → ⊥) → (ArgumentKeeps p Γ (arguments.Process u) (process c d) → ⊥) → (t ≡ u) × (a ≡ c)
-  same_part {vs = vs} {us = us} {u = u} {y = y} {c = c} {d = d} {rs = rs} e left f more away none =
-      let there = subst (λ (g : Signature). ArgumentsLeft p Γ vs g.parameters (arguments.Process u ∷ us) ((y, process c d) ∷ rs)) (same_Some _ _ (sym f ∙ e)) more in
-      let same = next_same left there away none in
+  same_part e left f more away none =
+      let same = same_next e left f more away none in
       let term = same.0 in
+      let kinds = same.1 in
+      (cc, cc)
+
+  pub same_members : {vs ws us : List Argument} {g h : Signature} {i j : CollectionId} {x y : Name} {k l : KeyKind} {a b c d : Kind} {qs rs : Bindings} {o : Option Signature}
+      → o ≡ Some g → ArgumentsLeft p Γ vs g.parameters (arguments.Collection i ∷ ws) ((x, collection k a b) ∷ qs)
+      → o ≡ Some h → ArgumentsLeft p Γ vs h.parameters (arguments.Collection j ∷ us) ((y, collection l c d) ∷ rs)
+      → (ArgumentKeeps p Γ (arguments.Collection i) (collection k a b) → ⊥) → (ArgumentKeeps p Γ (arguments.Collection j) (collection l c d) → ⊥) → (i ≡ j) × (a ≡ c)
+  same_members e left f more away none =
+      let same = same_next e left f more away none in
+      let members = same.0 in
       let kinds = same.1 in
       (cc, cc)

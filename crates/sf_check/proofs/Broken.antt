@@ -2,16 +2,18 @@
 use Rattle.std.proofs.Common.{◌≡◌, Some, refl, sym, subst, ap, ◌∙◌, arith}
 use Rattle.std.proofs.lemmas.Option.{same_Some}
 use mathlib.Core.Path.{ap₂, subst₂}
-use Rattle.sf_value.specs.Values.{Name, Kind, pair_kind, event_kind, nodes as nodes_of}
+use Rattle.sf_value.specs.Values.{Name, KeyKind, Kind, pair_kind, event_kind, table_kind, bool_kind, nodes as nodes_of}
+use Rattle.sf_operator.specs.Kinds.{kind_of_keys}
 use Rattle.sf_func.specs.Registries.{TypesByName}
 use Rattle.sf_expr.specs.declared.exprs.FunctionId.{FunctionId}
+use Rattle.sf_expr.specs.declared.exprs.ExprId.{ExprId}
 use Rattle.sf_expr.specs.declared.exprs.PatternId.{PatternId}
 use Rattle.sf_expr.specs.Expressions.{Pattern, Function}
 use Rattle.sf_expr.specs.Patterns.{PlacedPattern, pattern_of}
-use Rattle.sf_expr.specs.Arena.{function_at}
+use Rattle.sf_expr.specs.Arena.{expression, function_at}
 use Rattle.sf_expr.specs.Refusals.{PatternRefused}
 use Rattle.sf_expr.specs.Inference.{function_output}
-use Rattle.sf_expr.specs.Typing.{Names, Fits, FunctionTakes}
+use Rattle.sf_expr.specs.Typing.{Names, Fits, HasType, FunctionTakes}
 use Rattle.sf_expr.proofs.Inferred.{takes_output}
 use Rattle.sf_expr.specs.declared.exprs.Exprs.{Exprs}
 use Rattle.sf_refusal.specs.declared.spot.Spot.{Spot}
@@ -23,21 +25,24 @@ use Rattle.sf_term.specs.declared.form.Switching.{Switching}
 use Rattle.sf_term.specs.declared.node.TermId.{TermId}
 use Rattle.sf_term.specs.declared.node.Primitive.{Primitive}
 use Rattle.sf_term.specs.declared.node.Node.{Node}
+use Rattle.sf_term.specs.declared.collection.CollectionId.{CollectionId}
+use Rattle.sf_term.specs.declared.collection.CollExpr.{CollExpr}
 use Rattle.sf_term.specs.declared.program.Program.{Program}
 use Rattle.sf_term.specs.Headers.{Header}
-use Rattle.sf_term.specs.Trees.{Term}
-use Rattle.sf_term.specs.Arena.{tree, term_node_at, template_in, templates_of}
+use Rattle.sf_term.specs.Trees.{Term, Collection}
+use Rattle.sf_term.specs.Arena.{tree, term_node_at, template_in, templates_of, expressions_of, expression_under, function_in, collection_of, collection_at}
+use Rattle.sf_term.proofs.Kept.{expression_in, function_at_in}
 use Rattle.sf_term.specs.declared.form.Bare.{Bare}
 use Rattle.sf_term.specs.declared.form.Bare.TheVariants.{Pre}
 use Rattle.sf_term.specs.declared.form.Accumulation.{Accumulation}
-use Rattle.sf_mean.specs.Contexts.{Context, names_of_values, inside_pattern, Bindings, process_named}
-use Rattle.sf_mean.specs.Typing.{bare_kind, value_kind, takes_input, timed_kind, accumulated_argument, accumulated_kind, PrimitiveTakes, bare_takes, never_takes, value_takes, timed_takes, selected_takes, accumulated_takes, arrow_takes, Takes, FormTakes, primitive_takes, started_takes, sequence_takes, parallel_takes, fan_takes, first_takes, second_takes, loop_takes, initialized_takes, replaced_takes, followed_takes, transformed_takes, switch_takes, recurring_takes, keeping_takes, call_takes, IsTyped}
+use Rattle.sf_mean.specs.Contexts.{Context, names_of_values, inside_pattern, Bindings, process_named, collection_named}
+use Rattle.sf_mean.specs.Typing.{bare_kind, value_kind, takes_input, timed_kind, accumulated_argument, accumulated_kind, PrimitiveTakes, bare_takes, never_takes, value_takes, timed_takes, selected_takes, accumulated_takes, arrow_takes, Takes, FormTakes, primitive_takes, started_takes, sequence_takes, parallel_takes, fan_takes, first_takes, second_takes, loop_takes, initialized_takes, replaced_takes, followed_takes, transformed_takes, switch_takes, recurring_takes, keeping_takes, gathered_takes, releasing_takes, editing_takes, call_takes, Collects, collects_used, collects_added, collects_dropped, collects_kept, collects_chosen, IsTyped}
 use Rattle.sf_check.specs.Answering.{primitive_in}
-use Rattle.sf_check.specs.Breaking.{kind_named, ProcessRefused, BareRefused, pattern_in, name_in, keeping_inside, BindsInside, Exceeds, PrimitiveBreaks, AccumulationBreaks, argument_refused, accumulator_refused, made_refused, value_refused, bare_refused, never_refused, given_refused, timed_value_refused, input_differs, time_outside, timed_refused, selected_refused, number_outside, start_value_refused, accumulation_breaks, function_refused, FormBreaks, primitive_breaks, no_process, process_differs, call_breaks, parallel_input, parallel_exceeds, fan_exceeds, side_input, first_exceeds, second_exceeds, start_refused, fed_exceeds, head_differs, transform_refused, transform_differs, BodyWanted, after_source, beside_input, BodyBreaks, pattern_refused, body_differs, source_differs, recurring_input, switch_body_breaks, observed_exceeds, observer_differs, keeping_body_breaks, Reaches, call_argument, sequence_left, sequence_right, parallel_left, parallel_right, fan_left, fan_right, first_part, second_part, head_part, transformed_part, switch_source, recurring_first, switch_body, keeping_source, keeping_observer, keeping_body, TermBreaks, itself, within, TemplateBreaks, breaks_within, breaks_header}
+use Rattle.sf_check.specs.Breaking.{gathered_exceeds, tables_exceed, their_observer_differs, releasing_body_breaks, editing_input, edit_breaks, edited_exceeds, EditBreaks, edit_pattern_refused, edit_differs, their_observer, releasing_body, ReachesMembers, argument_members, gathered_members, releasing_members, editing_members, their_edit, in_members, CollectionRefused, CollectionBreaks, no_collection, collection_differs, before_added, added_key_refused, member_breaks, member_differs, before_dropped, dropped_key_refused, dropped_key_differs, before_kept, kept_refused, kept_differs, condition_refused, one_breaks, other_breaks, chosen_differs, members_inside, kind_named, ProcessRefused, BareRefused, pattern_in, name_in, keeping_inside, BindsInside, Exceeds, PrimitiveBreaks, AccumulationBreaks, argument_refused, accumulator_refused, made_refused, value_refused, bare_refused, never_refused, given_refused, timed_value_refused, input_differs, time_outside, timed_refused, selected_refused, number_outside, start_value_refused, accumulation_breaks, function_refused, FormBreaks, primitive_breaks, no_process, process_differs, call_breaks, parallel_input, parallel_exceeds, fan_exceeds, side_input, first_exceeds, second_exceeds, start_refused, fed_exceeds, head_differs, transform_refused, transform_differs, BodyWanted, after_source, beside_input, BodyBreaks, pattern_refused, body_differs, source_differs, recurring_input, switch_body_breaks, observed_exceeds, observer_differs, keeping_body_breaks, Reaches, call_argument, sequence_left, sequence_right, parallel_left, parallel_right, fan_left, fan_right, first_part, second_part, head_part, transformed_part, switch_source, recurring_first, switch_body, keeping_source, keeping_observer, keeping_body, TermBreaks, itself, within, TemplateBreaks, breaks_within, breaks_header}
 use Rattle.sf_check.proofs.Made.{made, tree_made}
-use Rattle.sf_check.proofs.Arguments.{call_untyped, argument_takes}
-use Rattle.sf_check.proofs.Types.{argument_fits, expression_one, takes_one, beside_one, input_fits, output_fits, form_of}
-use Rattle.sf_check.proofs.Contexts.{is_process}
+use Rattle.sf_check.proofs.Arguments.{call_untyped, argument_takes, argument_collects}
+use Rattle.sf_check.proofs.Types.{argument_fits, expression_one, takes_one, members_one, keys_of_table, values_of_table, beside_one, input_fits, output_fits, form_of}
+use Rattle.sf_check.proofs.Contexts.{is_process, is_collection}
 
 pub too_large : {t u : Kind} → Exceeds t → Fits u → t ≡ u → ⊥
 too_large big fits e = let n = ap nodes_of e in omega (arith, big, fits, n)
@@ -97,6 +102,28 @@ no_kept bs k s e {t} refused named = subst (λ o. ProcessRefused o s e) (is_proc
 pub seen_one : {Γ : Context} {s o : Term} {a b c d v : Kind} → Takes Γ s a b → Takes Γ o (pair_kind a b) d → Takes Γ s a c → Takes Γ o (pair_kind a c) v → (b ≡ c) × (d ≡ v)
 seen_one {Γ} {o = o} {a = a} {d = d} F O G P = let same = takes_one F G in (same, takes_one (subst (λ b. Takes Γ o (pair_kind a b) d) same O) P)
 
+-- the same of a collection
+no_members : (bs : Bindings) (x : Name) (s : Spot) (e : Breach) {k : KeyKind} {a b : Kind} → CollectionRefused (kind_named x bs) s e → collection_named x bs ≡ Some (k, a, b) → ⊥
+no_members bs x s e refused named = subst (λ o. CollectionRefused o s e) (is_collection x bs named) refused
+
+-- what members give to inputs of a type is of one type, and so is what an observer beside it does
+pub their_one : {Γ : Context} {i : Collection} {o : Term} {k l : KeyKind} {a b c d v : Kind} → Collects Γ i k a b → Takes Γ o (pair_kind a (table_kind k b)) d → Collects Γ i l a c → Takes Γ o (pair_kind a (table_kind l c)) v → (table_kind k b ≡ table_kind l c) × (d ≡ v)
+their_one {Γ} {o = o} {a = a} {d = d} C O D P = let same = members_one C D in (same, takes_one (subst (λ t. Takes Γ o (pair_kind a t) d) same O) P)
+
+-- an edit that breaks a rule of its form doesn't have what is wanted of it
+pub edit_untyped : {p : Program} {Δ : Context} {s : Spot} {q : PatternId} {u : CollectionId} {k : KeyKind} {a b c : Kind} {e : Breach}
+    → EditBreaks p Δ s q u k a b c e → BindsInside (pattern_in p q) c Δ → Collects (inside_pattern (pattern_in p q) c Δ) (collection_at p u) k a b → ⊥
+edit_untyped {Δ = Δ} (edit_pattern_refused refused) binds E = pattern_none Δ refused refl binds
+edit_untyped (edit_differs binds' E' other) binds E = other (members_one E' E)
+
+module _ (p : Program) {R : Names} where
+  -- an expression and a function of a collection
+  pub typed_in : (v : ExprId) {t : Kind} → HasType R (expression_under p v) t → HasType R (expression (expressions_of p) v) t
+  typed_in v {t} h = subst (λ e. HasType R e t) (sym (expression_in p v)) h
+
+  pub taken_in : (f : FunctionId) {t u : Kind} → FunctionTakes R (function_in p f) t u → FunctionTakes R (function_at (expressions_of p) f) t u
+  taken_in f {t} {u} h = subst (λ f. FunctionTakes R f t u) (sym (function_at_in p f)) h
+
 module _ {p : Program} {Γ : Context} where
   -- what is wanted of a switch's body is one
   pub wanted_one : {w : Switching} {t : TermId} {x a b c d e f : Kind} → BodyWanted p Γ w t x a b c → BodyWanted p Γ w t x d e f → (a ≡ d) × (b ≡ e) × (c ≡ f)
@@ -140,6 +167,22 @@ module _ {p : Program} {Γ : Context} where
       let P : Kind → Type 0 = λ b. BindsInside (pattern_in p q) d (keeping_inside p k a b Γ) × Takes (inside_pattern (pattern_in p q) d (keeping_inside p k a b Γ)) (tree p u) a b in
       let inside = subst P same.0 (binds, g) in
       body_untyped h event refl inside.0 inside.1
+  itself_untyped (gathered_exceeds C big) (gathered_takes D) fits = too_large big fits (members_one C D)
+  itself_untyped (tables_exceed {a = a} C big) (releasing_takes D o binds g) fits = too_large big (input_fits o) (ap (pair_kind a) (members_one C D))
+  itself_untyped (their_observer_differs C o none) (releasing_takes D o' binds g) fits = none _ (their_one C o D o').1
+  itself_untyped (releasing_body_breaks {n = n} {a = a} {c = c} C o h) (releasing_takes {c = d} D o' binds g) fits =
+      let same = their_one D o' C o in
+      let event : d ≡ c = let is = same.1 in cc in
+      let P : KeyKind → Kind → Type 0 = λ k b. BindsInside (pattern_in p n.pattern) d (members_inside p n.name k a b Γ) × Takes (inside_pattern (pattern_in p n.pattern) d (members_inside p n.name k a b Γ)) (tree p n.body) a (table_kind k b) in
+      let inside = subst₂ P (keys_of_table same.0) (values_of_table same.0) (binds, g) in
+      body_untyped h event refl inside.0 inside.1
+  itself_untyped (editing_input none) (editing_takes D binds E) fits = none _ _ refl
+  itself_untyped (edit_breaks {n = n} {a = a} {c = c} C h) (editing_takes D binds E) fits =
+      let same = members_one D C in
+      let P : KeyKind → Kind → Type 0 = λ k b. BindsInside (pattern_in p n.pattern) c (members_inside p n.name k a b Γ) × Collects (inside_pattern (pattern_in p n.pattern) c (members_inside p n.name k a b Γ)) (collection_at p n.edit) k a b in
+      let inside = subst₂ P (keys_of_table same) (values_of_table same) (binds, E) in
+      edit_untyped h inside.0 inside.1
+  itself_untyped (edited_exceeds C binds' E' big) (editing_takes D binds E) fits = too_large big fits (members_one C D)
 
   reached_takes : {n : Node} {a : Kind} {Δ : Context} {j : TermId} {b c : Kind} → Reaches p Γ n a Δ j b → FormTakes Γ (made p n) a c → (d : Kind) × Takes Δ (tree p j) b d
   reached_takes (call_argument named left) (call_takes there fit) = (_, argument_takes named left there fit)
@@ -175,10 +218,50 @@ module _ {p : Program} {Γ : Context} where
       let event : d ≡ c = let is = same.1 in cc in
       let P : Kind → Kind → Type 0 = λ b c. Takes (inside_pattern (pattern_in p q) c (keeping_inside p k a b Γ)) (tree p u) a b in
       (b, subst₂ P same.0 event g)
+  reached_takes (their_observer {n = n} {a = a} C fits) (releasing_takes {c = c} D o binds g) =
+      let P : Kind → Type 0 = λ t. Takes Γ (tree p n.observer) (pair_kind a t) (event_kind c) in
+      (_, subst P (members_one D C) o)
+  reached_takes (releasing_body {n = n} {k = k} {a = a} {b = b} {c = c} C o binds) (releasing_takes {c = d} D o' binds' g) =
+      let same = their_one D o' C o in
+      let event : d ≡ c = let is = same.1 in cc in
+      let P : KeyKind → Kind → Kind → Type 0 = λ k b c. Takes (inside_pattern (pattern_in p n.pattern) c (members_inside p n.name k a b Γ)) (tree p n.body) a (table_kind k b) in
+      (table_kind k b, subst (P k b) event (subst₂ (λ k b. P k b d) (keys_of_table same.0) (values_of_table same.0) g))
 
-pub breaks_untyped : {p : Program} {Γ : Context} {i : TermId} {a b : Kind} {e : Breach} → TermBreaks p Γ i a e → Takes Γ (tree p i) a b → ⊥
-breaks_untyped {p} {i = i} (itself broken) h = itself_untyped broken (form_made p i h) (output_fits h)
-breaks_untyped {p} {i = i} (within reached broken) h = breaks_untyped broken (reached_takes reached (form_made p i h)).1
+  reached_collects : {n : Node} {a : Kind} {Δ : Context} {i : CollectionId} {b c : Kind} → ReachesMembers p Γ n a Δ i b → FormTakes Γ (made p n) a c → (k : KeyKind) × (d : Kind) × Collects Δ (collection_at p i) k b d
+  reached_collects (argument_members named left) (call_takes there fit) = (_, _, argument_collects named left there fit)
+  reached_collects gathered_members (gathered_takes C) = (_, _, C)
+  reached_collects releasing_members (releasing_takes C o binds g) = (_, _, C)
+  reached_collects editing_members (editing_takes C binds E) = (_, _, C)
+  reached_collects (their_edit {n = n} {k = k} {a = a} {b = b} {c = c} C binds) (editing_takes D binds' E) =
+      let same = members_one D C in
+      let P : KeyKind → Kind → Type 0 = λ k b. Collects (inside_pattern (pattern_in p n.pattern) c (members_inside p n.name k a b Γ)) (collection_at p n.edit) k a b in
+      (k, b, subst₂ P (keys_of_table same) (values_of_table same) E)
+
+mutual
+  pub breaks_untyped : {p : Program} {Γ : Context} {i : TermId} {a b : Kind} {e : Breach} → TermBreaks p Γ i a e → Takes Γ (tree p i) a b → ⊥
+  breaks_untyped {p} {i = i} (itself broken) h = itself_untyped broken (form_made p i h) (output_fits h)
+  breaks_untyped {p} {i = i} (within reached broken) h = breaks_untyped broken (reached_takes reached (form_made p i h)).1
+  breaks_untyped {p} {i = i} (in_members reached broken) h = members_untyped broken (reached_collects reached (form_made p i h)).2
+
+  pub members_untyped : {p : Program} {Γ : Context} {c : CollExpr} {k : KeyKind} {a b : Kind} {e : Breach} → CollectionBreaks p Γ c a e → Collects Γ (collection_of p c) k a b → ⊥
+  members_untyped {p} {Γ} {e = e} (no_collection {x = x} {n = n} refused) (collects_used named) = no_members Γ.bindings (name_in p x) n e refused named
+  members_untyped {p} {Γ} (collection_differs {x = x} named other) (collects_used h) = let is = sym (is_collection (name_in p x) Γ.bindings h) ∙ named in other cc
+  members_untyped (before_added h) (collects_added C I T) = members_untyped h C
+  members_untyped {p} (added_key_refused {v = v} C q) (collects_added D I T) = refused_untyped q (typed_in p v I)
+  members_untyped (member_breaks C I h) (collects_added D J T) = breaks_untyped h T
+  members_untyped {p} (member_differs {v = v} C I T other) (collects_added D J U) = let same = members_one D C in other (expression_one I (typed_in p v J) ∙ ap kind_of_keys (keys_of_table same)) (takes_one T U ∙ values_of_table same)
+  members_untyped (before_dropped h) (collects_dropped C I) = members_untyped h C
+  members_untyped {p} (dropped_key_refused {v = v} C q) (collects_dropped D I) = refused_untyped q (typed_in p v I)
+  members_untyped {p} (dropped_key_differs {v = v} C I other) (collects_dropped D J) = other (expression_one I (typed_in p v J) ∙ ap kind_of_keys (keys_of_table (members_one D C)))
+  members_untyped (before_kept h) (collects_kept C F) = members_untyped h C
+  members_untyped {p} {Γ} (kept_refused {f = f} C q) (collects_kept D F) =
+      let P : KeyKind → Type 0 = λ k. FunctionTakes (names_of_values Γ) (function_at (expressions_of p) f) (kind_of_keys k) bool_kind in
+      refused_takes_none q (subst P (keys_of_table (members_one D C)) (taken_in p f F))
+  members_untyped {p} (kept_differs {f = f} C F other) (collects_kept D G) = other (answer_one (ap kind_of_keys (keys_of_table (members_one C D))) F (taken_in p f G))
+  members_untyped {p} (condition_refused {v = v} q) (collects_chosen I C D) = refused_untyped q (typed_in p v I)
+  members_untyped (one_breaks I h) (collects_chosen J C D) = members_untyped h C
+  members_untyped (other_breaks I C h) (collects_chosen J D E) = members_untyped h E
+  members_untyped {p} (chosen_differs {v = v} I C D other) (collects_chosen J E F) = other (expression_one I (typed_in p v J)) (members_one D F ∙ sym (members_one C E))
 
 pub template_untyped : {fs : TypesByName} {p : Program} {h : Header} {e : Breach} → TemplateBreaks fs p h e → IsTyped fs (templates_of p) (template_in p h) → ⊥
 template_untyped (breaks_within broken) k = breaks_untyped broken k.body

@@ -2,7 +2,7 @@
 use Rattle.std.proofs.Common.{◌≡◌, ◌≢◌, ◌↔◌, ◌⊎◌, inl, inr, List, [], ◌∷◌, length, Bool, true, false, ◌&&◌, IsTrue, Option, Some, None, IfNone, refl, sym, subst, ap, ◌∙◌, Result, Ok, Err, arith, IsErrAnd}
 use Rattle.std.proofs.lemmas.List.{length-map}
 use mathlib.Core.Path.{subst₂}
-use Rattle.sf_value.specs.Values.{Name, Kind}
+use Rattle.sf_value.specs.Values.{Name, KeyKind, Kind, table_kind}
 use Rattle.sf_refusal.specs.declared.spot.Spot.{Spot}
 use Rattle.sf_refusal.specs.declared.rule.Rule.TheVariants.{UnknownName, Arity, Mismatch}
 use Rattle.sf_refusal.specs.declared.refusal.Breach.{Breach}
@@ -19,16 +19,17 @@ use Rattle.sf_term.specs.declared.node.ArgumentsId.{ArgumentsId}
 use Rattle.sf_term.specs.declared.node.Argument.{Argument}
 use Rattle.sf_term.specs.declared.node.Argument.TheVariants as arguments
 use Rattle.sf_term.specs.declared.node.Node.TheVariants as nodes
+use Rattle.sf_term.specs.declared.collection.CollectionId.{CollectionId}
 use Rattle.sf_term.specs.declared.program.Program.{Program}
 use Rattle.sf_term.specs.Parameters.{PlacedParameter, binding_of, parameters_of}
-use Rattle.sf_term.specs.Arena.{tree, term_node_at, term_spot_at, expressions_of, arguments_under, arguments_of}
+use Rattle.sf_term.specs.Arena.{tree, term_node_at, term_spot_at, expressions_of, arguments_under, arguments_of, collection_under, collection_at}
 use Rattle.sf_term.proofs.Kept.{expression_in}
 use Rattle.sf_mean.specs.Contexts.{NameKind, value, process, collection, Bindings, Signature, signature_named, Context, names_of_values}
-use Rattle.sf_mean.specs.Typing.{Takes, FormTakes, call_takes, ArgumentsFit, no_argument_fits, value_fits, process_fits}
-use Rattle.sf_check.specs.Breaking.{name_in, ArgumentKeeps, value_keeps, process_keeps, ArgumentsLeft, all_left, ArgumentBreaks, argument_refused, process_for_value, CallBreaks, no_template, other_number, argument_breaks, call_differs, call_breaks, Reaches, call_argument, TermBreaks, within}
-use Rattle.sf_check.specs.Answering.{ArgumentFits, ArgumentStops, stops_itself, stops_within, AnswersArgument}
+use Rattle.sf_mean.specs.Typing.{Takes, FormTakes, Collects, call_takes, ArgumentsFit, no_argument_fits, value_fits, process_fits, collection_fits}
+use Rattle.sf_check.specs.Breaking.{name_in, ArgumentKeeps, value_keeps, process_keeps, collection_keeps, ArgumentsLeft, all_left, ArgumentBreaks, argument_refused, process_for_value, process_for_collection, collection_for_value, collection_for_process, CallBreaks, no_template, other_number, argument_breaks, call_differs, call_breaks, Reaches, call_argument, ReachesMembers, argument_members, TermBreaks, within, in_members, CollectionBreaks}
+use Rattle.sf_check.specs.Answering.{ArgumentFits, ArgumentStops, stops_itself, stops_within, stops_in_members, AnswersArgument}
 use Rattle.sf_check.proofs.Made.{made}
-use Rattle.sf_check.proofs.Types.{expression_one, takes_one}
+use Rattle.sf_check.proofs.Types.{expression_one, takes_one, members_one, keys_of_table, values_of_table}
 use Rattle.sf_check.proofs.Arguments.{left_fits, rest_length, one_less}
 use Rattle.sf_check.proofs.Terms.{itself_refused, breaks_itself, form_ok}
 
@@ -63,6 +64,9 @@ module _ (p : Program) (Γ : Context) (s : Spot) (v : Argument) (k : NameKind) w
     pub misplaced : (u : Kind) → k ≡ value u → (e : Refusal) → e ≡ broken Mismatch s → OrMemory (ArgumentStops p Γ s v k) e
     misplaced u for e wrong = breaks_at Mismatch wrong refl (stops_itself (subst₂ (λ v k. ArgumentBreaks p Γ s v k (breach_of Mismatch s)) (sym is) (sym for) process_for_value))
 
+    pub misplaced_process : (l : KeyKind) (a b : Kind) → k ≡ collection l a b → (e : Refusal) → e ≡ broken Mismatch s → OrMemory (ArgumentStops p Γ s v k) e
+    misplaced_process l a b for e wrong = breaks_at Mismatch wrong refl (stops_itself (subst₂ (λ v k. ArgumentBreaks p Γ s v k (breach_of Mismatch s)) (sym is) (sym for) process_for_collection))
+
     module _ (a b : Kind) (for : k ≡ process a b) where
       pub term_stops : (e : Refusal) → OrMemory (TermBreaks p Γ t a) e → OrMemory (ArgumentStops p Γ s v k) e
       term_stops e h = or_memory (λ r h. subst₂ (λ v k. ArgumentStops p Γ s v k r) (sym is) (sym for) (stops_within h)) h
@@ -71,6 +75,23 @@ module _ (p : Program) (Γ : Context) (s : Spot) (v : Argument) (k : NameKind) w
       process_answers c fits h same =
           let answer : AnswersArgument p Γ s (arguments.Process t) (process a b) (Ok fits) =
           (process_keeps h, (λ z. subst (Takes Γ (tree p t) a) (same.0 z) h, λ other. same.1 (takes_one h other))) in
+          subst₂ (λ v k. AnswersArgument p Γ s v k (Ok fits)) (sym is) (sym for) answer
+
+  module _ (i : CollectionId) (is : v ≡ arguments.Collection i) where
+    pub misplaced_members : (u : Kind) → k ≡ value u → (e : Refusal) → e ≡ broken Mismatch s → OrMemory (ArgumentStops p Γ s v k) e
+    misplaced_members u for e wrong = breaks_at Mismatch wrong refl (stops_itself (subst₂ (λ v k. ArgumentBreaks p Γ s v k (breach_of Mismatch s)) (sym is) (sym for) collection_for_value))
+
+    pub members_for_process : (a b : Kind) → k ≡ process a b → (e : Refusal) → e ≡ broken Mismatch s → OrMemory (ArgumentStops p Γ s v k) e
+    members_for_process a b for e wrong = breaks_at Mismatch wrong refl (stops_itself (subst₂ (λ v k. ArgumentBreaks p Γ s v k (breach_of Mismatch s)) (sym is) (sym for) collection_for_process))
+
+    module _ (l : KeyKind) (a b : Kind) (for : k ≡ collection l a b) where
+      pub members_stop : (e : Refusal) → OrMemory (CollectionBreaks p Γ (collection_under p i) a) e → OrMemory (ArgumentStops p Γ s v k) e
+      members_stop e h = or_memory (λ r h. subst₂ (λ v k. ArgumentStops p Γ s v k r) (sym is) (sym for) (stops_in_members h)) h
+
+      pub members_answer : (m : KeyKind) (c : Kind) (fits : Bool) → Collects Γ (collection_at p i) m a c → IsTrue fits ↔ (table_kind m c ≡ table_kind l b) → AnswersArgument p Γ s v k (Ok fits)
+      members_answer m c fits h same =
+          let to : IsTrue fits → Collects Γ (collection_at p i) l a b = λ z. subst₂ (λ l b. Collects Γ (collection_at p i) l a b) (keys_of_table (same.0 z)) (values_of_table (same.0 z)) h in
+          let answer : AnswersArgument p Γ s (arguments.Collection i) (collection l a b) (Ok fits) = (collection_keeps h, (to, λ other. same.1 (members_one h other))) in
           subst₂ (λ v k. AnswersArgument p Γ s v k (Ok fits)) (sym is) (sym for) answer
 
 pub answer_for : (p : Program) (Γ : Context) (s : Spot) (v : Argument) {k l : NameKind} (r : Result Bool Refusal) → k ≡ l → AnswersArgument p Γ s v k r → AnswersArgument p Γ s v l r
@@ -85,21 +106,27 @@ pub record ArgumentsSo (p : Program) (Γ : Context) (vs : List Argument) (qs : B
   pub differ : fit ≡ false → ArgumentsFit Γ (arguments_of p vs) qs → ⊥
 
 module _ (p : Program) {Γ : Context} where
-  fits_before : (v : Argument) (x : Name) (k : NameKind) (ws : List Argument) {rs : Bindings} → ArgumentFits p Γ v k → ArgumentsFit Γ (arguments_of p ws) rs → ArgumentsFit Γ (arguments_of p (v ∷ ws)) ((x, k) ∷ rs)
+  pub fits_before : (v : Argument) (x : Name) (k : NameKind) (ws : List Argument) {rs : Bindings} → ArgumentFits p Γ v k → ArgumentsFit Γ (arguments_of p ws) rs → ArgumentsFit Γ (arguments_of p (v ∷ ws)) ((x, k) ∷ rs)
   fits_before (arguments.Value i) x (value t) ws h rest = value_fits (subst (λ e. HasType (names_of_values Γ) e t) (expression_in p i) h) rest
   fits_before (arguments.Value i) x (process a b) ws h rest = absurd h
   fits_before (arguments.Value i) x (collection k a b) ws h rest = absurd h
   fits_before (arguments.Process u) x (value t) ws h rest = absurd h
   fits_before (arguments.Process u) x (process a b) ws h rest = process_fits h rest
   fits_before (arguments.Process u) x (collection k a b) ws h rest = absurd h
+  fits_before (arguments.Collection i) x (value t) ws h rest = absurd h
+  fits_before (arguments.Collection i) x (process a b) ws h rest = absurd h
+  fits_before (arguments.Collection i) x (collection k a b) ws h rest = collection_fits h rest
 
-  first_fits : (v : Argument) (x : Name) (k : NameKind) (ws : List Argument) {rs : Bindings} → ArgumentsFit Γ (arguments_of p (v ∷ ws)) ((x, k) ∷ rs) → ArgumentFits p Γ v k
+  pub first_fits : (v : Argument) (x : Name) (k : NameKind) (ws : List Argument) {rs : Bindings} → ArgumentsFit Γ (arguments_of p (v ∷ ws)) ((x, k) ∷ rs) → ArgumentFits p Γ v k
   first_fits (arguments.Value i) x (value t) ws (value_fits h rest) = subst (λ e. HasType (names_of_values Γ) e t) (sym (expression_in p i)) h
   first_fits (arguments.Value i) x (process a b) ws fit = elim fit [ ]
   first_fits (arguments.Value i) x (collection k a b) ws fit = elim fit [ ]
   first_fits (arguments.Process u) x (value t) ws fit = elim fit [ ]
   first_fits (arguments.Process u) x (process a b) ws (process_fits h rest) = h
   first_fits (arguments.Process u) x (collection k a b) ws fit = elim fit [ ]
+  first_fits (arguments.Collection i) x (value t) ws fit = elim fit [ ]
+  first_fits (arguments.Collection i) x (process a b) ws fit = elim fit [ ]
+  first_fits (arguments.Collection i) x (collection k a b) ws (collection_fits h rest) = h
 
 module _ {p : Program} {Γ : Context} where
   pub first_so : {vs : List Argument} {qs : Bindings} → length vs ≡ length qs → ArgumentsSo p Γ vs qs vs qs true
@@ -149,6 +176,7 @@ module _ (p : Program) (Γ : Context) (t : TermId) (a : Kind) (s : Spot) (at : s
         each : {v : Argument} {q : NameKind} {r : Breach} → ArgumentsLeft p Γ (arguments_under p vs) g.parameters (v ∷ ws) ((x, q) ∷ rs) → ArgumentStops p Γ s v q r → TermBreaks p Γ t a r
         each left (stops_itself h) = breaks_itself p Γ t (nodes.Call k vs) a is s at (call_breaks (breaks (argument_breaks left h)))
         each left (stops_within {t = u} {a = b} h) = within (subst (λ n. Reaches p Γ n a Γ u b) (sym is) (call_argument named left)) h
+        each left (stops_in_members {i = i} {a = b} h) = in_members (subst (λ n. ReachesMembers p Γ n a Γ i b) (sym is) (argument_members named left)) h
 
     pub differs_answers : {fit : Bool} (e : Refusal) → ArgumentsSo p Γ (arguments_under p vs) g.parameters [] [] fit → (fit ≡ true → a ≢ g.input) → e ≡ broken Mismatch s → OrMemory (TermBreaks p Γ t a) e
     differs_answers {fit} e so other wrong = refused e (breaks_at Mismatch wrong refl (breaks (call_differs so.left (each fit so other))))

@@ -4,7 +4,9 @@ use Rattle.std.specs.Prelude.{⊤, bytes_eq}
 use Rattle.std.proofs.lemmas.List.{drop_more, map-append}
 use Rattle.std.proofs.lemmas.List.Elements.{All-cons}
 use Rattle.std.proofs.lemmas.Option.{same_Some}
-use Rattle.sf_value.specs.Values.{Name, Kind}
+use Rattle.sf_value.specs.Values.{Name, KeyKind, Kind}
+use Rattle.sf_value.specs.declared.ty.KeyType.{KeyType}
+use Rattle.sf_value.specs.KindView.{key_kind_of}
 use Rattle.sf_refusal.specs.declared.spot.Spot.{Spot}
 use Rattle.sf_refusal.specs.declared.rule.Rule.TheVariants.{UnknownName, Mismatch}
 use Rattle.sf_refusal.specs.declared.refusal.Refusal.{Refusal}
@@ -16,18 +18,18 @@ use Rattle.sf_expr.specs.Expressions.{Pattern}
 use Rattle.sf_expr.specs.Patterns.{PlacedPattern, pattern_of}
 use Rattle.sf_expr.specs.declared.frame.Frame.{Frame}
 use Rattle.sf_expr.specs.declared.meaning.Meaning.{Meaning}
-use Rattle.sf_expr.specs.declared.meaning.Meaning.TheVariants.{Value, Process}
-use Rattle.sf_expr.specs.Meanings.{Meant, of_value, of_process, meant, Entries, found_in, names_from}
+use Rattle.sf_expr.specs.declared.meaning.Meaning.TheVariants.{Value, Process, Collection}
+use Rattle.sf_expr.specs.Meanings.{Meant, of_value, of_process, of_collection, meant, Entries, found_in, names_from}
 use Rattle.sf_expr.specs.Scopes.{entries_in}
 use Rattle.sf_expr.specs.Refusals.{PatternRefused}
 use Rattle.sf_expr.specs.Typing.{Names, only_functions, typed_name, untyped_name, with_types, AddsNames, adds_nothing, adds_name, adds_both, Binds}
 use Rattle.sf_expr.proofs.Bound.{binds_with, bound_within}
 use Rattle.sf_term.specs.Parameters.{PlacedParameter, binding_of, parameters_of}
 use Rattle.sf_term.specs.Trees.{Templates}
-use Rattle.sf_mean.specs.Contexts.{NameKind, value, process, collection, types_of_process, process_named, Bindings, parameters_inside, context_with, values_in, bindings_inside, inside_pattern, inside_process}
+use Rattle.sf_mean.specs.Contexts.{NameKind, value, process, collection, types_of_process, process_named, types_of_collection, collection_named, Bindings, parameters_inside, context_with, values_in, bindings_inside, inside_pattern, inside_process, inside_collection}
 use Rattle.sf_mean.specs.Typing.{ParameterFits}
 use Rattle.sf_check.specs.Standing.{kind_meant, bindings_from, inside_names}
-use Rattle.sf_check.specs.Breaking.{kind_named, ProcessRefused, BindsInside}
+use Rattle.sf_check.specs.Breaking.{kind_named, ProcessRefused, CollectionRefused, BindsInside}
 
 -- expressions are typed under the names and the functions that a context has
 pub names_seen_through : (fs : TypesByName) (es : Entries) → values_in fs (bindings_from es) ≡ with_types fs (names_from es)
@@ -37,14 +39,22 @@ names_seen_through fs (e ∷ es) = each e.1 (names_seen_through fs es)
     each : (m : Meant) → values_in fs (bindings_from es) ≡ with_types fs (names_from es) → values_in fs (bindings_from ((e.0, m) ∷ es)) ≡ with_types fs (names_from ((e.0, m) ∷ es))
     each (of_value t) rest = ap (typed_name e.0 t) rest
     each (of_process a b) rest = ap (untyped_name e.0) rest
+    each (of_collection k a b) rest = ap (untyped_name e.0) rest
 
 -- names inside others
 pub names_inside : (fs : TypesByName) (ts : Templates) (names : Frame) (es gs : Entries) → gs ≡ entries_in names ++ es → context_with fs (bindings_from gs) ts ≡ inside_names names (context_with fs (bindings_from es) ts)
 names_inside fs ts names es gs more = ap (λ bs. context_with fs bs ts) (ap bindings_from more ∙ map-append (λ (e : Name × Meant). (e.0, kind_meant e.1)) (entries_in names) es)
 
+-- inside a name alone
+name_inside : (fs : TypesByName) (ts : Templates) (es : Entries) (names : Frame) (m : Meant) {x y : Name} {none : Entries} → y ≡ x → none ≡ [] → entries_in names ≡ (y, m) ∷ none → inside_names names (context_with fs (bindings_from es) ts) ≡ context_with fs ((x, kind_meant m) ∷ bindings_from es) ts
+name_inside fs ts es names m {x} {y} {none} same end is =
+    ap (λ ns. context_with fs (bindings_from ns ++ bindings_from es) ts) (is ∙ ap (λ ns. (y, m) ∷ ns) end ∙ ap (λ (z : Name). (z, m) ∷ []) same)
+
 pub process_inside : (fs : TypesByName) (ts : Templates) (es : Entries) (names : Frame) (a b : Kind) {x y : Name} {none : Entries} → y ≡ x → none ≡ [] → entries_in names ≡ (y, of_process a b) ∷ none → inside_names names (context_with fs (bindings_from es) ts) ≡ inside_process x a b (context_with fs (bindings_from es) ts)
-process_inside fs ts es names a b {x} {y} {none} same end is =
-    ap (λ ns. context_with fs (bindings_from ns ++ bindings_from es) ts) (is ∙ ap (λ ns. (y, of_process a b) ∷ ns) end ∙ ap (λ (z : Name). (z, of_process a b) ∷ []) same)
+process_inside fs ts es names a b same end is = name_inside fs ts es names (of_process a b) same end is
+
+pub collection_inside : (fs : TypesByName) (ts : Templates) (es : Entries) (names : Frame) (k : KeyKind) (a b : Kind) {x y : Name} {none : Entries} → y ≡ x → none ≡ [] → entries_in names ≡ (y, of_collection k a b) ∷ none → inside_names names (context_with fs (bindings_from es) ts) ≡ inside_collection x k a b (context_with fs (bindings_from es) ts)
+collection_inside fs ts es names k a b same end is = name_inside fs ts es names (of_collection k a b) same end is
 
 -- ## Patterns
 
@@ -78,6 +88,7 @@ typed_over (v ∷ vs) es h = each v.1 h (typed_over vs es)
     each : (m : Meant) → OnlyTyped (names_from ((v.0, m) ∷ vs)) → (OnlyTyped (names_from vs) → vs ++ es ≡ values_over (names_from vs) es) → (v.0, m) ∷ (vs ++ es) ≡ values_over (names_from ((v.0, m) ∷ vs)) es
     each (of_value t) h rest = ap (λ ns. (v.0, of_value t) ∷ ns) (rest h)
     each (of_process a b) h rest = absurd h
+    each (of_collection k a b) h rest = absurd h
 
 module _ (fs : TypesByName) (ts : Templates) (es : Entries) {q : PlacedPattern} {p : PlacedPattern} (placed : q ≡ p) (t : Kind) where
   names_bound : (vs : Entries) → Binds (pattern_of q) t (only_functions []) (names_from vs) → bindings_from vs ++ bindings_from es ≡ bindings_inside (pattern_of p) t (bindings_from es)
@@ -121,6 +132,25 @@ module _ (es : Entries) {x y : Name} (same : y ≡ x) where
   stands_as : {o : Option Meant} → found_in y es ≡ o → kind_named x (bindings_from es) ≡ kind_found o
   stands_as found = named_among x es ∙ ap (λ z. kind_found (found_in z es)) (sym same) ∙ ap kind_found found
 
+  stands_for : {m : Meaning} (n : Meaning) → m ≡ n → found_in y es ≡ Some (meant m) → kind_named x (bindings_from es) ≡ Some (kind_meant (meant n))
+  stands_for n is found = stands_as found ∙ ap (λ m. Some (kind_meant (meant m))) is
+
+  pub collection_found : {m : Meaning} {k : KeyType} {a b : Bor Kind} → m ≡ Collection k a b → found_in y es ≡ Some (meant m) → kind_named x (bindings_from es) ≡ Some (collection (key_kind_of k) a.now b.now)
+  collection_found {k = k} {a = a} {b = b} is found = stands_for (Collection k a b) is found
+
+  -- why a name is that of no process, or of no collection
+  pub is_collection_refused : {m : Meaning} {k : KeyType} {a b : Bor Kind} {at : Spot} {e : Refusal} → m ≡ Collection k a b → found_in y es ≡ Some (meant m) → e ≡ broken Mismatch at → OrMemory (ProcessRefused (kind_named x (bindings_from es)) at) e
+  is_collection_refused {k = k} {a = a} {b = b} {at = at} is found because = breaks_at Mismatch because refl (subst (λ o. ProcessRefused o at (breach_of Mismatch at)) (sym (stands_for (Collection k a b) is found)) refl)
+
+  pub is_value_refused : {m : Meaning} {t : Bor Kind} {at : Spot} {e : Refusal} → m ≡ Value t → found_in y es ≡ Some (meant m) → e ≡ broken Mismatch at → OrMemory (CollectionRefused (kind_named x (bindings_from es)) at) e
+  is_value_refused {t = t} {at = at} is found because = breaks_at Mismatch because refl (subst (λ o. CollectionRefused o at (breach_of Mismatch at)) (sym (stands_for (Value t) is found)) refl)
+
+  pub is_process_refused : {m : Meaning} {a b : Bor Kind} {at : Spot} {e : Refusal} → m ≡ Process a b → found_in y es ≡ Some (meant m) → e ≡ broken Mismatch at → OrMemory (CollectionRefused (kind_named x (bindings_from es)) at) e
+  is_process_refused {a = a} {b = b} {at = at} is found because = breaks_at Mismatch because refl (subst (λ o. CollectionRefused o at (breach_of Mismatch at)) (sym (stands_for (Process a b) is found)) refl)
+
+  pub is_unbound_refused : {at : Spot} {e : Refusal} → found_in y es ≡ None → e ≡ broken UnknownName at → OrMemory (CollectionRefused (kind_named x (bindings_from es)) at) e
+  is_unbound_refused {at} found because = breaks_at UnknownName because refl (subst (λ o. CollectionRefused o at (breach_of UnknownName at)) (sym (stands_as found)) refl)
+
   pub process_found : {m : Meaning} {a b : Bor Kind} → m ≡ Process a b → found_in y es ≡ Some (meant m) → kind_named x (bindings_from es) ≡ Some (process a.now b.now)
   process_found is found = stands_as found ∙ ap (λ m. Some (kind_meant (meant m))) is
 
@@ -150,6 +180,27 @@ is_process x bs {a} {b} h = each (kind_named x bs) refl (sym (found_process x bs
     each (Some (value t)) e h = absurd cc
     each (Some (process c d)) e h = ap (λ (k : Kind × Kind). Some (process k.0 k.1)) (same_Some (c, d) (a, b) h)
     each (Some (collection k c d)) e h = absurd cc
+
+-- the same of a collection
+found_collection : (x : Name) (bs : Bindings) → collection_named x bs ≡ found_then (kind_named x bs) types_of_collection
+found_collection x [] = refl
+found_collection x (b ∷ bs) = each (bytes_eq x b.0) (found_collection x bs)
+  where
+    each : (c : Bool) → collection_named x bs ≡ found_then (kind_named x bs) types_of_collection → cond c (types_of_collection b.1) (collection_named x bs) ≡ found_then (cond c (Some b.1) (kind_named x bs)) types_of_collection
+    each true rest = refl
+    each false rest = rest
+
+pub collection_is : (x : Name) (bs : Bindings) {k : KeyKind} {a b : Kind} → kind_named x bs ≡ Some (collection k a b) → collection_named x bs ≡ Some (k, a, b)
+collection_is x bs h = found_collection x bs ∙ ap (λ o. found_then o types_of_collection) h
+
+pub is_collection : (x : Name) (bs : Bindings) {k : KeyKind} {a b : Kind} → collection_named x bs ≡ Some (k, a, b) → kind_named x bs ≡ Some (collection k a b)
+is_collection x bs {k} {a} {b} h = each (kind_named x bs) refl (sym (found_collection x bs) ∙ h)
+  where
+    each : (o : Option NameKind) → kind_named x bs ≡ o → found_then o types_of_collection ≡ Some (k, a, b) → o ≡ Some (collection k a b)
+    each None e h = absurd cc
+    each (Some (value t)) e h = absurd cc
+    each (Some (process c d)) e h = absurd cc
+    each (Some (collection l c d)) e h = ap (λ (t : KeyKind × Kind × Kind). Some (collection t.0 t.1 t.2)) (same_Some (l, c, d) (k, a, b) h)
 
 -- ## Parameters
 

@@ -4,8 +4,10 @@ pub mod Made
 pub mod Arguments
 pub mod Broken
 pub mod Terms
-pub mod Apart
+pub mod Members
 pub mod Calls
+pub mod Unlike
+pub mod Apart
 pub mod Templates
 pub mod Naming
 pub mod Again

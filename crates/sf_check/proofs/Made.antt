@@ -9,8 +9,8 @@ use Rattle.sf_term.specs.declared.node.Primitive.TheVariants as primitives
 use Rattle.sf_term.specs.declared.node.Node.{Node}
 use Rattle.sf_term.specs.declared.node.Node.TheVariants as nodes
 use Rattle.sf_term.specs.declared.program.Program.{Program}
-use Rattle.sf_term.specs.Trees.{Term, primitive, reference, named_term, call, joined, sided, headed, transformed, switching, keeping, with_value, timed, arrow, accumulated}
-use Rattle.sf_term.specs.Arena.{tree, term_node_at, expressions_of, arguments_under, arguments_of, pattern_under, term_of}
+use Rattle.sf_term.specs.Trees.{Term, primitive, reference, named_term, call, joined, sided, headed, transformed, switching, keeping, gathered, releasing, editing, with_value, timed, arrow, accumulated}
+use Rattle.sf_term.specs.Arena.{tree, term_node_at, expressions_of, arguments_under, arguments_of, collection_at, pattern_under, term_of}
 use Rattle.sf_term.proofs.Kept.{node_builds, expression_in, function_at_in}
 use Rattle.sf_check.specs.Breaking.{pattern_in, name_in}
 use Rattle.sf_check.specs.Answering.{primitive_in}
@@ -26,6 +26,9 @@ made p (nodes.Headed h v f) = headed h (expression (expressions_of p) v) (tree p
 made p (nodes.Transformed g f) = transformed (function_at (expressions_of p) g) (tree p f)
 made p (nodes.Switching w f q g) = switching w (tree p f) (pattern_in p q) (tree p g)
 made p (nodes.Keeping w f o k s q g) = keeping w (tree p f) (tree p o) (name_in p k) (pattern_in p q) (tree p g)
+made p (nodes.Gathered i) = gathered (collection_at p i)
+made p (nodes.Releasing n) = releasing n.shown (collection_at p n.members) (tree p n.observer) (name_in p n.name) (pattern_in p n.pattern) (tree p n.body)
+made p (nodes.Editing n) = editing n.shown (collection_at p n.members) (name_in p n.name) (pattern_in p n.pattern) (collection_at p n.edit)
 
 placed_in : (p : Program) (q : PatternId) → placed_at (expressions_of p) q ≡ pattern_under p q
 unfolding expressions_of pattern_under
@@ -50,3 +53,6 @@ tree_made p t n e = node_builds p t n e ∙ by n
     by (nodes.Transformed g f) = ap (λ g. transformed g (tree p f)) (sym (function_at_in p g))
     by (nodes.Switching w f q g) = ap (λ r. switching w (tree p f) (pattern_of r) (tree p g)) (sym (placed_in p q))
     by (nodes.Keeping w f o k s q g) = ap (λ r. keeping w (tree p f) (tree p o) (name_in p k) (pattern_of r) (tree p g)) (sym (placed_in p q))
+    by (nodes.Gathered i) = refl
+    by (nodes.Releasing n) = ap (λ r. releasing n.shown (collection_at p n.members) (tree p n.observer) (name_in p n.name) (pattern_of r) (tree p n.body)) (sym (placed_in p n.pattern))
+    by (nodes.Editing n) = ap (λ r. editing n.shown (collection_at p n.members) (name_in p n.name) (pattern_of r) (collection_at p n.edit)) (sym (placed_in p n.pattern))

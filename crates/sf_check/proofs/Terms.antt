@@ -61,7 +61,7 @@ use Rattle.sf_check.proofs.Types.{primitive_fits, output_fits, no_event}
 use Rattle.sf_check.proofs.Contexts.{process_is}
 
 -- types that are told apart are different
-other_kind : (t u : Kind) → same_kind t u ≡ false → t ≢ u
+pub other_kind : (t u : Kind) → same_kind t u ≡ false → t ≢ u
 other_kind t u other = λ e. let same = ap (same_kind t) e ∙ other in let yes = is_same t in cc
 
 -- ## Answers of one form

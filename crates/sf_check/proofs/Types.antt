@@ -1,14 +1,14 @@
 -- The one type that expressions and terms can have, and its bound.
-use Rattle.std.proofs.Common.{◌≡◌, ◌≢◌, None, ap, ◌∙◌, sym}
-use Rattle.std.proofs.lemmas.Option.{none-some}
-use Rattle.sf_value.specs.Values.{Kind, pair_kind, event_kind}
+use Rattle.std.proofs.Common.{◌≡◌, ◌≢◌, None, refl, ap, ◌∙◌, sym}
+use Rattle.std.proofs.lemmas.Option.{none-some, same_Some}
+use Rattle.sf_value.specs.Values.{KeyKind, Kind, pair_kind, event_kind, table_kind}
 use Rattle.sf_operator.specs.Kinds.{payload_of}
 use Rattle.sf_expr.specs.Expressions.{Expression, Function}
 use Rattle.sf_expr.specs.Typing.{Names, Fits, HasType, variable_has, literal_has, pair_has, applied_has, operation_has, conditional_has, mapped_has, folded_has, called_has, FunctionTakes, function_takes}
 pub use Rattle.sf_expr.proofs.Judged.{one_type as expression_one}
-use Rattle.sf_term.specs.Trees.{Primitive, Term}
+use Rattle.sf_term.specs.Trees.{Primitive, Term, Collection}
 use Rattle.sf_mean.specs.Contexts.{Context}
-use Rattle.sf_mean.specs.Typing.{Takes, PrimitiveTakes, bare_takes, probe_takes, never_takes, value_takes, timed_takes, selected_takes, accumulated_takes, arrow_takes, fused_takes}
+use Rattle.sf_mean.specs.Typing.{Takes, Collects, collects_none, collects_used, collects_added, collects_dropped, collects_kept, collects_chosen, PrimitiveTakes, bare_takes, probe_takes, never_takes, value_takes, timed_takes, selected_takes, accumulated_takes, arrow_takes, fused_takes}
 use Rattle.sf_check.specs.Breaking.{IsNoPairWith, IsNoEvent}
 pub use Rattle.sf_mean.proofs.Inferred.{takes_one, input_fits, output_fits, form_of}
 
@@ -52,3 +52,19 @@ beside_one f g = let e = takes_one f g in (cc, cc)
 -- the second part is another than that
 pub other_second : {a t u v : Kind} → a ≡ pair_kind t u → u ≢ v → IsNoPairWith v a
 other_second is other w e = other cc
+
+-- the members of a collection have keys of one type, and outputs of one type
+pub members_one : {Γ : Context} {i : Collection} {k l : KeyKind} {a b c : Kind} → Collects Γ i k a b → Collects Γ i l a c → table_kind k b ≡ table_kind l c
+members_one collects_none collects_none = refl
+members_one (collects_used {k = k} {a = a} {b = b} h) (collects_used {k = l} {b = c} g) = ap (λ (t : KeyKind × Kind × Kind). table_kind t.0 t.2) (same_Some (k, a, b) (l, a, c) (sym h ∙ g))
+members_one (collects_added C I T) (collects_added D J U) = members_one C D
+members_one (collects_dropped C I) (collects_dropped D J) = members_one C D
+members_one (collects_kept C F) (collects_kept D G) = members_one C D
+members_one (collects_chosen I C D) (collects_chosen J E F) = members_one C E
+
+-- the two types in a type of tables
+pub keys_of_table : {k l : KeyKind} {b c : Kind} → table_kind k b ≡ table_kind l c → k ≡ l
+keys_of_table e = cc
+
+pub values_of_table : {k l : KeyKind} {b c : Kind} → table_kind k b ≡ table_kind l c → b ≡ c
+values_of_table e = cc

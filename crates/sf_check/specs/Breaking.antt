@@ -1,11 +1,12 @@
 -- Where rules of types are broken, under a context.
 use Rattle.std.specs.Prelude.{◌≡◌, ◌≢◌, ◌<◌, ℕ, ℤ, false, cond, IsTrue, List, [], ◌∷◌, length, Option, Some, None, bytes_eq, slice_get}
-use Rattle.sf_value.specs.Values.{Name, KeyKind, Kind, pair_kind, event_kind, nodes as nodes_of, IsNoPair}
+use Rattle.sf_value.specs.Values.{Name, KeyKind, Kind, bool_kind, pair_kind, event_kind, table_kind, nodes as nodes_of, IsNoPair}
 use Rattle.sf_refusal.specs.declared.spot.Spot.{Spot}
 use Rattle.sf_refusal.specs.declared.rule.Rule.TheVariants.{UnknownName, Arity, Mismatch, BarePre, BadConstant, TypeTooLarge}
 use Rattle.sf_refusal.specs.declared.refusal.Breach.{Breach}
 use Rattle.sf_refusal.specs.Refusals.{breach_of}
 use Rattle.sf_func.specs.Registries.{TypesByName}
+use Rattle.sf_operator.specs.Kinds.{kind_of_keys}
 use Rattle.sf_operator.specs.Breaches.{KindRefused}
 use Rattle.sf_expr.specs.declared.exprs.ConstantId.{ConstantId}
 use Rattle.sf_expr.specs.declared.exprs.ExprId.{ExprId}
@@ -40,16 +41,21 @@ use Rattle.sf_term.specs.declared.node.Argument.{Argument}
 use Rattle.sf_term.specs.declared.node.Argument.TheVariants as arguments
 use Rattle.sf_term.specs.declared.node.Primitive.{Primitive}
 use Rattle.sf_term.specs.declared.node.Primitive.TheVariants as primitives
+use Rattle.sf_term.specs.declared.node.Releasing.{Releasing}
+use Rattle.sf_term.specs.declared.node.Editing.{Editing}
 use Rattle.sf_term.specs.declared.node.Node.{Node}
 use Rattle.sf_term.specs.declared.node.Node.TheVariants as nodes
+use Rattle.sf_term.specs.declared.collection.CollectionId.{CollectionId}
+use Rattle.sf_term.specs.declared.collection.CollExpr.{CollExpr}
+use Rattle.sf_term.specs.declared.collection.CollExpr.TheVariants as collections
 use Rattle.sf_term.specs.declared.program.Program.{Program}
 use Rattle.sf_term.specs.Entries.{absent_payload}
 use Rattle.sf_term.specs.Headers.{Header}
 use Rattle.sf_term.specs.Parameters.{parameters_of}
 use Rattle.sf_term.specs.Trees.{Template}
-use Rattle.sf_term.specs.Arena.{tree, term_node_at, term_spot_at, expressions_of, arguments_under, arguments_of, headers_of, templates_of}
-use Rattle.sf_mean.specs.Contexts.{NameKind, value, process, collection, Bindings, Signature, signature_named, Context, names_of_values, context_of, inside_pattern, inside_process}
-use Rattle.sf_mean.specs.Typing.{bare_kind, value_kind, takes_input, takes_time, timed_kind, takes_number, selected_kind, accumulated_argument, accumulated_kind, Takes, ArgumentsFit, IsTyped}
+use Rattle.sf_term.specs.Arena.{tree, term_node_at, term_spot_at, expressions_of, arguments_under, arguments_of, collection_under, collection_of, collection_at, headers_of, templates_of}
+use Rattle.sf_mean.specs.Contexts.{NameKind, value, process, collection, Bindings, Signature, signature_named, Context, names_of_values, context_of, inside_pattern, inside_process, inside_collection}
+use Rattle.sf_mean.specs.Typing.{bare_kind, value_kind, takes_input, takes_time, timed_kind, takes_number, selected_kind, accumulated_argument, accumulated_kind, Takes, Collects, ArgumentsFit, IsTyped}
 
 -- a type is none of pairs with this second part
 abbrev pub IsNoPairWith : Kind → Kind → Type 0
@@ -91,6 +97,13 @@ ProcessRefused None at r = r ≡ breach_of UnknownName at
 ProcessRefused (Some (value t)) at r = r ≡ breach_of Mismatch at
 ProcessRefused (Some (process a b)) at r = ⊥
 ProcessRefused (Some (collection k a b)) at r = r ≡ breach_of Mismatch at
+
+-- why a name is that of no collection, at its place: it isn't bound, or stands for a value or a process
+abbrev pub CollectionRefused : Option NameKind → Spot → Breach → Type 0
+CollectionRefused None at r = r ≡ breach_of UnknownName at
+CollectionRefused (Some (value t)) at r = r ≡ breach_of Mismatch at
+CollectionRefused (Some (process a b)) at r = r ≡ breach_of Mismatch at
+CollectionRefused (Some (collection k a b)) at r = ⊥
 
 -- Why a primitive without constants takes no inputs of a type, at a place: `pre` stands alone, or there is no type.
 abbrev pub BareRefused : Bare → Kind → Spot → Breach → Type 0
@@ -136,6 +149,10 @@ name_in p k = name_at (expressions_of p) k
 abbrev pub keeping_inside : Program → NameId → (from to : Kind) → Context → Context
 keeping_inside p k a b Γ = inside_process (name_in p k) a b Γ
 
+-- inside a term that keeps members, with keys of a type, from a type to a type under a name
+abbrev pub members_inside : Program → NameId → KeyKind → (from to : Kind) → Context → Context
+members_inside p x k a b Γ = inside_collection (name_in p x) k a b Γ
+
 -- a pattern binds its names inside, for a type
 abbrev pub BindsInside : Pattern → Kind → Context → Type 0
 BindsInside q c Γ = Binds q c (names_of_values Γ) (names_of_values (inside_pattern q c Γ))
@@ -155,11 +172,18 @@ pub data BodyBreaks (p : Program) (Δ : Context) (s : Spot) (q : PatternId) (u :
   pattern_refused : {r : Breach} → PatternRefused (placed_at (expressions_of p) q) c s r → BodyBreaks p Δ s q u a b c r
   body_differs : {d : Kind} → BindsInside (pattern_in p q) c Δ → Takes (inside_pattern (pattern_in p q) c Δ) (tree p u) a d → d ≢ b → BodyBreaks p Δ s q u a b c (breach_of Mismatch s)
 
--- An argument keeps its rules so far, for a parameter of a kind: an expression has a type, whichever it is, and a term stands
--- for a process and takes its inputs.
+-- Under a context, the edit of a form at a spot breaks a rule of the form, at a place, where it is to have members with keys of
+-- a type, from a type to a type, inside a pattern for payloads of a third.
+pub data EditBreaks (p : Program) (Δ : Context) (s : Spot) (q : PatternId) (u : CollectionId) (k : KeyKind) (a b c : Kind) : Breach → Type 0 where
+  edit_pattern_refused : {r : Breach} → PatternRefused (placed_at (expressions_of p) q) c s r → EditBreaks p Δ s q u k a b c r
+  edit_differs : {l : KeyKind} {d : Kind} → BindsInside (pattern_in p q) c Δ → Collects (inside_pattern (pattern_in p q) c Δ) (collection_at p u) l a d → table_kind l d ≢ table_kind k b → EditBreaks p Δ s q u k a b c (breach_of Mismatch s)
+
+-- An argument keeps its rules so far, for a parameter of a kind: an expression has a type, whichever it is, a term stands for a
+-- process and takes its inputs, and so does a collection for a collection.
 pub data ArgumentKeeps (p : Program) (Γ : Context) : Argument → NameKind → Type 0 where
   value_keeps : {e : ExprId} {k : NameKind} {t : Kind} → HasType (names_of_values Γ) (expression (expressions_of p) e) t → ArgumentKeeps p Γ (arguments.Value e) k
   process_keeps : {t : TermId} {a b c : Kind} → Takes Γ (tree p t) a c → ArgumentKeeps p Γ (arguments.Process t) (process a b)
+  collection_keeps : {i : CollectionId} {k l : KeyKind} {a b c : Kind} → Collects Γ (collection_at p i) l a c → ArgumentKeeps p Γ (arguments.Collection i) (collection k a b)
 
 -- Of arguments, which are as many as parameters, these are left with theirs: those before them keep their rules so far.
 pub data ArgumentsLeft (p : Program) (Γ : Context) : List Argument → Bindings → (left : List Argument) (parameters : Bindings) → Type 0 where
@@ -167,11 +191,13 @@ pub data ArgumentsLeft (p : Program) (Γ : Context) : List Argument → Bindings
   after_one : {v : Argument} {x : Name} {k : NameKind} {vs ws : List Argument} {qs rs : Bindings} → ArgumentKeeps p Γ v k → ArgumentsLeft p Γ vs qs ws rs → ArgumentsLeft p Γ (v ∷ vs) ((x, k) ∷ qs) ws rs
 
 -- An argument of a call at a spot, for a parameter of a kind, breaks a rule of the call, at a place: an expression has its
--- own place, and a term stands for no value and no collection.
+-- own place, a term stands for no value and no collection, and a collection for no value and no process.
 pub data ArgumentBreaks (p : Program) (Γ : Context) (s : Spot) : Argument → NameKind → Breach → Type 0 where
   argument_refused : {e : ExprId} {k : NameKind} {r : Breach} → Refused (expressions_of p) (names_of_values Γ) e r → ArgumentBreaks p Γ s (arguments.Value e) k r
   process_for_value : {t : TermId} {u : Kind} → ArgumentBreaks p Γ s (arguments.Process t) (value u) (breach_of Mismatch s)
   process_for_collection : {t : TermId} {k : KeyKind} {a b : Kind} → ArgumentBreaks p Γ s (arguments.Process t) (collection k a b) (breach_of Mismatch s)
+  collection_for_value : {i : CollectionId} {u : Kind} → ArgumentBreaks p Γ s (arguments.Collection i) (value u) (breach_of Mismatch s)
+  collection_for_process : {i : CollectionId} {a b : Kind} → ArgumentBreaks p Γ s (arguments.Collection i) (process a b) (breach_of Mismatch s)
 
 -- On inputs of a type, a call at a spot on these arguments breaks a rule of its own, at a place, where its template has this
 -- signature: that they fit its parameters, and the inputs its header, is looked at last.
@@ -210,6 +236,20 @@ pub data FormBreaks (p : Program) (Γ : Context) (s : Spot) : Node → Kind → 
       → Takes Γ (tree p t) a b → Takes Γ (tree p o) (pair_kind a b) d → IsNoEvent d → FormBreaks p Γ s (nodes.Keeping w t o k n q u) a (breach_of Mismatch s)
   keeping_body_breaks : {w : Observation} {t o u : TermId} {k : NameId} {n : Spot} {q : PatternId} {a b c : Kind} {r : Breach}
       → Takes Γ (tree p t) a b → Takes Γ (tree p o) (pair_kind a b) (event_kind c) → BodyBreaks p (keeping_inside p k a b Γ) s q u a b c r → FormBreaks p Γ s (nodes.Keeping w t o k n q u) a r
+  gathered_exceeds : {i : CollectionId} {k : KeyKind} {a b : Kind} → Collects Γ (collection_at p i) k a b → Exceeds (table_kind k b) → FormBreaks p Γ s (nodes.Gathered i) a (breach_of TypeTooLarge s)
+  tables_exceed : {n : Releasing} {k : KeyKind} {a b : Kind} → Collects Γ (collection_at p n.members) k a b → Exceeds (pair_kind a (table_kind k b)) → FormBreaks p Γ s (nodes.Releasing n) a (breach_of TypeTooLarge s)
+  their_observer_differs : {n : Releasing} {k : KeyKind} {a b d : Kind}
+      → Collects Γ (collection_at p n.members) k a b → Takes Γ (tree p n.observer) (pair_kind a (table_kind k b)) d → IsNoEvent d → FormBreaks p Γ s (nodes.Releasing n) a (breach_of Mismatch s)
+  releasing_body_breaks : {n : Releasing} {k : KeyKind} {a b c : Kind} {r : Breach}
+      → Collects Γ (collection_at p n.members) k a b → Takes Γ (tree p n.observer) (pair_kind a (table_kind k b)) (event_kind c)
+      → BodyBreaks p (members_inside p n.name k a b Γ) s n.pattern n.body a (table_kind k b) c r → FormBreaks p Γ s (nodes.Releasing n) a r
+  editing_input : {n : Editing} {a : Kind} → IsNoEventBeside a → FormBreaks p Γ s (nodes.Editing n) a (breach_of Mismatch s)
+  edit_breaks : {n : Editing} {k : KeyKind} {a b c : Kind} {r : Breach}
+      → Collects Γ (collection_at p n.members) k a b → EditBreaks p (members_inside p n.name k a b Γ) s n.pattern n.edit k a b c r → FormBreaks p Γ s (nodes.Editing n) (pair_kind a (event_kind c)) r
+  edited_exceeds : {n : Editing} {k : KeyKind} {a b c : Kind}
+      → Collects Γ (collection_at p n.members) k a b → BindsInside (pattern_in p n.pattern) c (members_inside p n.name k a b Γ)
+      → Collects (inside_pattern (pattern_in p n.pattern) c (members_inside p n.name k a b Γ)) (collection_at p n.edit) k a b
+      → Exceeds (table_kind k b) → FormBreaks p Γ s (nodes.Editing n) (pair_kind a (event_kind c)) (breach_of TypeTooLarge s)
 
 -- In a form on inputs of a type, a part is typed next, under a context and on inputs of its own: what stands before it in the
 -- text keeps its rules.
@@ -237,12 +277,61 @@ pub data Reaches (p : Program) (Γ : Context) : Node → Kind → Context → Te
   keeping_body : {w : Observation} {t o u : TermId} {k : NameId} {n : Spot} {q : PatternId} {a b c : Kind}
       → Takes Γ (tree p t) a b → Takes Γ (tree p o) (pair_kind a b) (event_kind c) → BindsInside (pattern_in p q) c (keeping_inside p k a b Γ)
       → Reaches p Γ (nodes.Keeping w t o k n q u) a (inside_pattern (pattern_in p q) c (keeping_inside p k a b Γ)) u a
+  their_observer : {n : Releasing} {k : KeyKind} {a b : Kind}
+      → Collects Γ (collection_at p n.members) k a b → Fits (pair_kind a (table_kind k b)) → Reaches p Γ (nodes.Releasing n) a Γ n.observer (pair_kind a (table_kind k b))
+  releasing_body : {n : Releasing} {k : KeyKind} {a b c : Kind}
+      → Collects Γ (collection_at p n.members) k a b → Takes Γ (tree p n.observer) (pair_kind a (table_kind k b)) (event_kind c) → BindsInside (pattern_in p n.pattern) c (members_inside p n.name k a b Γ)
+      → Reaches p Γ (nodes.Releasing n) a (inside_pattern (pattern_in p n.pattern) c (members_inside p n.name k a b Γ)) n.body a
 
--- In the term at an id, on inputs of a type, this is the first rule, in the order of the text, that is broken: that of the
--- form at the id itself, or one within the part that is typed next.
-pub data TermBreaks (p : Program) : Context → TermId → Kind → Breach → Type 0 where
-  itself : {Γ : Context} {i : TermId} {a : Kind} {e : Breach} → FormBreaks p Γ (term_spot_at p i) (term_node_at p i) a e → TermBreaks p Γ i a e
-  within : {Γ Δ : Context} {i j : TermId} {a b : Kind} {e : Breach} → Reaches p Γ (term_node_at p i) a Δ j b → TermBreaks p Δ j b e → TermBreaks p Γ i a e
+-- In a form on inputs of a type, a collection is typed next, under a context and on inputs of its own.
+pub data ReachesMembers (p : Program) (Γ : Context) : Node → Kind → Context → CollectionId → Kind → Type 0 where
+  argument_members : {f : NameId} {vs : ArgumentsId} {g : Signature} {i : CollectionId} {x : Name} {k : KeyKind} {a b c : Kind} {ws : List Argument} {qs : Bindings}
+      → signature_named (name_in p f) Γ.signatures ≡ Some g → ArgumentsLeft p Γ (arguments_under p vs) g.parameters (arguments.Collection i ∷ ws) ((x, collection k b c) ∷ qs) → ReachesMembers p Γ (nodes.Call f vs) a Γ i b
+  gathered_members : {i : CollectionId} {a : Kind} → ReachesMembers p Γ (nodes.Gathered i) a Γ i a
+  releasing_members : {n : Releasing} {a : Kind} → ReachesMembers p Γ (nodes.Releasing n) a Γ n.members a
+  editing_members : {n : Editing} {a c : Kind} → ReachesMembers p Γ (nodes.Editing n) (pair_kind a (event_kind c)) Γ n.members a
+  their_edit : {n : Editing} {k : KeyKind} {a b c : Kind}
+      → Collects Γ (collection_at p n.members) k a b → BindsInside (pattern_in p n.pattern) c (members_inside p n.name k a b Γ)
+      → ReachesMembers p Γ (nodes.Editing n) (pair_kind a (event_kind c)) (inside_pattern (pattern_in p n.pattern) c (members_inside p n.name k a b Γ)) n.edit a
+
+mutual
+  -- In the term at an id, on inputs of a type, this is the first rule, in the order of the text, that is broken: that of the
+  -- form at the id itself, or one within the part or the collection that is typed next.
+  pub data TermBreaks (p : Program) : Context → TermId → Kind → Breach → Type 0 where
+    itself : {Γ : Context} {i : TermId} {a : Kind} {e : Breach} → FormBreaks p Γ (term_spot_at p i) (term_node_at p i) a e → TermBreaks p Γ i a e
+    within : {Γ Δ : Context} {i j : TermId} {a b : Kind} {e : Breach} → Reaches p Γ (term_node_at p i) a Δ j b → TermBreaks p Δ j b e → TermBreaks p Γ i a e
+    in_members : {Γ Δ : Context} {i : TermId} {c : CollectionId} {a b : Kind} {e : Breach} → ReachesMembers p Γ (term_node_at p i) a Δ c b → CollectionBreaks p Δ (collection_under p c) b e → TermBreaks p Γ i a e
+
+  -- In a collection, on inputs of a type, this is the first rule, in the order of the text, that is broken. That a key, a member
+  -- or a condition is of the type that it has to be is looked at behind its parts, at the place of the collection.
+  pub data CollectionBreaks (p : Program) : Context → CollExpr → Kind → Breach → Type 0 where
+    no_collection : {Γ : Context} {x : NameId} {n s : Spot} {a : Kind} {e : Breach} → CollectionRefused (kind_named (name_in p x) Γ.bindings) n e → CollectionBreaks p Γ (collections.Used x n s) a e
+    collection_differs : {Γ : Context} {x : NameId} {n s : Spot} {k : KeyKind} {a b c : Kind} → kind_named (name_in p x) Γ.bindings ≡ Some (collection k b c) → a ≢ b → CollectionBreaks p Γ (collections.Used x n s) a (breach_of Mismatch s)
+    before_added : {Γ : Context} {o : _} {c : CollExpr} {v : ExprId} {t : TermId} {s : Spot} {a : Kind} {e : Breach} → CollectionBreaks p Γ c a e → CollectionBreaks p Γ (collections.Added' o c v t s) a e
+    added_key_refused : {Γ : Context} {o : _} {c : CollExpr} {v : ExprId} {t : TermId} {s : Spot} {k : KeyKind} {a b : Kind} {e : Breach}
+        → Collects Γ (collection_of p c) k a b → Refused (expressions_of p) (names_of_values Γ) v e → CollectionBreaks p Γ (collections.Added' o c v t s) a e
+    member_breaks : {Γ : Context} {o : _} {c : CollExpr} {v : ExprId} {t : TermId} {s : Spot} {k : KeyKind} {a b u : Kind} {e : Breach}
+        → Collects Γ (collection_of p c) k a b → HasType (names_of_values Γ) (expression (expressions_of p) v) u → TermBreaks p Γ t a e → CollectionBreaks p Γ (collections.Added' o c v t s) a e
+    member_differs : {Γ : Context} {o : _} {c : CollExpr} {v : ExprId} {t : TermId} {s : Spot} {k : KeyKind} {a b u d : Kind}
+        → Collects Γ (collection_of p c) k a b → HasType (names_of_values Γ) (expression (expressions_of p) v) u → Takes Γ (tree p t) a d → (u ≡ kind_of_keys k → d ≢ b) → CollectionBreaks p Γ (collections.Added' o c v t s) a (breach_of Mismatch s)
+    before_dropped : {Γ : Context} {o : _} {c : CollExpr} {v : ExprId} {s : Spot} {a : Kind} {e : Breach} → CollectionBreaks p Γ c a e → CollectionBreaks p Γ (collections.Dropped' o c v s) a e
+    dropped_key_refused : {Γ : Context} {o : _} {c : CollExpr} {v : ExprId} {s : Spot} {k : KeyKind} {a b : Kind} {e : Breach}
+        → Collects Γ (collection_of p c) k a b → Refused (expressions_of p) (names_of_values Γ) v e → CollectionBreaks p Γ (collections.Dropped' o c v s) a e
+    dropped_key_differs : {Γ : Context} {o : _} {c : CollExpr} {v : ExprId} {s : Spot} {k : KeyKind} {a b u : Kind}
+        → Collects Γ (collection_of p c) k a b → HasType (names_of_values Γ) (expression (expressions_of p) v) u → u ≢ kind_of_keys k → CollectionBreaks p Γ (collections.Dropped' o c v s) a (breach_of Mismatch s)
+    before_kept : {Γ : Context} {o : _} {c : CollExpr} {f : FunctionId} {s : Spot} {a : Kind} {e : Breach} → CollectionBreaks p Γ c a e → CollectionBreaks p Γ (collections.Kept' o c f s) a e
+    kept_refused : {Γ : Context} {o : _} {c : CollExpr} {f : FunctionId} {s : Spot} {k : KeyKind} {a b : Kind} {e : Breach}
+        → Collects Γ (collection_of p c) k a b → FunctionRefused (expressions_of p) (names_of_values Γ) f (kind_of_keys k) s e → CollectionBreaks p Γ (collections.Kept' o c f s) a e
+    kept_differs : {Γ : Context} {o : _} {c : CollExpr} {f : FunctionId} {s : Spot} {k : KeyKind} {a b u : Kind}
+        → Collects Γ (collection_of p c) k a b → FunctionTakes (names_of_values Γ) (function_at (expressions_of p) f) (kind_of_keys k) u → u ≢ bool_kind → CollectionBreaks p Γ (collections.Kept' o c f s) a (breach_of Mismatch s)
+    condition_refused : {Γ : Context} {o r : _} {v : ExprId} {c d : CollExpr} {s : Spot} {a : Kind} {e : Breach} → Refused (expressions_of p) (names_of_values Γ) v e → CollectionBreaks p Γ (collections.Chosen' v o c r d s) a e
+    one_breaks : {Γ : Context} {o r : _} {v : ExprId} {c d : CollExpr} {s : Spot} {a u : Kind} {e : Breach}
+        → HasType (names_of_values Γ) (expression (expressions_of p) v) u → CollectionBreaks p Γ c a e → CollectionBreaks p Γ (collections.Chosen' v o c r d s) a e
+    other_breaks : {Γ : Context} {o r : _} {v : ExprId} {c d : CollExpr} {s : Spot} {k : KeyKind} {a b u : Kind} {e : Breach}
+        → HasType (names_of_values Γ) (expression (expressions_of p) v) u → Collects Γ (collection_of p c) k a b → CollectionBreaks p Γ d a e → CollectionBreaks p Γ (collections.Chosen' v o c r d s) a e
+    chosen_differs : {Γ : Context} {o r : _} {v : ExprId} {c d : CollExpr} {s : Spot} {k l : KeyKind} {a b h u : Kind}
+        → HasType (names_of_values Γ) (expression (expressions_of p) v) u → Collects Γ (collection_of p c) k a b → Collects Γ (collection_of p d) l a h → (u ≡ bool_kind → table_kind l h ≢ table_kind k b)
+        → CollectionBreaks p Γ (collections.Chosen' v o c r d s) a (breach_of Mismatch s)
 
 -- With functions of these types, this is the first rule that is broken in a template, or that the whole term doesn't give its
 -- header's output.

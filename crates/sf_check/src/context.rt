@@ -1,23 +1,25 @@
 //! What terms are typed under.
 ghost use Rattle.std.specs.Prelude.{◌≡◌, Some, None, IfOk, IfErr, IfSome, IfNone, OnOk};
+ghost use Rattle.sf_value.specs.KindView.{key_kind_of};
 ghost use Rattle.sf_func.specs.Signatures.{signatures_in};
 ghost use Rattle.sf_refusal.specs.Refusals.{OrMemory};
 ghost use Rattle.sf_expr.specs.Arena.{placed_at};
 ghost use Rattle.sf_expr.specs.Refusals.{PatternRefused};
 ghost use Rattle.sf_expr.specs.Scopes.{entries_in};
 ghost use Rattle.sf_term.specs.Arena.{expressions_of, template_in, templates_of};
-ghost use Rattle.sf_mean.specs.Contexts.{process, context_with, signature_of, signature_named, inside_pattern};
+ghost use Rattle.sf_mean.specs.Contexts.{process, collection, context_with, signature_of, signature_named, inside_pattern};
 ghost use Rattle.sf_check.specs.Names.{names_of_set, program_names};
 ghost use Rattle.sf_check.specs.Standing.{bindings_from, inside_names};
-ghost use Rattle.sf_check.specs.Breaking.{pattern_in, name_in, kind_named, keeping_inside, ProcessRefused, BindsInside};
+ghost use Rattle.sf_check.specs.Breaking.{pattern_in, name_in, kind_named, keeping_inside, members_inside, ProcessRefused, CollectionRefused, BindsInside};
 
+use crate::collection_types::CollectionTypes;
 use crate::process_types::ProcessTypes;
 use indexmap::IndexSet;
 use sf_expr::{Frame, Meaning, NameId, PatternId, TypeScope};
 use sf_func::Signatures;
 use sf_refusal::{Refusal, Rule, Spot};
 use sf_term::{Program, Template};
-use sf_value::Ty;
+use sf_value::{KeyType, Ty};
 use std::alloc::{AllocError, Global};
 
 /// What a term is typed under: the program that it stands in, whose templates have headers, and their names in order, the
@@ -127,8 +129,25 @@ impl<'a> TypingContext<'a> {
         Ok(names)
     }
 
+    /// The name of a collection with keys of a type, of members from a type to a type.
+    pub(crate) fn members_name<'b>(
+        &'b self,
+        alloc: Global,
+        name: NameId,
+        keys: KeyType,
+        from: &'b Ty,
+        to: &'b Ty,
+    ) -> Result<Frame<'b>, AllocError>
+        ensures { IfOk result (λ names. inside_names names (context_in self.now) ≡ members_inside (program_in self.now) name (key_kind_of keys) from.now to.now (context_in self.now)) }
+    {
+        let name = self.program.expressions().name_of(name);
+        let mut names = Frame::new(alloc);
+        names.add_collection(name, keys, from, to)?;
+        Ok(names)
+    }
+
     /// The types of the process that a name stands for. Refused at `at` with `UnknownName` where the name is not there, and
-    /// with `Mismatch` where it stands for a value.
+    /// with `Mismatch` where it stands for a value or a collection.
     pub(crate) fn process(&self, name: NameId, at: Spot) -> Result<ProcessTypes<'a>, Refusal>
         ensures found { IfOk result (λ k. kind_named (name_in (program_in self.now) name) (context_in self.now).bindings ≡ Some (process k.from.now k.to.now)) }
         ensures refused { IfErr result (OrMemory (ProcessRefused (kind_named (name_in (program_in self.now) name) (context_in self.now).bindings) at)) }
@@ -137,6 +156,22 @@ impl<'a> TypingContext<'a> {
         match self.names.stands_for(name) {
             Some(Meaning::Process(from, to)) => Ok(ProcessTypes { from, to }),
             Some(Meaning::Value(_)) => Err(Refusal::broken(Rule::Mismatch, at)),
+            Some(Meaning::Collection(_, _, _)) => Err(Refusal::broken(Rule::Mismatch, at)),
+            None => Err(Refusal::broken(Rule::UnknownName, at)),
+        }
+    }
+
+    /// The types of the collection that a name stands for. Refused at `at` with `UnknownName` where the name is not there, and
+    /// with `Mismatch` where it stands for a value or a process.
+    pub(crate) fn collection(&self, name: NameId, at: Spot) -> Result<CollectionTypes<'a>, Refusal>
+        ensures found { IfOk result (λ k. kind_named (name_in (program_in self.now) name) (context_in self.now).bindings ≡ Some (collection (key_kind_of k.keys) k.from.now k.to.now)) }
+        ensures refused { IfErr result (OrMemory (CollectionRefused (kind_named (name_in (program_in self.now) name) (context_in self.now).bindings) at)) }
+    {
+        let name = self.program.expressions().name_of(name);
+        match self.names.stands_for(name) {
+            Some(Meaning::Collection(keys, from, to)) => Ok(CollectionTypes { keys, from, to }),
+            Some(Meaning::Value(_)) => Err(Refusal::broken(Rule::Mismatch, at)),
+            Some(Meaning::Process(_, _)) => Err(Refusal::broken(Rule::Mismatch, at)),
             None => Err(Refusal::broken(Rule::UnknownName, at)),
         }
     }

@@ -1,5 +1,6 @@
 //! What differs in a term that is refused.
-ghost use Rattle.std.specs.Prelude.{◌≡◌, ◌<◌, IfOk, IfErr, OnOk, IfSome};
+ghost use Rattle.std.specs.Prelude.{◌≡◌, ◌<◌, ◌≤◌, All, IfOk, IfErr, OnOk, IfSome};
+ghost use Rattle.sf_value.specs.KindView.{key_kind_of};
 ghost use Rattle.sf_differ.specs.Differences.{Explains};
 ghost use Rattle.sf_refusal.specs.declared.rule.Rule.TheVariants.{Mismatch};
 ghost use Rattle.sf_refusal.specs.Refusals.{breach_of};
@@ -8,18 +9,25 @@ ghost use Rattle.sf_expr.specs.Scopes.{entries_in};
 ghost use Rattle.sf_differ.specs.Differing.{PatternDiffers, ExpressionDiffers, FunctionDiffers};
 ghost use Rattle.sf_expr.specs.Arena.{expression, function_at, placed_at};
 ghost use Rattle.sf_expr.specs.Typing.{Fits, HasType, FunctionTakes};
-ghost use Rattle.sf_term.specs.Arena.{term_number, term_node_at, expressions_of, tree, templates_of};
+ghost use Rattle.sf_term.specs.declared.collection.CollectionId.{CollectionId as CollectionIdIn};
+ghost use Rattle.sf_term.specs.declared.collection.CollExpr.TheVariants.{Used};
+ghost use Rattle.sf_term.specs.ParameterView.{kind_of_form};
+ghost use Rattle.sf_term.specs.Trees.{collection_depth};
+ghost use Rattle.sf_term.specs.Arena.{term_number, term_node_at, expressions_of, tree, templates_of, arguments_under, collection_under, collection_of, collection_at, ArgumentBelow, CollectionBelow};
 ghost use Rattle.sf_term.specs.declared.form.Start.{Start};
 ghost use Rattle.sf_mean.specs.Contexts.{names_of_values, context_with, inside_pattern};
-ghost use Rattle.sf_mean.specs.Typing.{Takes};
+ghost use Rattle.sf_mean.specs.Typing.{Takes, Collects};
 ghost use Rattle.sf_check.specs.Contexts.{program_in, context_in};
 ghost use Rattle.sf_check.specs.Standing.{bindings_from, inside_names};
 ghost use Rattle.sf_check.specs.Names.{names_of_set, program_names, NamesDiffer};
 ghost use Rattle.sf_check.specs.Refusing.{RefusesNetwork};
-ghost use Rattle.sf_check.specs.Breaking.{pattern_in, keeping_inside, BindsInside};
-ghost use Rattle.sf_check.specs.Differing.{bare_wants, value_wants, input_wants, timed_wants, start_wants, accumulated_wants, made_wants, PrimitiveDiffers, BodyStops, TermDiffers, TemplateDiffers, NetworkDiffers};
+ghost use Rattle.sf_check.specs.Breaking.{pattern_in, keeping_inside, members_inside, BindsInside, ArgumentKeeps};
+ghost use Rattle.sf_check.specs.Differing.{bare_wants, value_wants, input_wants, timed_wants, start_wants, accumulated_wants, made_wants, PrimitiveDiffers, BodyStops, EditUnfit, TermDiffers, CollectionDiffers, ArgumentDiffersWithin, TemplateDiffers, NetworkDiffers};
 
+use crate::blaming::{suits_keys, suits_members, suits_type};
+use crate::call_differing::explain_fit;
 use crate::context::TypingContext;
+use crate::member_types::{MemberTypes, table_type, type_of_keys};
 use crate::names::template_names;
 use crate::parameters::parameter_names;
 use crate::typing::{
@@ -32,10 +40,11 @@ use sf_func::{Holds, Registry, Signatures};
 use sf_operator::{event_type, pair_type as pair_of, payload};
 use sf_refusal::{Refusal, Spot};
 use sf_term::{
-    Accumulation, Bare, Heading, Join, Naming, Node, Observation, Primitive, Program, Side,
-    Switching, Template, TermId, Timing, WithValue,
+    Accumulation, Argument, ArgumentsId, Bare, CollExpr, CollectionId, Editing, Heading, Join,
+    Naming, Node, Observation, ParameterForm, Primitive, Program, Releasing, Side, Switching,
+    Template, TermId, Timing, WithValue,
 };
-use sf_value::Ty;
+use sf_value::{KeyType, Ty};
 use std::alloc::{AllocError, Global};
 
 /// The type of a constant, or what differs in it.
@@ -611,6 +620,288 @@ fn explain_kept(
     )
 }
 
+/// What differs in members that give way at the event that an observer sees, and are then known by a name, on inputs of a type.
+#[cycle(explain)]
+fn explain_releasing(
+    alloc: Global,
+    context: &TypingContext,
+    term: TermId,
+    form: Releasing,
+    input: &Ty,
+) -> Result<(), Blame>
+    requires fits { Fits input.now }
+    requires there { term_node_at (program_in context.now) term ≡ Node.Releasing form }
+    requires below { CollectionBelow (term_number term) (collection_under (program_in context.now) form.members) × (term_number form.observer < term_number term) × (term_number form.body < term_number term) }
+    ensures { IfErr result (λ b. Explains (TermDiffers (program_in context.now) (context_in context.now) term input.now) b) }
+{
+    let spot = context.program.spot(term);
+    let types = members_at_part(alloc, context, term, form.members, input)?;
+    let Ok(table) = table_type(alloc, &types, spot) else {
+        return Ok(());
+    };
+    let Ok(watched) = pair_of(alloc, input, &table, spot) else {
+        return Ok(());
+    };
+    let seen = part(alloc, context, form.observer, &watched)?;
+    suited(alloc, &seen, Some(Wanted::Event), spot)?;
+    let Ok(event) = payload(&seen, spot) else {
+        return Ok(());
+    };
+    explain_released(alloc, context, form, event, input, &types, &table, spot)
+}
+
+/// What differs in the body of members that give way to it, inside their name and a pattern for payloads of a type.
+#[cycle(explain)]
+fn explain_released(
+    alloc: Global,
+    context: &TypingContext,
+    form: Releasing,
+    payload: &Ty,
+    input: &Ty,
+    types: &MemberTypes,
+    table: &Ty,
+    spot: Spot,
+) -> Result<(), Blame>
+    requires { Fits input.now }
+    ensures { IfErr result (λ b. Explains (BodyStops (program_in context.now) (members_inside (program_in context.now) form.name (key_kind_of types.now.keys) input.now types.now.output (context_in context.now)) spot form.pattern form.body input.now table.now payload.now) b) }
+{
+    let names = (&*context).members_name(alloc, form.name, types.keys, &*input, &types.output)?;
+    explain_inside(
+        alloc,
+        context,
+        &names,
+        form.pattern,
+        payload,
+        form.body,
+        input,
+        table,
+        spot,
+    )
+}
+
+/// What differs in members that are edited at each event beside their inputs, on inputs of a type.
+#[cycle(explain)]
+fn explain_editing(
+    alloc: Global,
+    context: &TypingContext,
+    term: TermId,
+    form: Editing,
+    input: &Ty,
+) -> Result<(), Blame>
+    requires fits { Fits input.now }
+    requires there { term_node_at (program_in context.now) term ≡ Node.Editing form }
+    requires below { CollectionBelow (term_number term) (collection_under (program_in context.now) form.members) × CollectionBelow (term_number term) (collection_under (program_in context.now) form.edit) }
+    ensures { IfErr result (λ b. Explains (TermDiffers (program_in context.now) (context_in context.now) term input.now) b) }
+{
+    let spot = context.program.spot(term);
+    suited(alloc, input, Some(Wanted::EventBeside), spot)?;
+    let Ok((value, payload)) = value_and_payload(input, spot) else {
+        return Ok(());
+    };
+    let types = members_at_part(alloc, context, term, form.members, value)?;
+    explain_edited(alloc, context, term, form, payload, value, &types, spot)
+}
+
+/// What differs in an edit, which is to have the types of members, inside their name and a pattern for payloads of a type.
+#[cycle(explain)]
+fn explain_edited(
+    alloc: Global,
+    context: &TypingContext,
+    term: TermId,
+    form: Editing,
+    payload: &Ty,
+    input: &Ty,
+    wanted: &MemberTypes,
+    spot: Spot,
+) -> Result<(), Blame>
+    requires fits { Fits input.now }
+    requires below { CollectionBelow (term_number term) (collection_under (program_in context.now) form.edit) }
+    requires shallow { collection_depth (collection_of (program_in context.now) (collection_under (program_in context.now) form.edit)) ≤ 64 }
+    ensures { IfErr result (λ b. Explains (EditUnfit (program_in context.now) (members_inside (program_in context.now) form.name (key_kind_of wanted.now.keys) input.now wanted.now.output (context_in context.now)) spot form.pattern form.edit (key_kind_of wanted.now.keys) input.now wanted.now.output payload.now) b) }
+{
+    let names = (&*context).members_name(alloc, form.name, wanted.keys, &*input, &wanted.output)?;
+    explain_edit_inside(
+        alloc, context, &names, term, form, payload, input, wanted, spot,
+    )
+}
+
+/// What differs in an edit, which is to have the types of members, inside names and a pattern for payloads of a type.
+#[cycle(explain)]
+fn explain_edit_inside(
+    alloc: Global,
+    context: &TypingContext,
+    names: &Frame,
+    term: TermId,
+    form: Editing,
+    payload: &Ty,
+    input: &Ty,
+    wanted: &MemberTypes,
+    spot: Spot,
+) -> Result<(), Blame>
+    requires fits { Fits input.now }
+    requires below { CollectionBelow (term_number term) (collection_under (program_in context.now) form.edit) }
+    requires shallow { collection_depth (collection_of (program_in context.now) (collection_under (program_in context.now) form.edit)) ≤ 64 }
+    ensures { IfErr result (λ b. Explains (EditUnfit (program_in context.now) (inside_names names.now (context_in context.now)) spot form.pattern form.edit (key_kind_of wanted.now.keys) input.now wanted.now.output payload.now) b) }
+{
+    let inner = (&*context).within(alloc, &*names)?;
+    explain_edit(alloc, &inner, term, form, payload, input, wanted, spot)
+}
+
+/// What differs in an edit, which is to have the types of members, inside a pattern for payloads of a type.
+#[cycle(explain)]
+fn explain_edit(
+    alloc: Global,
+    context: &TypingContext,
+    term: TermId,
+    form: Editing,
+    payload: &Ty,
+    input: &Ty,
+    wanted: &MemberTypes,
+    spot: Spot,
+) -> Result<(), Blame>
+    requires fits { Fits input.now }
+    requires below { CollectionBelow (term_number term) (collection_under (program_in context.now) form.edit) }
+    requires shallow { collection_depth (collection_of (program_in context.now) (collection_under (program_in context.now) form.edit)) ≤ 64 }
+    ensures { IfErr result (λ b. Explains (EditUnfit (program_in context.now) (context_in context.now) spot form.pattern form.edit (key_kind_of wanted.now.keys) input.now wanted.now.output payload.now) b) }
+{
+    let names = bound(alloc, &*context, form.pattern, &*payload, spot)?;
+    let given = members_part_within(alloc, context, &names, term, form.edit, input)?;
+    suits_members(alloc, &given, wanted.keys, &wanted.output, spot)
+}
+
+/// The types of the collection at an id, which a form has, inside names, on inputs of a type, or what differs in it.
+#[cycle(explain)]
+fn members_part_within(
+    alloc: Global,
+    context: &TypingContext,
+    names: &Frame,
+    form: TermId,
+    members: CollectionId,
+    input: &Ty,
+) -> Result<MemberTypes, Blame>
+    requires fits { Fits input.now }
+    requires below { CollectionBelow (term_number form) (collection_under (program_in context.now) members) }
+    requires shallow { collection_depth (collection_of (program_in context.now) (collection_under (program_in context.now) members)) ≤ 64 }
+    ensures ok { IfOk result (λ m. Collects (inside_names names.now (context_in context.now)) (collection_at (program_in context.now) members) (key_kind_of m.keys) input.now m.output) }
+    ensures err { IfErr result (λ b. Explains (CollectionDiffers (program_in context.now) (inside_names names.now (context_in context.now)) (collection_under (program_in context.now) members) input.now) b) }
+{
+    let inner = (&*context).within(alloc, &*names)?;
+    members_at_part(alloc, &inner, form, members, input)
+}
+
+/// What differs in the collection whose members' tables a term gives, on inputs of a type.
+#[cycle(explain)]
+fn explain_gathered(
+    alloc: Global,
+    context: &TypingContext,
+    term: TermId,
+    members: CollectionId,
+    input: &Ty,
+) -> Result<(), Blame>
+    requires fits { Fits input.now }
+    requires there { term_node_at (program_in context.now) term ≡ Node.Gathered members }
+    requires below { CollectionBelow (term_number term) (collection_under (program_in context.now) members) }
+    ensures { IfErr result (λ b. Explains (TermDiffers (program_in context.now) (context_in context.now) term input.now) b) }
+{
+    members_at_part(alloc, context, term, members, input)?;
+    Ok(())
+}
+
+/// The types of the collection at an id, which a form has, on inputs of a type, or what differs in it.
+#[cycle(explain)]
+fn members_at_part(
+    alloc: Global,
+    context: &TypingContext,
+    form: TermId,
+    members: CollectionId,
+    input: &Ty,
+) -> Result<MemberTypes, Blame>
+    requires fits { Fits input.now }
+    requires below { CollectionBelow (term_number form) (collection_under (program_in context.now) members) }
+    requires shallow { collection_depth (collection_of (program_in context.now) (collection_under (program_in context.now) members)) ≤ 64 }
+    ensures ok { IfOk result (λ m. Collects (context_in context.now) (collection_at (program_in context.now) members) (key_kind_of m.keys) input.now m.output) }
+    ensures err { IfErr result (λ b. Explains (CollectionDiffers (program_in context.now) (context_in context.now) (collection_under (program_in context.now) members) input.now) b) }
+{
+    match context.program.collection(members) {
+        Some(collection) => members_part(alloc, context, form, collection, input),
+        None => Ok(MemberTypes {
+            keys: KeyType::Int,
+            output: Ty::unit(),
+        }),
+    }
+}
+
+/// The types of a collection, which a form has, on inputs of a type, or what differs in it.
+#[cycle(explain)]
+fn members_part(
+    alloc: Global,
+    context: &TypingContext,
+    form: TermId,
+    collection: &CollExpr,
+    input: &Ty,
+) -> Result<MemberTypes, Blame>
+    requires fits { Fits input.now }
+    requires below { CollectionBelow (term_number form) collection.now }
+    requires shallow { collection_depth (collection_of (program_in context.now) collection.now) ≤ 64 }
+    ensures ok { IfOk result (λ m. Collects (context_in context.now) (collection_of (program_in context.now) collection.now) (key_kind_of m.keys) input.now m.output) }
+    ensures err { IfErr result (λ b. Explains (CollectionDiffers (program_in context.now) (context_in context.now) collection.now input.now) b) }
+{
+    match collection {
+        CollExpr::Empty(keys, output, _) => Ok(MemberTypes::new(alloc, *keys, output)?),
+        CollExpr::Used(name, place, spot) => {
+            used_part(alloc, context, *name, *place, *spot, input)
+        }
+        CollExpr::Added(members, key, term, spot) => {
+            let types = members_part(alloc, context, form, members, input)?;
+            let given = constant(alloc, context, *key)?;
+            let output = part(alloc, context, *term, input)?;
+            suits_keys(alloc, &given, &types, *spot)?;
+            suits_type(alloc, &output, &types.output, *spot)?;
+            Ok(types)
+        }
+        CollExpr::Dropped(members, key, spot) => {
+            let types = members_part(alloc, context, form, members, input)?;
+            let given = constant(alloc, context, *key)?;
+            suits_keys(alloc, &given, &types, *spot)?;
+            Ok(types)
+        }
+        CollExpr::Kept(members, function, spot) => {
+            let types = members_part(alloc, context, form, members, input)?;
+            let keys = type_of_keys(types.keys);
+            let kept = answer(alloc, context, *function, &keys, *spot)?;
+            suits_type(alloc, &kept, &Ty::bool(), *spot)?;
+            Ok(types)
+        }
+        CollExpr::Chosen(condition, one, other, spot) => {
+            let given = constant(alloc, context, *condition)?;
+            let types = members_part(alloc, context, form, one, input)?;
+            let others = members_part(alloc, context, form, other, input)?;
+            suits_type(alloc, &given, &Ty::bool(), *spot)?;
+            suits_members(alloc, &others, types.keys, &types.output, *spot)?;
+            Ok(types)
+        }
+    }
+}
+
+/// The types of the collection of a name, whose members are given inputs of a type, or what differs in these.
+fn used_part(
+    alloc: Global,
+    context: &TypingContext,
+    name: NameId,
+    place: Spot,
+    spot: Spot,
+    input: &Ty,
+) -> Result<MemberTypes, Blame>
+    ensures ok { IfOk result (λ m. Collects (context_in context.now) (collection_of (program_in context.now) (Used name place spot)) (key_kind_of m.keys) input.now m.output) }
+    ensures err { IfErr result (λ b. Explains (CollectionDiffers (program_in context.now) (context_in context.now) (Used name place spot) input.now) b) }
+{
+    let Ok(types) = context.collection(name, place) else {
+        return Err(Blame::Silent);
+    };
+    suits_type(alloc, input, types.from, spot)?;
+    Ok(MemberTypes::new(alloc, types.keys, types.to)?)
+}
+
 /// What differs in a body inside names and a pattern for payloads of a type.
 #[cycle(explain)]
 fn explain_inside(
@@ -709,8 +1000,73 @@ fn explain_process(
     suited(alloc, input, wanted, context.program.spot(term))
 }
 
-/// What differs in a term that is refused on inputs of a type. Nothing is said of calls of templates and of what stands in their
-/// arguments.
+/// Nothing where an argument of a call is typed; else what differs within it. Nothing is said where a term or a collection
+/// stands for another one or for a value.
+#[cycle(explain)]
+fn explain_argument(
+    alloc: Global,
+    context: &TypingContext,
+    term: TermId,
+    argument: Argument,
+    parameter: &ParameterForm,
+) -> Result<(), Blame>
+    requires below { ArgumentBelow (program_in context.now) (term_number term) argument }
+    requires shallow { (i : CollectionIdIn) → argument ≡ Argument.Collection i → collection_depth (collection_of (program_in context.now) (collection_under (program_in context.now) i)) ≤ 64 }
+    ensures ok { OnOk result (ArgumentKeeps (program_in context.now) (context_in context.now) argument (kind_of_form parameter.now)) }
+    ensures err { IfErr result (λ b. Explains (ArgumentDiffersWithin (program_in context.now) (context_in context.now) argument (kind_of_form parameter.now)) b) }
+{
+    match (argument, parameter) {
+        (Argument::Value(value), _) => {
+            constant(alloc, context, value)?;
+            Ok(())
+        }
+        (Argument::Process(inner), ParameterForm::Process(from, _)) => {
+            prove!(from.nodes() <= 256);
+            part(alloc, context, inner, from)?;
+            Ok(())
+        }
+        (Argument::Collection(members), ParameterForm::Collection(_, from, _)) => {
+            prove!(from.nodes() <= 256);
+            members_at_part(alloc, context, term, members, from)?;
+            Ok(())
+        }
+        (Argument::Process(_), ParameterForm::Value(_)) => Err(Blame::Silent),
+        (Argument::Process(_), ParameterForm::Collection(_, _, _)) => Err(Blame::Silent),
+        (Argument::Collection(_), ParameterForm::Value(_)) => Err(Blame::Silent),
+        (Argument::Collection(_), ParameterForm::Process(_, _)) => Err(Blame::Silent),
+    }
+}
+
+/// What differs in a call of a template, on inputs of a type. Nothing is said where there is no template of its name, or where it
+/// has another number of parameters.
+#[cycle(explain)]
+fn explain_call(
+    alloc: Global,
+    context: &TypingContext,
+    term: TermId,
+    name: NameId,
+    arguments: ArgumentsId,
+    input: &Ty,
+) -> Result<(), Blame>
+    requires there { term_node_at (program_in context.now) term ≡ Node.Call name arguments }
+    requires below { All (ArgumentBelow (program_in context.now) (term_number term)) (arguments_under (program_in context.now) arguments) }
+    ensures { IfErr result (λ b. Explains (TermDiffers (program_in context.now) (context_in context.now) term input.now) b) }
+{
+    let Some(template) = context.template(name) else {
+        return Ok(());
+    };
+    let arguments = context.program.arguments(arguments);
+    let parameters = template.parameters();
+    if arguments.len() != parameters.len() {
+        return Ok(());
+    }
+    for (argument, parameter) in arguments.iter().zip(parameters) {
+        explain_argument(alloc, context, term, *argument, parameter.form())?;
+    }
+    explain_fit(alloc, context, term, arguments, template, input)
+}
+
+/// What differs in a term that is refused on inputs of a type.
 #[cycle(explain)]
 fn explain(alloc: Global, context: &TypingContext, term: TermId, input: &Ty) -> Result<(), Blame>
     requires { Fits input.now }
@@ -724,7 +1080,7 @@ fn explain(alloc: Global, context: &TypingContext, term: TermId, input: &Ty) -> 
             explain_process(alloc, context, term, name, place, input)
         }
         Node::Named(Naming::Probe, _, _) => Ok(()),
-        Node::Call(_, _) => Ok(()),
+        Node::Call(name, arguments) => explain_call(alloc, context, term, name, arguments, input),
         Node::Joined(Join::InSequence, left, right) => {
             explain_sequence(alloc, context, term, left, right, input)
         }
@@ -759,6 +1115,9 @@ fn explain(alloc: Global, context: &TypingContext, term: TermId, input: &Ty) -> 
         Node::Keeping(form, source, observer, name, place, pattern, body) => explain_keeping(
             alloc, context, term, form, source, observer, name, place, pattern, body, input,
         ),
+        Node::Gathered(members) => explain_gathered(alloc, context, term, members, input),
+        Node::Releasing(form) => explain_releasing(alloc, context, term, form, input),
+        Node::Editing(form) => explain_editing(alloc, context, term, form, input),
     }
 }
 
@@ -851,8 +1210,9 @@ fn explain_network(alloc: Global, program: &Program, functions: &Signatures) -> 
 
 /// What was found and what is wanted where `check` refuses a network for `Mismatch`: the place is that of the refusal.
 ///
-/// `None` where it is refused for another rule or not at all. So it is where what is blamed is a call of a template or
-/// stands in an argument of one, or is a name that stands for no value or for no process.
+/// `None` where it is refused for another rule or not at all. So it is where what is blamed is a name that stands for no value,
+/// for no process or for no collection, or an argument of another sort than its parameter, as a process for a value. And so it is
+/// where a type that would be named is made of more than 256 types.
 pub fn difference(
     alloc: Global,
     program: &Program,

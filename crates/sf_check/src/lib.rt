@@ -1,12 +1,16 @@
 //! Which networks are accepted.
 #![tactic(auto)]
 
+mod blaming;
+mod call_differing;
 mod calling;
 mod checked;
 mod checker;
+mod collection_types;
 mod context;
 mod differing;
 mod laws;
+mod member_types;
 mod names;
 mod parameters;
 mod process_types;

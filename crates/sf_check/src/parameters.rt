@@ -26,6 +26,10 @@ fn add_parameter<'a>(names: &mut Frame<'a>, parameter: &'a Parameter) -> Result<
             prove!(from.nodes() <= 256 && to.nodes() <= 256);
             names.add_process(name, from, to)?;
         }
+        ParameterForm::Collection(keys, from, to) => {
+            prove!(from.nodes() <= 256 && to.nodes() <= 256);
+            names.add_collection(name, *keys, from, to)?;
+        }
     }
     Ok(())
 }

@@ -1,12 +1,16 @@
 //! The types of terms, under contexts.
-ghost use Rattle.std.specs.Prelude.{◌≡◌, ◌↔◌, ◌<◌, true, false, All, IsTrue, is_ok, IfOk, IfErr, OnOk};
-ghost use Rattle.sf_value.specs.Values.{pair_kind, event_kind, IsNoPair};
+ghost use Rattle.std.specs.Prelude.{◌≡◌, ◌≢◌, ◌↔◌, ◌<◌, ◌≤◌, true, false, All, IsTrue, is_ok, IfOk, IfErr, OnOk};
+ghost use Rattle.sf_value.specs.Values.{pair_kind, event_kind, table_kind, IsNoPair};
+ghost use Rattle.sf_value.specs.KindView.{key_kind_of};
 ghost use Rattle.sf_refusal.specs.Refusals.{breach_of, broken, OrMemory};
 ghost use Rattle.sf_refusal.specs.declared.rule.Rule.TheVariants.{Mismatch};
 ghost use Rattle.sf_func.specs.Signatures.{signatures_in};
 ghost use Rattle.sf_expr.specs.Refusals.{Judges, JudgesFunction};
 ghost use Rattle.sf_expr.specs.Typing.{Fits};
-ghost use Rattle.sf_term.specs.Arena.{term_number, term_node_at, term_spot_at, expressions_of, arguments_under, ArgumentBelow, template_in, templates_of};
+ghost use Rattle.sf_term.specs.Trees.{collection_depth, arguments_depth};
+ghost use Rattle.sf_term.specs.Arena.{term_number, term_node_at, term_spot_at, expressions_of, arguments_under, arguments_of, collection_under, collection_of, ArgumentBelow, CollectionBelow, template_in, templates_of};
+ghost use Rattle.sf_term.specs.declared.collection.CollExpr.TheVariants.{Used};
+ghost use Rattle.sf_term.specs.declared.collection.CollectionId.{CollectionId as CollectionIdIn};
 ghost use Rattle.sf_term.specs.ParameterView.{kind_of_form};
 ghost use Rattle.sf_expr.specs.declared.exprs.Exprs.{Exprs};
 ghost use Rattle.sf_term.specs.declared.form.Start.{Start};
@@ -18,11 +22,12 @@ ghost use Rattle.sf_operator.specs.Breaches.{AnswersKind};
 ghost use Rattle.sf_operator.specs.Kinds.{same_kind};
 ghost use Rattle.sf_mean.specs.Typing.{value_kind, takes_input as an_input, takes_time as a_time, timed_kind, takes_number as a_number, selected_kind, accumulated_argument, accumulated_kind, IsTyped};
 ghost use Rattle.sf_check.specs.Contexts.{program_in, context_in};
-ghost use Rattle.sf_check.specs.Answering.{AnswersBare, AnswersPrimitive, AnswersArgument, AnswersTerm, AnswersBody};
+ghost use Rattle.sf_check.specs.Answering.{AnswersBare, AnswersPrimitive, AnswersArgument, AnswersTerm, AnswersBody, AnswersMembers, AnswersEdit};
 ghost use Rattle.sf_check.specs.Names.{names_of_set, program_names};
-ghost use Rattle.sf_check.specs.Breaking.{IsNoPairWith, IsNoEventBeside, TemplateBreaks, AreTyped, IsFirstBreak, keeping_inside};
+ghost use Rattle.sf_check.specs.Breaking.{IsNoPairWith, IsNoEventBeside, TemplateBreaks, AreTyped, IsFirstBreak, keeping_inside, members_inside};
 
 use crate::context::TypingContext;
+use crate::member_types::{MemberTypes, are_members, table_type, type_of_keys};
 use crate::parameters::parameter_names;
 use indexmap::IndexSet;
 use sf_expr::{
@@ -33,10 +38,11 @@ use sf_func::Signatures;
 use sf_operator::{event_type, pair_type as pair_of, payload, same};
 use sf_refusal::{Refusal, Rule, Spot};
 use sf_term::{
-    Accumulation, Argument, ArgumentsId, Bare, Heading, Join, Naming, Node, Observation,
-    ParameterForm, Primitive, Program, Side, Switching, Template, TermId, Timing, WithValue,
+    Accumulation, Argument, ArgumentsId, Bare, CollExpr, CollectionId, Editing, Heading, Join,
+    Naming, Node, Observation, ParameterForm, Primitive, Program, Releasing, Side, Switching,
+    Template, TermId, Timing, WithValue,
 };
-use sf_value::{Ty, same_type};
+use sf_value::{KeyType, Ty, same_type};
 use std::alloc::Global;
 
 /// The two parts of a type of pairs; another type is refused with `Mismatch` at the spot.
@@ -63,7 +69,11 @@ pub(crate) fn value_and_payload(ty: &Ty, spot: Spot) -> Result<(&Ty, &Ty), Refus
 }
 
 /// The type of a constant.
-fn constant_type(alloc: Global, context: &TypingContext, value: ExprId) -> Result<Ty, Refusal>
+pub(crate) fn constant_type(
+    alloc: Global,
+    context: &TypingContext,
+    value: ExprId,
+) -> Result<Ty, Refusal>
     ensures { Judges (expressions_of (program_in context.now)) (names_of_values (context_in context.now)) value result }
 {
     type_of(
@@ -764,6 +774,291 @@ fn body_within(
     body_output(alloc, &inner, pattern, payload, body, input, wanted, spot)
 }
 
+/// The types of the collection of a name, whose members are given inputs of a type.
+fn used_types(
+    alloc: Global,
+    context: &TypingContext,
+    name: NameId,
+    place: Spot,
+    spot: Spot,
+    input: &Ty,
+) -> Result<MemberTypes, Refusal>
+    ensures { AnswersMembers (program_in context.now) (context_in context.now) (Used name place spot) input.now result }
+{
+    let types = context.collection(name, place)?;
+    same(input, types.from, spot)?;
+    Ok(MemberTypes::new(alloc, types.keys, types.to)?)
+}
+
+/// Nothing where two collections have the same types; else refused with `Mismatch` at the spot.
+fn same_members(left: &MemberTypes, right: &MemberTypes, spot: Spot) -> Result<(), Refusal>
+    ensures ok { OnOk result (table_kind (key_kind_of left.now.keys) left.now.output ≡ table_kind (key_kind_of right.now.keys) right.now.output) }
+    ensures err { IfErr result (λ r. (table_kind (key_kind_of left.now.keys) left.now.output ≢ table_kind (key_kind_of right.now.keys) right.now.output) × (r ≡ broken Mismatch spot)) }
+{
+    if are_members(left, right.keys, &right.output) {
+        Ok(())
+    } else {
+        Err(Refusal::broken(Rule::Mismatch, spot))
+    }
+}
+
+/// The types of the collection at an id, which a form has, on inputs of a type.
+#[cycle(output)]
+pub(crate) fn members_at(
+    alloc: Global,
+    context: &TypingContext,
+    form: TermId,
+    members: CollectionId,
+    input: &Ty,
+) -> Result<MemberTypes, Refusal>
+    requires fits { Fits input.now }
+    requires below { CollectionBelow (term_number form) (collection_under (program_in context.now) members) }
+    requires shallow { collection_depth (collection_of (program_in context.now) (collection_under (program_in context.now) members)) ≤ 64 }
+    ensures { AnswersMembers (program_in context.now) (context_in context.now) (collection_under (program_in context.now) members) input.now result }
+{
+    match context.program.collection(members) {
+        Some(collection) => members_of(alloc, context, form, collection, input),
+        None => Ok(MemberTypes {
+            keys: KeyType::Int,
+            output: Ty::unit(),
+        }),
+    }
+}
+
+/// The types of a collection, which a form has, on inputs of a type, or the first rule that is broken in it.
+#[cycle(output)]
+fn members_of(
+    alloc: Global,
+    context: &TypingContext,
+    form: TermId,
+    collection: &CollExpr,
+    input: &Ty,
+) -> Result<MemberTypes, Refusal>
+    requires fits { Fits input.now }
+    requires below { CollectionBelow (term_number form) collection.now }
+    requires shallow { collection_depth (collection_of (program_in context.now) collection.now) ≤ 64 }
+    ensures { AnswersMembers (program_in context.now) (context_in context.now) collection.now input.now result }
+{
+    match collection {
+        CollExpr::Empty(keys, output, _) => Ok(MemberTypes::new(alloc, *keys, output)?),
+        CollExpr::Used(name, place, spot) => {
+            used_types(alloc, context, *name, *place, *spot, input)
+        }
+        CollExpr::Added(members, key, term, spot) => {
+            let types = members_of(alloc, context, form, members, input)?;
+            let given = constant_type(alloc, context, *key)?;
+            let output = output_of(alloc, context, *term, input)?;
+            same(&given, &type_of_keys(types.keys), *spot)?;
+            same(&output, &types.output, *spot)?;
+            Ok(types)
+        }
+        CollExpr::Dropped(members, key, spot) => {
+            let types = members_of(alloc, context, form, members, input)?;
+            let given = constant_type(alloc, context, *key)?;
+            same(&given, &type_of_keys(types.keys), *spot)?;
+            Ok(types)
+        }
+        CollExpr::Kept(members, function, spot) => {
+            let types = members_of(alloc, context, form, members, input)?;
+            let keys = type_of_keys(types.keys);
+            let kept = answer_type(alloc, context, *function, &keys, *spot)?;
+            same(&kept, &Ty::bool(), *spot)?;
+            Ok(types)
+        }
+        CollExpr::Chosen(condition, one, other, spot) => {
+            let given = constant_type(alloc, context, *condition)?;
+            let types = members_of(alloc, context, form, one, input)?;
+            let others = members_of(alloc, context, form, other, input)?;
+            same(&given, &Ty::bool(), *spot)?;
+            same_members(&others, &types, *spot)?;
+            Ok(types)
+        }
+    }
+}
+
+/// The type of the tables that the members of a collection give, on inputs of a type.
+#[cycle(output)]
+fn gathered_output(
+    alloc: Global,
+    context: &TypingContext,
+    term: TermId,
+    members: CollectionId,
+    input: &Ty,
+) -> Result<Ty, Refusal>
+    requires fits { Fits input.now }
+    requires there { term_node_at (program_in context.now) term ≡ Node.Gathered members }
+    requires below { CollectionBelow (term_number term) (collection_under (program_in context.now) members) }
+    ensures { AnswersTerm (program_in context.now) (context_in context.now) term input.now result }
+{
+    let types = members_at(alloc, context, term, members, input)?;
+    table_type(alloc, &types, context.program.spot(term))
+}
+
+/// The type of the outputs of members that give way to a body inside a pattern at the event that an observer sees, and are then
+/// known by a name, on inputs of a type.
+#[cycle(output)]
+fn releasing_output(
+    alloc: Global,
+    context: &TypingContext,
+    term: TermId,
+    form: Releasing,
+    input: &Ty,
+) -> Result<Ty, Refusal>
+    requires fits { Fits input.now }
+    requires there { term_node_at (program_in context.now) term ≡ Node.Releasing form }
+    requires below { CollectionBelow (term_number term) (collection_under (program_in context.now) form.members) × (term_number form.observer < term_number term) × (term_number form.body < term_number term) }
+    ensures { AnswersTerm (program_in context.now) (context_in context.now) term input.now result }
+{
+    let spot = context.program.spot(term);
+    let types = members_at(alloc, context, term, form.members, input)?;
+    let table = table_type(alloc, &types, spot)?;
+    let watched = pair_of(alloc, input, &table, spot)?;
+    let seen = output_of(alloc, context, form.observer, &watched)?;
+    let payload = payload(&seen, spot)?;
+    released_output(alloc, context, form, payload, input, &types, &table, spot)
+}
+
+/// The type of the outputs of the body of members that give way to it, on inputs of a type, which gives their tables inside the
+/// pattern for payloads of a type and the name of the members.
+#[cycle(output)]
+fn released_output(
+    alloc: Global,
+    context: &TypingContext,
+    form: Releasing,
+    payload: &Ty,
+    input: &Ty,
+    types: &MemberTypes,
+    table: &Ty,
+    spot: Spot,
+) -> Result<Ty, Refusal>
+    requires { Fits input.now }
+    ensures { AnswersBody (program_in context.now) (members_inside (program_in context.now) form.name (key_kind_of types.now.keys) input.now types.now.output (context_in context.now)) spot form.pattern form.body input.now table.now payload.now result }
+{
+    let names = (&*context).members_name(alloc, form.name, types.keys, &*input, &types.output)?;
+    body_within(
+        alloc,
+        context,
+        &names,
+        form.pattern,
+        payload,
+        form.body,
+        input,
+        table,
+        spot,
+    )
+}
+
+/// The type of the outputs of members that are edited at each event beside their inputs, on inputs of a type.
+#[cycle(output)]
+fn editing_output(
+    alloc: Global,
+    context: &TypingContext,
+    term: TermId,
+    form: Editing,
+    input: &Ty,
+) -> Result<Ty, Refusal>
+    requires fits { Fits input.now }
+    requires there { term_node_at (program_in context.now) term ≡ Node.Editing form }
+    requires below { CollectionBelow (term_number term) (collection_under (program_in context.now) form.members) × CollectionBelow (term_number term) (collection_under (program_in context.now) form.edit) }
+    ensures { AnswersTerm (program_in context.now) (context_in context.now) term input.now result }
+{
+    let spot = context.program.spot(term);
+    let (value, payload) = value_and_payload(input, spot)?;
+    let types = members_at(alloc, context, term, form.members, value)?;
+    edited_types(alloc, context, term, form, payload, value, &types, spot)?;
+    table_type(alloc, &types, spot)
+}
+
+/// The types of an edit, on inputs of a type, which has the types that are wanted of it inside the pattern for payloads of a
+/// type and the name of members of these types.
+#[cycle(output)]
+fn edited_types(
+    alloc: Global,
+    context: &TypingContext,
+    term: TermId,
+    form: Editing,
+    payload: &Ty,
+    input: &Ty,
+    wanted: &MemberTypes,
+    spot: Spot,
+) -> Result<MemberTypes, Refusal>
+    requires fits { Fits input.now }
+    requires below { CollectionBelow (term_number term) (collection_under (program_in context.now) form.edit) }
+    requires shallow { collection_depth (collection_of (program_in context.now) (collection_under (program_in context.now) form.edit)) ≤ 64 }
+    ensures { AnswersEdit (program_in context.now) (members_inside (program_in context.now) form.name (key_kind_of wanted.now.keys) input.now wanted.now.output (context_in context.now)) spot form.pattern form.edit (key_kind_of wanted.now.keys) input.now wanted.now.output payload.now result }
+{
+    let names = (&*context).members_name(alloc, form.name, wanted.keys, &*input, &wanted.output)?;
+    edit_within(
+        alloc, context, &names, term, form, payload, input, wanted, spot,
+    )
+}
+
+/// The types of an edit inside names, on inputs of a type, which has the types that are wanted of it inside the pattern for
+/// payloads of a type.
+#[cycle(output)]
+fn edit_within(
+    alloc: Global,
+    context: &TypingContext,
+    names: &Frame,
+    term: TermId,
+    form: Editing,
+    payload: &Ty,
+    input: &Ty,
+    wanted: &MemberTypes,
+    spot: Spot,
+) -> Result<MemberTypes, Refusal>
+    requires fits { Fits input.now }
+    requires below { CollectionBelow (term_number term) (collection_under (program_in context.now) form.edit) }
+    requires shallow { collection_depth (collection_of (program_in context.now) (collection_under (program_in context.now) form.edit)) ≤ 64 }
+    ensures { AnswersEdit (program_in context.now) (inside_names names.now (context_in context.now)) spot form.pattern form.edit (key_kind_of wanted.now.keys) input.now wanted.now.output payload.now result }
+{
+    let inner = (&*context).within(alloc, &*names)?;
+    edit_types(alloc, &inner, term, form, payload, input, wanted, spot)
+}
+
+/// The types of an edit, on inputs of a type, which has the types that are wanted of it inside the pattern for payloads of a
+/// type.
+#[cycle(output)]
+fn edit_types(
+    alloc: Global,
+    context: &TypingContext,
+    term: TermId,
+    form: Editing,
+    payload: &Ty,
+    input: &Ty,
+    wanted: &MemberTypes,
+    spot: Spot,
+) -> Result<MemberTypes, Refusal>
+    requires fits { Fits input.now }
+    requires below { CollectionBelow (term_number term) (collection_under (program_in context.now) form.edit) }
+    requires shallow { collection_depth (collection_of (program_in context.now) (collection_under (program_in context.now) form.edit)) ≤ 64 }
+    ensures { AnswersEdit (program_in context.now) (context_in context.now) spot form.pattern form.edit (key_kind_of wanted.now.keys) input.now wanted.now.output payload.now result }
+{
+    let names = (&*context).pattern_names(alloc, form.pattern, &*payload, spot)?;
+    let given = members_within(alloc, context, &names, term, form.edit, input)?;
+    same_members(&given, wanted, spot)?;
+    Ok(given)
+}
+
+/// The types of the collection at an id, which a form has, inside names, on inputs of a type.
+#[cycle(output)]
+fn members_within(
+    alloc: Global,
+    context: &TypingContext,
+    names: &Frame,
+    form: TermId,
+    members: CollectionId,
+    input: &Ty,
+) -> Result<MemberTypes, Refusal>
+    requires fits { Fits input.now }
+    requires below { CollectionBelow (term_number form) (collection_under (program_in context.now) members) }
+    requires shallow { collection_depth (collection_of (program_in context.now) (collection_under (program_in context.now) members)) ≤ 64 }
+    ensures { AnswersMembers (program_in context.now) (inside_names names.now (context_in context.now)) (collection_under (program_in context.now) members) input.now result }
+{
+    let inner = (&*context).within(alloc, &*names)?;
+    members_at(alloc, &inner, form, members, input)
+}
+
 /// The type of the outputs of the process of a name on inputs of a type.
 fn process_output(
     alloc: Global,
@@ -789,11 +1084,13 @@ fn takes_value(parameter: &ParameterForm, given: &Ty) -> bool
     match parameter {
         ParameterForm::Value(wanted) => same_type(wanted, given),
         ParameterForm::Process(_, _) => false,
+        ParameterForm::Collection(_, _, _) => false,
     }
 }
 
 /// Whether an argument of a call is of the type or types of its parameter. Refused where an expression has no type, with
-/// `Mismatch` at the call where a term stands for a value, and where a term does not take the inputs of its parameter.
+/// `Mismatch` at the call where a term or a collection stands for another one or for a value, and where it does not take the
+/// inputs of its parameter.
 #[cycle(output)]
 fn argument_fits(
     alloc: Global,
@@ -802,7 +1099,8 @@ fn argument_fits(
     argument: Argument,
     parameter: &ParameterForm,
 ) -> Result<bool, Refusal>
-    requires { ArgumentBelow (term_number term) argument }
+    requires below { ArgumentBelow (program_in context.now) (term_number term) argument }
+    requires shallow { (i : CollectionIdIn) → argument ≡ Argument.Collection i → collection_depth (collection_of (program_in context.now) (collection_under (program_in context.now) i)) ≤ 64 }
     ensures { AnswersArgument (program_in context.now) (context_in context.now) (term_spot_at (program_in context.now) term) argument (kind_of_form parameter.now) result }
 {
     match (argument, parameter) {
@@ -817,6 +1115,20 @@ fn argument_fits(
             prove!(from.nodes() <= 256);
             let given = output_of(alloc, context, part, from)?;
             Ok(same_type(&given, to))
+        }
+        (Argument::Process(_), ParameterForm::Collection(_, _, _)) => {
+            Err(Refusal::broken(Rule::Mismatch, context.program.spot(term)))
+        }
+        (Argument::Collection(_), ParameterForm::Value(_)) => {
+            Err(Refusal::broken(Rule::Mismatch, context.program.spot(term)))
+        }
+        (Argument::Collection(_), ParameterForm::Process(_, _)) => {
+            Err(Refusal::broken(Rule::Mismatch, context.program.spot(term)))
+        }
+        (Argument::Collection(members), ParameterForm::Collection(keys, from, to)) => {
+            prove!(from.nodes() <= 256);
+            let given = members_at(alloc, context, term, members, from)?;
+            Ok(are_members(&given, *keys, to))
         }
     }
 }
@@ -835,7 +1147,7 @@ fn call_output(
 ) -> Result<Ty, Refusal>
     requires fits { Fits input.now }
     requires there { term_node_at (program_in context.now) term ≡ Node.Call name arguments }
-    requires below { All (ArgumentBelow (term_number term)) (arguments_under (program_in context.now) arguments) }
+    requires below { All (ArgumentBelow (program_in context.now) (term_number term)) (arguments_under (program_in context.now) arguments) }
     ensures { AnswersTerm (program_in context.now) (context_in context.now) term input.now result }
 {
     let spot = context.program.spot(term);
@@ -894,6 +1206,9 @@ pub(crate) fn output_of(
         Node::Keeping(form, source, observer, name, place, pattern, body) => keeping_output(
             alloc, context, term, form, source, observer, name, place, pattern, body, input,
         ),
+        Node::Gathered(members) => gathered_output(alloc, context, term, members, input),
+        Node::Releasing(form) => releasing_output(alloc, context, term, form, input),
+        Node::Editing(form) => editing_output(alloc, context, term, form, input),
     }
 }
 

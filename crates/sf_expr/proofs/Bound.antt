@@ -12,7 +12,7 @@ use Rattle.sf_func.specs.Registries.{TypesByName}
 use Rattle.sf_expr.specs.Typing.{Names, only_functions, typed_name, untyped_name, type_of_name, functions_of, with_types, AddsNames, adds_nothing, adds_name, adds_both, Binds}
 use Rattle.std.specs.Prelude.{bytes_eq}
 use Rattle.sf_value.specs.Values.{Name}
-use Rattle.sf_expr.specs.Meanings.{Meant, of_value, of_process, Entries, entry_before, names_from}
+use Rattle.sf_expr.specs.Meanings.{Meant, of_value, of_process, of_collection, Entries, entry_before, names_from}
 
 -- names in the place of the functions behind others
 abbrev pub over : Names → Names → Names
@@ -27,6 +27,7 @@ names_over (e ∷ es) fs = each e.1 (names_over es fs)
     each : (m : Meant) → names_from (es ++ fs) ≡ over (names_from fs) (names_from es) → entry_before e.0 m (names_from (es ++ fs)) ≡ over (names_from fs) (entry_before e.0 m (names_from es))
     each (of_value t) rest = ap (typed_name e.0 t) rest
     each (of_process a b) rest = ap (untyped_name e.0) rest
+    each (of_collection k a b) rest = ap (untyped_name e.0) rest
 
 adds_over : (Q : Names) {p : Pattern} {t : Kind} {R S : Names} → AddsNames p t R S → AddsNames p t (over Q R) (over Q S)
 adds_over Q adds_nothing = adds_nothing

@@ -13,7 +13,7 @@ use Rattle.sf_expr.specs.declared.meaning.Named.{Named}
 use Rattle.sf_expr.specs.declared.frame.Frame as framed
 use Rattle.sf_expr.specs.declared.scope.TypeScope as scoped
 use Rattle.sf_expr.specs.Typing.{named_in}
-use Rattle.sf_expr.specs.Meanings.{Meant, of_value, of_process, meant, Entries, found_in, names_from, with_entry, place_behind, last_place}
+use Rattle.sf_expr.specs.Meanings.{Meant, of_value, of_process, of_collection, meant, Entries, found_in, names_from, with_entry, place_behind, last_place}
 use Rattle.sf_expr.specs.Scopes.{entries_in, with_frame, entries_along, entries_around}
 
 -- ## The places of names
@@ -139,6 +139,7 @@ module _ (x : Name) where
 abbrev pub value_meant : Meant → Option Kind
 value_meant (of_value t) = Some t
 value_meant (of_process a b) = None
+value_meant (of_collection k a b) = None
 
 abbrev pub kind_found : Option Meant → Option (Option Kind)
 kind_found None = None
@@ -155,6 +156,7 @@ named_from x (e ∷ es) = before e.1 (named_from x es)
     before : (m : Meant) → named_in x (names_from es) ≡ kind_found (found_in x es) → named_in x (names_from ((e.0, m) ∷ es)) ≡ kind_found (cond (bytes_eq x e.0) (Some m) (found_in x es))
     before (of_value t) rest = each (bytes_eq x e.0) (of_value t) rest
     before (of_process a b) rest = each (bytes_eq x e.0) (of_process a b) rest
+    before (of_collection k a b) rest = each (bytes_eq x e.0) (of_collection k a b) rest
 
 -- a frame before other names
 module _ (x : Name) (frame : Option (Bor framed.Frame)) (f : Bor framed.Frame) (is : frame ≡ Some f) where

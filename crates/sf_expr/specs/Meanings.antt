@@ -1,9 +1,10 @@
 -- Names with what they stand for.
 use Rattle.std.specs.Borrow.{Bor}
 use Rattle.std.specs.Prelude.{ℕ, suc, map, Bool, cond, List, [], ◌∷◌, fold, Option, Some, None, bytes_eq}
-use Rattle.sf_value.specs.Values.{Name, Kind}
+use Rattle.sf_value.specs.Values.{Name, KeyKind, Kind}
+use Rattle.sf_value.specs.KindView.{key_kind_of}
 use Rattle.sf_expr.specs.declared.meaning.Meaning.{Meaning}
-use Rattle.sf_expr.specs.declared.meaning.Meaning.TheVariants.{Value, Process}
+use Rattle.sf_expr.specs.declared.meaning.Meaning.TheVariants.{Value, Process, Collection}
 use Rattle.sf_expr.specs.declared.meaning.Named.{Named}
 use Rattle.sf_expr.specs.Typing.{Names, only_functions, typed_name, untyped_name}
 
@@ -11,10 +12,12 @@ use Rattle.sf_expr.specs.Typing.{Names, only_functions, typed_name, untyped_name
 pub data Meant : Type 0 where
   of_value : Kind → Meant
   of_process : (from to : Kind) → Meant
+  of_collection : KeyKind → (from to : Kind) → Meant
 
 abbrev pub meant : Meaning → Meant
 meant (Value t) = of_value t.now
 meant (Process a b) = of_process a.now b.now
+meant (Collection k a b) = of_collection (key_kind_of k) a.now b.now
 
 -- names with what they stand for, the innermost first
 abbrev pub Entries : Type 0
@@ -29,6 +32,7 @@ found_in x (e ∷ es) = cond (bytes_eq x e.0) (Some e.1) (found_in x es)
 abbrev pub entry_before : Name → Meant → Names → Names
 entry_before x (of_value t) R = typed_name x t R
 entry_before x (of_process a b) R = untyped_name x R
+entry_before x (of_collection k a b) R = untyped_name x R
 
 -- the names with the types of those that stand for values, without functions
 abbrev pub names_from : Entries → Names

@@ -2,19 +2,20 @@
 ghost use Rattle.std.specs.Prelude.{◌≡◌, ◌∷◌, ◌++◌, [], true, not, IfOk, OnOk, IfErr, IfSome, IfNone, Some, None, Ok, bytes_eq};
 ghost use Rattle.std.specs.HashMap.{get_by};
 ghost use Rattle.sf_value.specs.Values.{Name};
+ghost use Rattle.sf_value.specs.KindView.{key_kind_of};
 ghost use Rattle.sf_refusal.specs.Refusals.{OrMemory};
 ghost use Rattle.sf_expr.specs.Patterns.{pattern_of};
 ghost use Rattle.sf_expr.specs.Typing.{Fits, AddsNames, Binds, only_functions};
 ghost use Rattle.sf_expr.specs.Inference.{is_among};
 ghost use Rattle.sf_expr.specs.Judging.{seen_with, Stops};
 ghost use Rattle.sf_expr.specs.Refusals.{BindRefused, PatternRefused};
-ghost use Rattle.sf_expr.specs.Meanings.{of_value, of_process, meant, found_in, names_from, names_seen, last_place};
+ghost use Rattle.sf_expr.specs.Meanings.{of_value, of_process, of_collection, meant, found_in, names_from, names_seen, last_place};
 
 use crate::meaning::{Meaning, Named};
 use crate::pat::{Pat, PatForm};
 use indexmap::IndexSet;
 use sf_refusal::{Refusal, Rule, Spot};
-use sf_value::Ty;
+use sf_value::{KeyType, Ty};
 use std::alloc::{AllocError, Global};
 use std::collections::HashMap;
 
@@ -74,6 +75,20 @@ impl<'a> Frame<'a> {
         ensures { OnOk result (entries_in self.new ≡ (name.now, of_process from.now to.now) ∷ entries_in self.old) }
     {
         self.add(name, Meaning::Process(from, to))
+    }
+
+    /// Puts a name behind the names that are there that stands for a collection with keys of a type, of members from a type to
+    /// a type.
+    pub fn add_collection(
+        &mut self,
+        name: &'a str,
+        keys: KeyType,
+        from: &'a Ty,
+        to: &'a Ty,
+    ) -> Result<(), AllocError>
+        ensures { OnOk result (entries_in self.new ≡ (name.now, of_collection (key_kind_of keys) from.now to.now) ∷ entries_in self.old) }
+    {
+        self.add(name, Meaning::Collection(keys, from, to))
     }
 
     /// What the last of a name stands for; none where it is not there.

@@ -69,6 +69,7 @@ fn name_type(alloc: Global, names: &TypeScope, name: &str, at: Spot) -> Result<T
     match names.stands_for(name) {
         Some(Meaning::Value(ty)) => Ok(ty.clone_in(alloc)?),
         Some(Meaning::Process(_, _)) => Err(Refusal::broken(Rule::Mismatch, at)),
+        Some(Meaning::Collection(_, _, _)) => Err(Refusal::broken(Rule::Mismatch, at)),
         None => Err(Refusal::broken(Rule::UnknownName, at)),
     }
 }

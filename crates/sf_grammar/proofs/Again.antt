@@ -3,7 +3,7 @@ use Rattle.std.proofs.Common.{◌≡◌, ℕ, zero, suc, ◌+◌, ◌≤◌, Boo
 use Rattle.std.specs.List.{All}
 use Rattle.std.proofs.lemmas.List.{length-append, length-map}
 use Rattle.std.proofs.lemmas.List.Elements.{All-head, All-tail}
-use Rattle.sf_value.specs.Values.{Name, KeyKind, Kind, unit_kind, bool_kind, int_kind, text_kind, pair_kind, event_kind, table_kind, nodes}
+use Rattle.sf_value.specs.Values.{Name, KeyKind, int_keys, text_keys, Kind, unit_kind, bool_kind, int_kind, text_kind, pair_kind, event_kind, table_kind, nodes}
 use Rattle.sf_expr.specs.Expressions.{Pattern, unnamed, named, both, pattern_depth, Literal, unit_literal, truth_literal, int_literal, text_literal, none_literal, Expression, variable, literal, paired, applied, operation, conditional, mapped, folded, called, depth as expression_depth, size, Function, function, function_depth, function_size}
 use Rattle.sf_operator.specs.declared.operator.Unary.{Unary}
 use Rattle.sf_operator.specs.declared.operator.Operator.{Operator}
@@ -17,18 +17,19 @@ use Rattle.sf_term.specs.declared.form.Heading.TheVariants as headings
 use Rattle.sf_term.specs.declared.form.Naming.{Naming}
 use Rattle.sf_term.specs.declared.form.Naming.TheVariants as namings
 use Rattle.sf_term.specs.Parameters.{NameKind, value as value_kind, process as process_kind, collection as collection_kind, Bindings}
-use Rattle.sf_term.specs.Trees.{terms_with_value, bare, probe, never, with_value, timed, selected, arrow, accumulated, fused, Term, primitive, reference, joined, sided, headed, transformed, switching, keeping, gathered, releasing, editing, staged, started, call, named_term, Arguments, no_arguments, value_argument, process_argument, collection_argument, closed_argument, Template, term_depth, arguments_depth, terms_in, terms_in_arguments, expressions_in, expressions_in_arguments}
+use Rattle.sf_term.specs.Trees.{terms_with_value, bare, probe, never, with_value, timed, selected, arrow, accumulated, fused, Term, primitive, reference, joined, sided, headed, transformed, switching, keeping, gathered, releasing, editing, staged, Collection, without_members, used, added, dropped, kept, chosen, started, call, named_term, Arguments, no_arguments, value_argument, process_argument, collection_argument, closed_argument, Template, term_depth, collection_depth, arguments_depth, terms_in, terms_collected, terms_in_arguments, expressions_in, expressions_collected, expressions_in_arguments}
 use Rattle.sf_lex.specs.declared.word.Keyword.TheVariants as words
 use Rattle.sf_lex.specs.declared.symbol.Symbol.TheVariants as symbols
 use Rattle.sf_lex.specs.Tokens.{Tok, keyword, name, number, text, symbol}
 use Rattle.sf_grammar.specs.declared.ty.Version.{Version}
+use Rattle.sf_grammar.specs.declared.ty.Version.TheVariants as versions
 use Rattle.sf_grammar.specs.declared.head.Head.TheVariants as heads
 use Rattle.sf_grammar.specs.declared.head.ExpressionHead.TheVariants as expression_heads
 use Rattle.sf_grammar.specs.declared.head.Link.{Link}
 use Rattle.sf_grammar.specs.declared.head.Link.TheVariants as links
-use Rattle.sf_grammar.specs.Spelling.{stands_initially, head_makes, unary_word, takes_brackets, operator_token, stands_between, mapping_word, maps_in_brackets, folding_word, spell_operand, spell_operands, spell_choice, spell_mapped, spell_folded, spell_called, spell_mapping, spell_keys, spell_type, spell_pattern, spell_literal, spell_expression, spell_function, spell_further, spell_listed, spell_term, spell_arguments, spell_parameter, spell_heading, spell_signature, spell_template, bare_word, value_word, side_word, heading_token, timing_word, selection_word, accumulation_word, switching_word, keeping_word, naming_token, join_symbol, in_brackets, type_depth, WritesType, WritesExpression, WritesFunction, WritesTerm, WritesArguments, WritesNameKind, HasWrittenTypes}
-use Rattle.sf_grammar.specs.Reading.{parse_never, parse_timed, parse_selected, Read, got, ◌and_then◌, Counts, counts_with, counts_with_expression, counts_with_function, parse_symbol, parse_keys, parse_outer_type, parse_inner_type, parse_pair_type, parse_pattern, parse_pattern_pair, parse_link, linked, parse_linked, bracketed_from, parse_none, parse_prefixed, parse_one_in_brackets, parse_two_in_brackets, parse_conditional, parse_mapping, parse_let, parse_one_and_function, parse_two_and_function, parse_called, expression_head, parse_expression, expression_read, parse_function, parse_join, parse_term, term_read, parse_joined, parse_value, parse_arrow, parse_accumulated, parse_sided, parse_headed, parse_transformed, parse_body, parse_switching, head_at, parse_named, parse_keeping, Actual, actual_value, actual_process, with_actual, counts_with_actual, parse_argument, parse_arguments, parse_call, behind_leads, parse_further, parse_listed, parse_name_kind, parse_parameter, parse_parameters, parse_heading, parse_signature, parse_template}
-use Rattle.sf_grammar.proofs.Words.{head_again, heading_begins, start_again, join_again, link_again, link_token, LinksBetween, unary_again, IsInFront, operator_again, folding_again, keys_again, no_close, no_sf}
+use Rattle.sf_grammar.specs.Spelling.{releasing_word, editing_word, spell_collection, spell_key_kind, WritesKeys, WritesCollection, IsWrittenType, stands_initially, head_makes, unary_word, takes_brackets, operator_token, stands_between, mapping_word, maps_in_brackets, folding_word, spell_operand, spell_operands, spell_choice, spell_mapped, spell_folded, spell_called, spell_mapping, spell_keys, spell_type, spell_pattern, spell_literal, spell_expression, spell_function, spell_further, spell_listed, spell_term, spell_arguments, spell_parameter, spell_heading, spell_signature, spell_template, bare_word, value_word, side_word, heading_token, timing_word, selection_word, accumulation_word, switching_word, keeping_word, naming_token, join_symbol, in_brackets, type_depth, WritesType, WritesExpression, WritesFunction, WritesTerm, WritesArguments, WritesNameKind, HasWrittenTypes}
+use Rattle.sf_grammar.specs.Reading.{parse_shallow, parse_collection, parse_gathered, parse_releasing, parse_editing, parse_edit, parse_empty, parse_used, parse_added, parse_dropped, parse_kept, parse_chosen, parse_collection_kind, parse_key_kind, counts_with_collection, actual_collection, parse_never, parse_timed, parse_selected, Read, got, ◌and_then◌, Counts, counts_with, counts_with_expression, counts_with_function, parse_symbol, parse_keys, parse_outer_type, parse_inner_type, parse_pair_type, parse_pattern, parse_pattern_pair, parse_link, linked, parse_linked, bracketed_from, parse_none, parse_prefixed, parse_one_in_brackets, parse_two_in_brackets, parse_conditional, parse_mapping, parse_let, parse_one_and_function, parse_two_and_function, parse_called, expression_head, parse_expression, expression_read, parse_function, parse_join, parse_term, term_read, parse_joined, parse_value, parse_arrow, parse_accumulated, parse_sided, parse_headed, parse_transformed, parse_body, parse_switching, head_at, parse_named, parse_keeping, Actual, actual_value, actual_process, with_actual, counts_with_actual, parse_argument, parse_arguments, parse_call, behind_leads, parse_further, parse_listed, parse_name_kind, parse_parameter, parse_parameters, parse_heading, parse_signature, parse_template}
+use Rattle.sf_grammar.proofs.Words.{head_again, heading_begins, start_again, join_again, link_again, link_token, LinksBetween, unary_again, IsInFront, operator_again, folding_again, keys_again, no_close, no_argument_word, no_list}
 use Rattle.sf_grammar.proofs.Parts.{spell_actual, within, type_within, brackets_behind, three_behind, parts_again, no_leads, further_long}
 
 -- a type that is made of one part
@@ -276,6 +277,12 @@ body_again : (v : Version) (p : Pattern) (f : Term) (d : ℕ) (c : Counts) (rest
 body_again v p f d c rest deep part =
     rw (append_assoc (spell_pattern p) (symbol symbols.MapsTo ∷ spell_term v f) rest, pattern_again p d (symbol symbols.MapsTo ∷ (spell_term v f ++ rest)) deep, part rest) refl
 
+-- an edit
+edit_again : (v : Version) (p : Pattern) (i : Collection) (d : ℕ) (c : Counts) (rest : List Tok) → pattern_depth p ≤ d → ((rest : List Tok) → parse_collection d v c (spell_collection v i ++ rest) ≡ got i rest)
+    → parse_edit d (parse_collection d v) c (spell_mapping (spell_pattern p) (spell_collection v i) ++ rest) ≡ got (p, i) rest
+edit_again v p i d c rest deep part =
+    rw (append_assoc (spell_pattern p) (symbol symbols.MapsTo ∷ spell_collection v i) rest, pattern_again p d (symbol symbols.MapsTo ∷ (spell_collection v i ++ rest)) deep, part rest) refl
+
 -- an expression has a depth
 stands_deep : (e : Expression) → 1 ≤ expression_depth e
 stands_deep (variable x) = omega arith
@@ -291,20 +298,20 @@ stands_deep (called g e) = omega arith
 -- a value behind its word
 value_again : (v : Version) (k : WithValue) (e : Expression) (d : ℕ) (c : Counts) (rest : List Tok) → stands_initially k ≡ false → parse_expression d v c (spell_expression v e ++ rest) ≡ got e rest → c.terms + terms_with_value k ≤ 100000
     → parse_term (suc d) v c (keyword (value_word k) ∷ (spell_expression v e ++ rest)) ≡ got (primitive (with_value k e)) rest
-unfolding parse_term parse_value
+unfolding parse_shallow parse_value
 value_again v k e d c rest behind value few =
     rw (head_again (heads.WithValue k) behind, value)
     (within (c.terms + terms_with_value k) (primitive (with_value k e)) (keyword (value_word k) ∷ (spell_expression v e ++ rest)) rest few)
 
 pre_again : (v : Version) (d : ℕ) (c : Counts) (rest : List Tok) → 1 ≤ d → c.terms + 1 ≤ 100000 → parse_term d v c (keyword words.Pre ∷ rest) ≡ got (primitive (bare bares.Pre)) rest
-unfolding parse_term
+unfolding parse_shallow
 pre_again v zero c rest deep few = absurd (omega arith)
 pre_again v (suc d) c rest deep few = within (c.terms + 1) (primitive (bare bares.Pre)) (keyword words.Pre ∷ rest) rest few
 
 -- a value behind `-->`, in front of `pre`
 initialized_again : (v : Version) (e : Expression) (d : ℕ) (c : Counts) (rest : List Tok) → ((rest : List Tok) → parse_expression d v c (spell_expression v e ++ rest) ≡ got e rest) → 1 ≤ d → c.terms + 2 ≤ 100000
     → parse_term (suc d) v c ((symbol symbols.Initially ∷ in_brackets (spell_expression v e) (symbol symbols.Comma) (keyword words.Pre ∷ [])) ++ rest) ≡ got (primitive (with_value values.InitializedPre e)) rest
-unfolding parse_term parse_headed
+unfolding parse_shallow parse_headed
 initialized_again v e d c rest value deep few =
     let behind : List Tok = keyword words.Pre ∷ symbol symbols.Close ∷ rest in
     let start : List Tok = symbol symbols.Initially ∷ symbol symbols.Open ∷ (spell_expression v e ++ (symbol symbols.Comma ∷ behind)) in
@@ -317,26 +324,32 @@ initialized_again v e d c rest value deep few =
 -- a form that is a name alone
 named_again : (v : Version) (w : Naming) (k : Name) (d : ℕ) (c : Counts) (rest : List Tok) → head_at v (naming_token w ∷ name k ∷ rest) ≡ Some (heads.Named w) → c.terms + terms_in (named_term w k) ≤ 100000
     → parse_term (suc d) v c (naming_token w ∷ name k ∷ rest) ≡ got (named_term w k) rest
-unfolding parse_term parse_named
+unfolding parse_shallow parse_named
 named_again v w k d c rest head few = rw head (within (c.terms + terms_in (named_term w k)) (named_term w k) (naming_token w ∷ name k ∷ rest) rest few)
 
 -- an argument that is an expression
 value_argument_again : (v : Version) (e : Expression) (d : ℕ) (c : Counts) (rest : List Tok) → parse_expression d v c (spell_expression v e ++ rest) ≡ got e rest
-    → parse_argument d v (parse_term d v) c (spell_expression v e ++ rest) ≡ got (actual_value e) rest
+    → parse_argument d v (parse_term d v) (parse_collection d v) c (spell_expression v e ++ rest) ≡ got (actual_value e) rest
 unfolding parse_argument
-value_argument_again v e d c rest part = rw (no_sf v e rest, part) refl
+value_argument_again v e d c rest part = rw (no_argument_word v e rest, part) refl
 
 -- an argument that is a term behind `sf`
 process_argument_again : (v : Version) (t : Term) (d : ℕ) (c : Counts) (rest : List Tok) → parse_term d v c (spell_term v t ++ rest) ≡ got t rest
-    → parse_argument d v (parse_term d v) c (keyword words.SignalFunction ∷ (spell_term v t ++ rest)) ≡ got (actual_process t) rest
+    → parse_argument d v (parse_term d v) (parse_collection d v) c (keyword words.SignalFunction ∷ (spell_term v t ++ rest)) ≡ got (actual_process t) rest
 unfolding parse_argument
 process_argument_again v t d c rest part = rw part refl
 
+-- an argument that is a collection behind `col`
+collection_argument_again : (v : Version) (i : Collection) (d : ℕ) (c : Counts) (rest : List Tok) → parse_collection d v c (spell_collection v i ++ rest) ≡ got i rest
+    → parse_argument d v (parse_term d v) (parse_collection d v) c (keyword words.Collection ∷ (spell_collection v i ++ rest)) ≡ got (actual_collection i) rest
+unfolding parse_argument
+collection_argument_again v i d c rest part = rw part refl
+
 -- an argument in front of further ones
 arguments_step : (v : Version) (a : Actual) (vs : Arguments) (d : ℕ) (c : Counts) (n : ℕ) (rest : List Tok)
-    → parse_argument d v (parse_term d v) c (spell_actual v a ++ (spell_further (spell_arguments v vs) ++ rest)) ≡ got a (spell_further (spell_arguments v vs) ++ rest)
-    → parse_further no_arguments (parse_arguments n d v (parse_term d v) (counts_with_actual c a)) (spell_further (spell_arguments v vs) ++ rest) ≡ got vs rest
-    → parse_arguments (suc n) d v (parse_term d v) c ((spell_actual v a ++ spell_further (spell_arguments v vs)) ++ rest) ≡ got (with_actual a vs) rest
+    → parse_argument d v (parse_term d v) (parse_collection d v) c (spell_actual v a ++ (spell_further (spell_arguments v vs) ++ rest)) ≡ got a (spell_further (spell_arguments v vs) ++ rest)
+    → parse_further no_arguments (parse_arguments n d v (parse_term d v) (parse_collection d v) (counts_with_actual c a)) (spell_further (spell_arguments v vs) ++ rest) ≡ got vs rest
+    → parse_arguments (suc n) d v (parse_term d v) (parse_collection d v) c ((spell_actual v a ++ spell_further (spell_arguments v vs)) ++ rest) ≡ got (with_actual a vs) rest
 unfolding parse_arguments
 arguments_step v a vs d c n rest one others = rw (append_assoc (spell_actual v a) (spell_further (spell_arguments v vs)) rest, one, others) refl
 
@@ -345,7 +358,7 @@ long_enough : (front : List Tok) (xs : List (List Tok)) (rest : List Tok) → le
 long_enough front xs rest = omega (arith, further_long xs, length-append (front ++ spell_further xs) rest, length-append front (spell_further xs))
 
 mutual
-  unfolding parse_term parse_joined parse_never parse_value parse_timed parse_selected parse_arrow parse_accumulated parse_sided parse_headed parse_transformed parse_switching parse_keeping parse_call
+  unfolding parse_shallow parse_joined parse_never parse_value parse_timed parse_selected parse_arrow parse_accumulated parse_sided parse_headed parse_transformed parse_switching parse_keeping parse_call parse_gathered parse_releasing parse_editing parse_empty parse_used parse_added parse_dropped parse_kept parse_chosen
 
   pub term_again : (v : Version) (t : Term) (d : ℕ) (c : Counts) (rest : List Tok) → d ≤ 64 → term_depth t ≤ d → c.terms + terms_in t ≤ 100000 → c.expressions + expressions_in t ≤ 100000 → WritesTerm v d t
       → parse_term d v c (spell_term v t ++ rest) ≡ got t rest
@@ -362,9 +375,6 @@ mutual
   term_again v (gathered i) zero c rest small deep few_terms few_expressions known = absurd (omega arith)
   term_again v (releasing w i q k p u) zero c rest small deep few_terms few_expressions known = absurd (omega arith)
   term_again v (editing w i k p u) zero c rest small deep few_terms few_expressions known = absurd (omega arith)
-  term_again v (gathered i) (suc d) c rest small deep few_terms few_expressions known = absurd known
-  term_again v (releasing w i q k p u) (suc d) c rest small deep few_terms few_expressions known = absurd known
-  term_again v (editing w i k p u) (suc d) c rest small deep few_terms few_expressions known = absurd known
   term_again v (joined j f g) zero c rest small deep few_terms few_expressions known = absurd (omega arith)
   term_again v (sided s f) zero c rest small deep few_terms few_expressions known = absurd (omega arith)
   term_again v (headed h e f) zero c rest small deep few_terms few_expressions known = absurd (omega arith)
@@ -472,12 +482,96 @@ mutual
         term_again v g d (counts_with c f) second (omega arith) (omega arith) (omega arith) (omega arith) known.1,
         body_again v p u d (counts_with (counts_with c f) g) closing (omega arith) (λ rest. term_again v u d (counts_with (counts_with c f) g) rest (omega arith) (omega arith) (omega arith) (omega arith) known.2),
       ) (within (c.terms + terms_in (keeping w f g k p u)) (keeping w f g k p u) (keyword (keeping_word w) ∷ symbol symbols.Open ∷ (spell_term v f ++ first)) rest few_terms)
+  term_again v (gathered i) (suc d) c rest small deep few_terms few_expressions known =
+      rw (collection_again v i d c rest (omega arith) (omega arith) (omega arith) (omega arith) known)
+      (within (c.terms + terms_in (gathered i)) (gathered i) (keyword words.ParB ∷ (spell_collection v i ++ rest)) rest few_terms)
+  term_again v (releasing w i g k p u) (suc d) c rest small deep few_terms few_expressions known =
+      let mapping : List Tok = spell_mapping (spell_pattern p) (spell_term v u) in
+      let closing : List Tok = symbol symbols.Close ∷ rest in
+      let third : List Tok = symbol symbols.Comma ∷ (mapping ++ closing) in
+      let second : List Tok = symbol symbols.Comma ∷ name k ∷ third in
+      let first : List Tok = symbol symbols.Comma ∷ (spell_term v g ++ second) in
+      rw (
+        brackets_behind (spell_collection v i) (spell_term v g ++ (symbol symbols.Comma ∷ name k ∷ symbol symbols.Comma ∷ mapping)) rest (symbol symbols.Comma),
+        append_assoc (spell_term v g) (symbol symbols.Comma ∷ name k ∷ symbol symbols.Comma ∷ mapping) closing,
+        head_again (heads.Releasing w) tt,
+        collection_again v i d c first (omega arith) (omega arith) (omega arith) (omega arith) known.0,
+        term_again v g d (counts_with_collection c i) second (omega arith) (omega arith) (omega arith) (omega arith) known.1,
+        body_again v p u d (counts_with (counts_with_collection c i) g) closing (omega arith) (λ rest. term_again v u d (counts_with (counts_with_collection c i) g) rest (omega arith) (omega arith) (omega arith) (omega arith) known.2),
+      ) (within (c.terms + terms_in (releasing w i g k p u)) (releasing w i g k p u) (keyword (releasing_word w) ∷ symbol symbols.Open ∷ (spell_collection v i ++ first)) rest few_terms)
+  term_again v (editing w i k p u) (suc d) c rest small deep few_terms few_expressions known =
+      let mapping : List Tok = spell_mapping (spell_pattern p) (spell_collection v u) in
+      let closing : List Tok = symbol symbols.Close ∷ rest in
+      let first : List Tok = symbol symbols.Comma ∷ name k ∷ symbol symbols.Comma ∷ (mapping ++ closing) in
+      rw (
+        brackets_behind (spell_collection v i) (name k ∷ symbol symbols.Comma ∷ mapping) rest (symbol symbols.Comma),
+        head_again (heads.Editing w) tt,
+        collection_again v i d c first (omega arith) (omega arith) (omega arith) (omega arith) known.0,
+        edit_again v p u d (counts_with_collection c i) closing (omega arith) (λ rest. collection_again v u d (counts_with_collection c i) rest (omega arith) (omega arith) (omega arith) (omega arith) known.1),
+      ) (within (c.terms + terms_in (editing w i k p u)) (editing w i k p u) (keyword (editing_word w) ∷ symbol symbols.Open ∷ (spell_collection v i ++ first)) rest few_terms)
+
+  -- a collection
+  collection_again : (v : Version) (i : Collection) (d : ℕ) (c : Counts) (rest : List Tok) → d ≤ 64 → collection_depth i ≤ d → c.terms + terms_collected i ≤ 100000 → c.expressions + expressions_collected i ≤ 100000 → WritesCollection v d i
+      → parse_collection d v c (spell_collection v i ++ rest) ≡ got i rest
+  collection_again v (without_members k t) zero c rest small deep few_terms few_expressions known = absurd (omega arith)
+  collection_again v (used x) zero c rest small deep few_terms few_expressions known = absurd (omega arith)
+  collection_again v (added i e t) zero c rest small deep few_terms few_expressions known = absurd (omega arith)
+  collection_again v (dropped i e) zero c rest small deep few_terms few_expressions known = absurd (omega arith)
+  collection_again v (kept i f) zero c rest small deep few_terms few_expressions known = absurd (omega arith)
+  collection_again v (chosen e i j) zero c rest small deep few_terms few_expressions known = absurd (omega arith)
+  collection_again v (without_members k t) (suc d) c rest small deep few_terms few_expressions known =
+      rw (
+        append_assoc (spell_keys v k) (spell_type v t) rest,
+        keys_again v k (spell_type v t ++ rest) known.0,
+        inner_type_again v t d (spell_type v t ++ rest) 0 rest known.1.shallow (omega (arith, known.1.few)) known.1.known,
+      ) refl
+  collection_again v (used x) (suc d) c rest small deep few_terms few_expressions known = refl
+  collection_again v (added i e t) (suc d) c rest small deep few_terms few_expressions known =
+      let closing : List Tok = symbol symbols.Close ∷ rest in
+      let second : List Tok = symbol symbols.Comma ∷ (spell_term v t ++ closing) in
+      let first : List Tok = symbol symbols.Comma ∷ (spell_expression v e ++ second) in
+      rw (
+        brackets_behind (spell_collection v i) (spell_expression v e ++ (symbol symbols.Comma ∷ spell_term v t)) rest (symbol symbols.Comma),
+        append_assoc (spell_expression v e) (symbol symbols.Comma ∷ spell_term v t) closing,
+        collection_again v i d c first (omega arith) (omega arith) (omega arith) (omega arith) known.0,
+        expression_again v e d (counts_with_collection c i) second (omega arith) (omega arith) known.1,
+        term_again v t d (counts_with_expression (counts_with_collection c i) e) closing (omega arith) (omega arith) (omega arith) (omega arith) known.2,
+      ) refl
+  collection_again v (dropped i e) (suc d) c rest small deep few_terms few_expressions known =
+      let closing : List Tok = symbol symbols.Close ∷ rest in
+      let first : List Tok = symbol symbols.Comma ∷ (spell_expression v e ++ closing) in
+      rw (
+        brackets_behind (spell_collection v i) (spell_expression v e) rest (symbol symbols.Comma),
+        collection_again v i d c first (omega arith) (omega arith) (omega arith) (omega arith) known.0,
+        expression_again v e d (counts_with_collection c i) closing (omega arith) (omega arith) known.1,
+      ) refl
+  collection_again v (kept i f) (suc d) c rest small deep few_terms few_expressions known =
+      let closing : List Tok = symbol symbols.Close ∷ rest in
+      let first : List Tok = symbol symbols.Comma ∷ (spell_function v f ++ closing) in
+      rw (
+        brackets_behind (spell_collection v i) (spell_function v f) rest (symbol symbols.Comma),
+        collection_again v i d c first (omega arith) (omega arith) (omega arith) (omega arith) known.0,
+        function_again v f d (counts_with_collection c i) closing (omega arith) (omega arith) known.1,
+      ) refl
+  collection_again v (chosen e i j) (suc d) c rest small deep few_terms few_expressions known =
+      let third : List Tok = keyword words.Else ∷ (spell_collection v j ++ rest) in
+      let second : List Tok = keyword words.Then ∷ (spell_collection v i ++ third) in
+      ap (λ (r : List Tok). parse_collection (suc d) v c (keyword words.If ∷ r)) (three_behind (spell_expression v e) (spell_collection v i) (spell_collection v j) rest (keyword words.Then) (keyword words.Else))
+      ∙ rw (
+        expression_again v e d c second (omega arith) (omega arith) known.0,
+        collection_again v i d (counts_with_expression c e) third (omega arith) (omega arith) (omega arith) (omega arith) known.1,
+        collection_again v j d (counts_with_collection (counts_with_expression c e) i) rest (omega arith) (omega arith) (omega arith) (omega arith) known.2,
+      ) refl
 
   -- the arguments of a call, behind its opening bracket
   listed_arguments_again : (v : Version) (vs : Arguments) (d : ℕ) (c : Counts) (rest : List Tok) → d ≤ 63 → arguments_depth vs ≤ d → c.terms + terms_in_arguments vs ≤ 100000 → c.expressions + expressions_in_arguments vs ≤ 100000 → WritesArguments v d vs
-      → parse_listed no_arguments (λ tokens. parse_arguments (suc (length tokens)) d v (parse_term d v) c tokens) (spell_listed (spell_arguments v vs) ++ rest) ≡ got vs rest
+      → parse_listed no_arguments (λ tokens. parse_arguments (suc (length tokens)) d v (parse_term d v) (parse_collection d v) c tokens) (spell_listed (spell_arguments v vs) ++ rest) ≡ got vs rest
   listed_arguments_again v no_arguments d c rest small deep few_terms few_expressions known = refl
-  listed_arguments_again v (collection_argument i vs) d c rest small deep few_terms few_expressions known = absurd known
+  listed_arguments_again v (collection_argument i vs) d c rest small deep few_terms few_expressions known =
+      let further : List Tok = spell_further (spell_arguments v vs) in
+      let front : List Tok = keyword words.Collection ∷ spell_collection v i in
+      arguments_step v (actual_collection i) vs d c (length ((front ++ further) ++ rest)) rest (collection_argument_again v i d c (further ++ rest) (collection_again v i d c (further ++ rest) (omega (arith, small)) (omega arith) (omega arith) (omega arith) known.0))
+      (further_arguments_again v vs d (length ((front ++ further) ++ rest)) (counts_with_collection c i) rest small (long_enough front (spell_arguments v vs) rest) (omega arith) (omega arith) (omega arith) known.1)
   listed_arguments_again v (closed_argument t vs) d c rest small deep few_terms few_expressions known = absurd (omega (arith, small, deep))
   listed_arguments_again v (value_argument e vs) d c rest small deep few_terms few_expressions known =
       let further : List Tok = spell_further (spell_arguments v vs) in
@@ -493,9 +587,13 @@ mutual
 
   -- further arguments
   further_arguments_again : (v : Version) (vs : Arguments) (d n : ℕ) (c : Counts) (rest : List Tok) → d ≤ 63 → length (spell_arguments v vs) ≤ n → arguments_depth vs ≤ d → c.terms + terms_in_arguments vs ≤ 100000 → c.expressions + expressions_in_arguments vs ≤ 100000 → WritesArguments v d vs
-      → parse_further no_arguments (parse_arguments n d v (parse_term d v) c) (spell_further (spell_arguments v vs) ++ rest) ≡ got vs rest
+      → parse_further no_arguments (parse_arguments n d v (parse_term d v) (parse_collection d v) c) (spell_further (spell_arguments v vs) ++ rest) ≡ got vs rest
   further_arguments_again v no_arguments d n c rest small enough deep few_terms few_expressions known = refl
-  further_arguments_again v (collection_argument i vs) d n c rest small enough deep few_terms few_expressions known = absurd known
+  further_arguments_again v (collection_argument i vs) d zero c rest small enough deep few_terms few_expressions known = absurd (omega arith)
+  further_arguments_again v (collection_argument i vs) d (suc n) c rest small enough deep few_terms few_expressions known =
+      let behind : List Tok = spell_further (spell_arguments v vs) ++ rest in
+      arguments_step v (actual_collection i) vs d c n rest (collection_argument_again v i d c behind (collection_again v i d c behind (omega (arith, small)) (omega arith) (omega arith) (omega arith) known.0))
+      (further_arguments_again v vs d n (counts_with_collection c i) rest small (omega arith) (omega arith) (omega arith) (omega arith) known.1)
   further_arguments_again v (closed_argument t vs) d n c rest small enough deep few_terms few_expressions known = absurd (omega (arith, small, deep))
   further_arguments_again v (value_argument e vs) d zero c rest small enough deep few_terms few_expressions known = absurd (omega arith)
   further_arguments_again v (process_argument t vs) d zero c rest small enough deep few_terms few_expressions known = absurd (omega arith)
@@ -508,15 +606,39 @@ mutual
       arguments_step v (actual_process t) vs d c n rest (process_argument_again v t d c behind (term_again v t d c behind (omega (arith, small)) (omega arith) (omega arith) (omega arith) known.0))
       (further_arguments_again v vs d n (counts_with c t) rest small (omega arith) (omega arith) (omega arith) (omega arith) known.1)
 
+-- the types of a collection's keys
+key_kind_again : (v : Version) (k : KeyKind) (rest : List Tok) → WritesKeys v k → parse_key_kind v (spell_key_kind v k ++ rest) ≡ got k rest
+key_kind_again versions.One int_keys rest known = refl
+key_kind_again versions.One text_keys rest known = absurd known
+key_kind_again versions.Two int_keys rest known = refl
+key_kind_again versions.Two text_keys rest known = refl
+
+-- a parameter that is a collection
+collection_kind_again : (v : Version) {x : Name} (k : KeyKind) (t u : Kind) (rest : List Tok) → WritesKeys v k × IsWrittenType v 64 t × IsWrittenType v 64 u
+    → parse_parameter v (spell_parameter v (x, collection_kind k t u) ++ rest) ≡ got (x, collection_kind k t u) rest
+unfolding parse_parameter parse_name_kind parse_collection_kind
+collection_kind_again v k t u rest known =
+    let closing : List Tok = symbol symbols.CloseBracket ∷ rest in
+    let behind : List Tok = symbol symbols.Leads ∷ (spell_type v u ++ closing) in
+    rw (
+      append_assoc (spell_key_kind v k) (spell_type v t ++ (symbol symbols.Leads ∷ (spell_type v u ++ (symbol symbols.CloseBracket ∷ [])))) rest,
+      append_assoc (spell_type v t) (symbol symbols.Leads ∷ (spell_type v u ++ (symbol symbols.CloseBracket ∷ []))) rest,
+      append_assoc (spell_type v u) (symbol symbols.CloseBracket ∷ []) rest,
+      key_kind_again v k (spell_type v t ++ behind) known.0,
+      inner_type_again v t 64 (spell_type v t ++ behind) 0 behind known.1.shallow (omega (arith, known.1.few)) known.1.known,
+      inner_type_again v u 64 (spell_type v u ++ closing) 0 closing known.2.shallow (omega (arith, known.2.few)) known.2.known,
+    ) refl
+
 -- a parameter
 parameter_again : (v : Version) (q : Name × NameKind) (rest : List Tok) → behind_leads rest ≡ None → WritesNameKind v q.1 → parse_parameter v (spell_parameter v q ++ rest) ≡ got q rest
 unfolding parse_parameter parse_name_kind
-parameter_again v (x, value_kind t) rest next known = rw (inner_type_again v t 64 (spell_type v t ++ rest) 0 rest known.shallow (omega (arith, known.few)) known.known, next) refl
-parameter_again v (x, collection_kind k t u) rest next known = absurd known
+parameter_again v (x, value_kind t) rest next known = rw (no_list v t rest, inner_type_again v t 64 (spell_type v t ++ rest) 0 rest known.shallow (omega (arith, known.few)) known.known, next) refl
+parameter_again v (x, collection_kind k t u) rest next known = collection_kind_again v k t u rest known
 parameter_again v (x, process_kind t u) rest next known =
     let behind : List Tok = symbol symbols.Leads ∷ (spell_type v u ++ rest) in
     rw (
       append_assoc (spell_type v t) (symbol symbols.Leads ∷ spell_type v u) rest,
+      no_list v t behind,
       inner_type_again v t 64 (spell_type v t ++ behind) 0 behind known.0.shallow (omega (arith, known.0.few)) known.0.known,
       inner_type_again v u 64 (spell_type v u ++ rest) 0 rest known.1.shallow (omega (arith, known.1.few)) known.1.known,
     ) refl

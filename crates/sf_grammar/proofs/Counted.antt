@@ -22,15 +22,16 @@ use Rattle.sf_term.specs.declared.node.Argument.TheVariants as argument_forms
 use Rattle.sf_term.specs.declared.program.Program.{Program}
 use Rattle.sf_term.specs.Parameters.{PlacedParameter, parameters_of}
 use Rattle.sf_term.specs.Headers.{Header}
-use Rattle.sf_term.specs.Arena.{expressions_of, expression_under, expression_node_at, pattern_under, arguments_under, arguments_of, function_in, tree, template_in}
+use Rattle.sf_term.specs.declared.collection.CollExpr.{CollExpr}
+use Rattle.sf_term.specs.Arena.{collection_under, collection_of, collection_at, expressions_of, expression_under, expression_node_at, pattern_under, arguments_under, arguments_of, function_in, tree, template_in}
 use Rattle.sf_term.proofs.Kept.{node_builds}
 use Rattle.sf_lex.specs.declared.word.Keyword.TheVariants as words
 use Rattle.sf_lex.specs.declared.symbol.Symbol.TheVariants as symbols
 use Rattle.sf_refusal.specs.declared.spot.Spot.{Spot}
 use Rattle.sf_lex.specs.Tokens.{Tok, keyword, name, symbol}
 use Rattle.sf_grammar.specs.declared.ty.Version.{Version}
-use Rattle.sf_grammar.specs.Spelling.{value_word, in_brackets, operator_token, join_symbol, spell_mapping, spell_pattern, spell_expression, spell_function, spell_further, spell_listed, spell_term, spell_arguments, spell_parameter, spell_signature, spell_template}
-use Rattle.sf_grammar.specs.Placing.{around, PatternPlaced, unnamed_placed, name_placed, both_placed, ExpressionPlaced, unit_placed, truth_placed, number_placed, constant_placed, variable_placed, pair_placed, prefixed_placed, one_in_brackets_placed, operation_placed, two_in_brackets_placed, conditional_placed, let_placed, one_and_function_placed, two_and_function_placed, called_placed, FunctionPlaced, function_placed, TermPlaced, bare_placed, never_placed, with_value_placed, initialized_placed, timed_placed, selected_placed, arrow_placed, accumulated_placed, joined_placed, sided_placed, headed_placed, transformed_placed, switching_placed, named_placed, keeping_placed, call_placed, ArgumentsPlaced, no_arguments_placed, some_arguments_placed, EachArgumentPlaced, no_argument_placed, argument_placed, ArgumentPlaced, value_argument_placed, process_argument_placed, EachParameterPlaced, no_parameter_placed, parameter_placed, ParametersPlaced, no_parameters_placed, some_parameters_placed, TemplatePlaced}
+use Rattle.sf_grammar.specs.Spelling.{value_word, in_brackets, operator_token, join_symbol, spell_mapping, spell_pattern, spell_expression, spell_function, spell_further, spell_listed, spell_term, spell_collection, spell_arguments, spell_parameter, spell_signature, spell_template}
+use Rattle.sf_grammar.specs.Placing.{CollectionPlaced, gathered_placed, releasing_placed, editing_placed, empty_placed, used_placed, added_placed, dropped_placed, kept_placed, chosen_placed, collection_argument_placed, around, PatternPlaced, unnamed_placed, name_placed, both_placed, ExpressionPlaced, unit_placed, truth_placed, number_placed, constant_placed, variable_placed, pair_placed, prefixed_placed, one_in_brackets_placed, operation_placed, two_in_brackets_placed, conditional_placed, let_placed, one_and_function_placed, two_and_function_placed, called_placed, FunctionPlaced, function_placed, TermPlaced, bare_placed, never_placed, with_value_placed, initialized_placed, timed_placed, selected_placed, arrow_placed, accumulated_placed, joined_placed, sided_placed, headed_placed, transformed_placed, switching_placed, named_placed, keeping_placed, call_placed, ArgumentsPlaced, no_arguments_placed, some_arguments_placed, EachArgumentPlaced, no_argument_placed, argument_placed, ArgumentPlaced, value_argument_placed, process_argument_placed, EachParameterPlaced, no_parameter_placed, parameter_placed, ParametersPlaced, no_parameters_placed, some_parameters_placed, TemplatePlaced}
 use Rattle.sf_grammar.proofs.Words.{named_alone}
 
 around_counted : (xs ys : List Spot) (us vs : List Tok) (opening between closing : Spot) (t : Tok) → length xs ≡ length us → length ys ≡ length vs → length (around opening xs between ys closing) ≡ length (in_brackets us t vs)
@@ -150,18 +151,21 @@ function_counted v p f xs (function_placed {xs = us} {ys = vs} leads held patter
 abbrev argument_tokens : Version → Program → Argument → List Tok
 argument_tokens v p (argument_forms.Value e) = spell_expression v (expression_under p e)
 argument_tokens v p (argument_forms.Process t) = keyword words.SignalFunction ∷ spell_term v (tree p t)
+argument_tokens v p (argument_forms.Collection i) = keyword words.Collection ∷ spell_collection v (collection_at p i)
 
 -- further arguments, one by one
 further_one : (v : Version) (p : Program) (a : Argument) (bs : List Argument)
     → length (spell_further (spell_arguments v (arguments_of p (a ∷ bs)))) ≡ suc (length (argument_tokens v p a) + length (spell_further (spell_arguments v (arguments_of p bs))))
 further_one v p (argument_forms.Value e) bs = ap suc (length-append (spell_expression v (expression_under p e)) (spell_further (spell_arguments v (arguments_of p bs))))
 further_one v p (argument_forms.Process t) bs = omega (arith, length-append (spell_term v (tree p t)) (spell_further (spell_arguments v (arguments_of p bs))))
+further_one v p (argument_forms.Collection i) bs = omega (arith, length-append (spell_collection v (collection_at p i)) (spell_further (spell_arguments v (arguments_of p bs))))
 
 -- the first of further arguments stands behind a comma
 listed_one : (v : Version) (p : Program) (a : Argument) (bs : List Argument)
     → length (spell_further (spell_arguments v (arguments_of p (a ∷ bs)))) ≡ suc (length (spell_listed (spell_arguments v (arguments_of p (a ∷ bs)))))
 listed_one v p (argument_forms.Value e) bs = refl
 listed_one v p (argument_forms.Process t) bs = refl
+listed_one v p (argument_forms.Collection i) bs = refl
 
 mutual
   pub term_counted : (v : Version) (p : Program) (t : TermId) (xs : List Spot) → TermPlaced v p t xs → length xs ≡ length (spell_term v (tree p t))
@@ -202,6 +206,35 @@ mutual
       rw (node_builds p t _ s.node)
       (ap suc (around_counted us (vs ++ (second ∷ place ∷ third ∷ (ps ++ (leads ∷ zs)))) (spell_term v (tree p a)) (spell_term v (tree p b) ++ (symbol symbols.Comma ∷ name (name_at (expressions_of p) k) ∷ symbol symbols.Comma ∷ spell_mapping names body)) opening comma closing (symbol symbols.Comma) (term_counted v p a us one)
       (between_counted vs (place ∷ third ∷ (ps ++ (leads ∷ zs))) (spell_term v (tree p b)) (name (name_at (expressions_of p) k) ∷ symbol symbols.Comma ∷ spell_mapping names body) second (symbol symbols.Comma) (term_counted v p b vs two) (ap suc (ap suc mapping)))))
+  term_counted v p t xs (gathered_placed {i = i} {xs = us} s held members) = rw (node_builds p t _ s.node) (ap suc (members_counted v p (collection_under p i) us members))
+  term_counted v p t xs (releasing_placed {n = n} {xs = us} {ys = vs} {ps = ps} {zs = zs} opening comma second third leads closing s held members observer pattern three) =
+      let names : List Tok = spell_pattern (pattern_of (pattern_under p n.pattern)) in
+      let body : List Tok = spell_term v (tree p n.body) in
+      let known : List Tok = name (name_at (expressions_of p) n.name) ∷ symbol symbols.Comma ∷ spell_mapping names body in
+      let mapping = between_counted ps zs names body leads (symbol symbols.MapsTo) (pattern_counted (pattern_under p n.pattern) ps pattern.placed) (term_counted v p n.body zs three) in
+      rw (node_builds p t _ s.node)
+      (ap suc (around_counted us (vs ++ (second ∷ n.place ∷ third ∷ (ps ++ (leads ∷ zs)))) (spell_collection v (collection_at p n.members)) (spell_term v (tree p n.observer) ++ (symbol symbols.Comma ∷ known)) opening comma closing (symbol symbols.Comma) (members_counted v p (collection_under p n.members) us members)
+      (between_counted vs (n.place ∷ third ∷ (ps ++ (leads ∷ zs))) (spell_term v (tree p n.observer)) known second (symbol symbols.Comma) (term_counted v p n.observer vs observer) (ap suc (ap suc mapping)))))
+  term_counted v p t xs (editing_placed {n = n} {xs = us} {ps = ps} {ys = vs} opening comma second leads closing s held members pattern there edit) =
+      let names : List Tok = spell_pattern (pattern_of (pattern_under p n.pattern)) in
+      let edited : List Tok = spell_collection v (collection_at p n.edit) in
+      let mapping = between_counted ps vs names edited leads (symbol symbols.MapsTo) (pattern_counted (pattern_under p n.pattern) ps pattern.placed) (members_counted v p (collection_under p n.edit) vs edit) in
+      rw (node_builds p t _ s.node)
+      (ap suc (around_counted us (n.place ∷ second ∷ (ps ++ (leads ∷ vs))) (spell_collection v (collection_at p n.members)) (name (name_at (expressions_of p) n.name) ∷ symbol symbols.Comma ∷ spell_mapping names edited) opening comma closing (symbol symbols.Comma) (members_counted v p (collection_under p n.members) us members) (ap suc (ap suc mapping))))
+
+  members_counted : (v : Version) (p : Program) (c : CollExpr) (xs : List Spot) → CollectionPlaced v p c xs → length xs ≡ length (spell_collection v (collection_of p c))
+  members_counted v p c xs (empty_placed counted) = counted
+  members_counted v p c xs used_placed = refl
+  members_counted v p c xs (added_placed {c = d} {e = e} {t = t} {xs = us} {ys = vs} {zs = ws} opening comma second closing members key term) =
+      ap suc (around_counted us (vs ++ (second ∷ ws)) (spell_collection v (collection_of p d)) (spell_expression v (expression_under p e) ++ (symbol symbols.Comma ∷ spell_term v (tree p t))) opening comma closing (symbol symbols.Comma) (members_counted v p d us members)
+      (between_counted vs ws (spell_expression v (expression_under p e)) (spell_term v (tree p t)) second (symbol symbols.Comma) (expression_counted v p e vs key) (term_counted v p t ws term)))
+  members_counted v p c xs (dropped_placed {c = d} {e = e} {xs = us} {ys = vs} opening comma closing members key) =
+      ap suc (around_counted us vs (spell_collection v (collection_of p d)) (spell_expression v (expression_under p e)) opening comma closing (symbol symbols.Comma) (members_counted v p d us members) (expression_counted v p e vs key))
+  members_counted v p c xs (kept_placed {c = d} {f = f} {xs = us} {ys = vs} opening comma closing members function) =
+      ap suc (around_counted us vs (spell_collection v (collection_of p d)) (spell_function v (function_in p f)) opening comma closing (symbol symbols.Comma) (members_counted v p d us members) (function_counted v p f vs function))
+  members_counted v p c xs (chosen_placed {e = e} {c = d} {d = f} {xs = us} {ys = vs} {zs = ws} then_at else_at condition one other) =
+      ap suc (between_counted us (vs ++ (else_at ∷ ws)) (spell_expression v (expression_under p e)) (spell_collection v (collection_of p d) ++ (keyword words.Else ∷ spell_collection v (collection_of p f))) then_at (keyword words.Then) (expression_counted v p e us condition)
+      (between_counted vs ws (spell_collection v (collection_of p d)) (spell_collection v (collection_of p f)) else_at (keyword words.Else) (members_counted v p d vs one) (members_counted v p f ws other)))
 
   arguments_counted : (v : Version) (p : Program) (bs : List Argument) (xs : List Spot) → ArgumentsPlaced v p bs xs → length xs ≡ length (spell_listed (spell_arguments v (arguments_of p bs)))
   arguments_counted v p bs xs (no_arguments_placed closing) = refl
@@ -215,6 +248,7 @@ mutual
   argument_counted : (v : Version) (p : Program) (a : Argument) (xs : List Spot) → ArgumentPlaced v p a xs → length xs ≡ length (argument_tokens v p a)
   argument_counted v p a xs (value_argument_placed {e = e} value) = expression_counted v p e xs value
   argument_counted v p a xs (process_argument_placed {t = t} {xs = us} word process) = ap suc (term_counted v p t us process)
+  argument_counted v p a xs (collection_argument_placed {i = i} {xs = us} word held members) = ap suc (members_counted v p (collection_under p i) us members)
 
 each_parameter_counted : (v : Version) (qs : List PlacedParameter) (xs : List Spot) → EachParameterPlaced v qs xs → length xs + 1 ≡ length (spell_further (map (spell_parameter v) (parameters_of qs)))
 each_parameter_counted v qs xs no_parameter_placed = refl

@@ -18,8 +18,8 @@ use Rattle.sf_value.specs.Values.{KeyKind, int_keys, text_keys}
 use Rattle.sf_grammar.specs.declared.ty.Version.{Version}
 use Rattle.sf_grammar.specs.declared.ty.Version.TheVariants as versions
 use Rattle.sf_lex.specs.declared.word.Keyword.TheVariants as words
-use Rattle.sf_grammar.specs.Spelling.{in_brackets, spell_expression, spell_further, spell_term, version_number, spell_keys, WritesKeys}
-use Rattle.sf_grammar.specs.Reading.{Read, got, stop, ◌and_then◌, parse_symbol, parse_keyword, parse_name, parse_version, parse_keys, parse_separator, Actual, actual_value, actual_process, behind_leads, too_deep, type_met, parse_parts}
+use Rattle.sf_grammar.specs.Spelling.{in_brackets, spell_expression, spell_further, spell_term, spell_collection, version_number, spell_keys, WritesKeys}
+use Rattle.sf_grammar.specs.Reading.{Read, got, stop, ◌and_then◌, parse_symbol, parse_keyword, parse_name, parse_version, parse_keys, parse_separator, Actual, actual_value, actual_process, actual_collection, behind_leads, too_deep, type_met, parse_parts}
 
 -- what was got, and the tokens behind it
 pub record Same {A : Type 0} (a b : A) (r s : List Tok) : Type 0 where
@@ -162,6 +162,7 @@ separator_takes _ more rest e = cc
 abbrev pub spell_actual : Version → Actual → List Tok
 spell_actual v (actual_value e) = spell_expression v e
 spell_actual v (actual_process t) = keyword words.SignalFunction ∷ spell_term v t
+spell_actual v (actual_collection i) = keyword words.Collection ∷ spell_collection v i
 
 -- no process leads on behind a part of a list
 pub no_leads : (xs : List (List Tok)) (rest : List Tok) → behind_leads (spell_further xs ++ rest) ≡ None

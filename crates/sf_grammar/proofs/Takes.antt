@@ -2,7 +2,7 @@
 use Rattle.std.proofs.Common.{◌≡◌, ℕ, zero, suc, ◌+◌, ◌<◌, ◌≤◌, true, false, pos, List, [], ◌∷◌, ◌++◌, Option, Some, None, refl, sym, ◌∙◌, ap, subst, append_assoc, arith, ℤ, Bool, if◌then◌else◌, length, map}
 use Rattle.std.specs.List.{All}
 use Rattle.std.proofs.lemmas.List.Elements.{All-cons, All-nil}
-use Rattle.sf_value.specs.Values.{Name, Kind, pair_kind, event_kind, table_kind, nodes}
+use Rattle.sf_value.specs.Values.{Name, KeyKind, int_keys, Kind, pair_kind, event_kind, table_kind, nodes}
 use Rattle.sf_expr.specs.Expressions.{Pattern, unnamed, named, both, pattern_depth, unit_literal, truth_literal, int_literal, text_literal, none_literal, Expression, variable, literal, applied, operation, conditional, mapped, called, depth as expression_depth, size, Function, function, function_depth, function_size}
 use Rattle.sf_operator.specs.declared.operator.Unary.{Unary}
 use Rattle.sf_operator.specs.declared.operator.Operator.{Operator}
@@ -24,8 +24,8 @@ use Rattle.sf_term.specs.declared.form.Switching.{Switching}
 use Rattle.sf_term.specs.declared.form.Start.TheVariants as starts
 use Rattle.sf_term.specs.declared.form.Naming.{Naming}
 use Rattle.sf_term.specs.declared.form.Naming.TheVariants as namings
-use Rattle.sf_term.specs.Parameters.{NameKind, value as value_kind, process as process_kind, Bindings}
-use Rattle.sf_term.specs.Trees.{Primitive, terms_with_value, bare, never, with_value, timed, selected, arrow, accumulated, Term, primitive, reference, joined, sided, headed, transformed, switching, keeping, call, named_term, Arguments, no_arguments, Template, term_depth, arguments_depth, terms_in, expressions_in, expressions_in_arguments}
+use Rattle.sf_term.specs.Parameters.{NameKind, value as value_kind, process as process_kind, collection as collection_kind, Bindings}
+use Rattle.sf_term.specs.Trees.{Collection, without_members, used, added, dropped, kept, chosen, gathered, releasing, editing, collection_depth, terms_collected, expressions_collected, Primitive, terms_with_value, bare, never, with_value, timed, selected, arrow, accumulated, Term, primitive, reference, joined, sided, headed, transformed, switching, keeping, call, named_term, Arguments, no_arguments, Template, term_depth, arguments_depth, terms_in, expressions_in, expressions_in_arguments}
 use Rattle.sf_lex.specs.declared.word.Keyword.{Keyword}
 use Rattle.sf_lex.specs.declared.word.Keyword.TheVariants as words
 use Rattle.sf_lex.specs.declared.symbol.Symbol.{Symbol}
@@ -34,15 +34,18 @@ use Rattle.sf_lex.specs.Tokens.{Tok, keyword, name, number, text, symbol}
 use Rattle.sf_grammar.specs.declared.ty.Version.{Version}
 use Rattle.sf_grammar.specs.declared.ty.TypeHead.{TypeHead}
 use Rattle.sf_grammar.specs.declared.ty.TypeHead.TheVariants as type_heads
+use Rattle.sf_grammar.specs.declared.ty.Version.TheVariants as versions
 use Rattle.sf_grammar.specs.declared.head.Head.{Head}
 use Rattle.sf_grammar.specs.declared.head.Head.TheVariants as heads
+use Rattle.sf_grammar.specs.declared.head.CollectionHead.{CollectionHead}
+use Rattle.sf_grammar.specs.declared.head.CollectionHead.TheVariants as collection_heads
 use Rattle.sf_grammar.specs.declared.head.ExpressionHead.{ExpressionHead}
 use Rattle.sf_grammar.specs.declared.head.ExpressionHead.TheVariants as expression_heads
 use Rattle.sf_grammar.specs.declared.head.Link.{Link}
 use Rattle.sf_grammar.specs.declared.head.Link.TheVariants as links
-use Rattle.sf_grammar.specs.Spelling.{stands_initially, spell_value, head_makes, in_brackets, version_number, mapping_word, folding_word, spell_keys, spell_type, spell_mapping, spell_pattern, spell_expression, spell_function, spell_further, spell_listed, spell_term, spell_arguments, spell_name_kind, spell_parameter, spell_heading, spell_signature, spell_template, value_word, side_word, heading_token, timing_word, selection_word, accumulation_word, switching_word, keeping_word, naming_token, join_symbol, type_depth, WritesType, IsWrittenType, WritesExpression, WritesFunction, WritesTerm, WritesArguments, WritesNameKind, HasWrittenTypes}
-use Rattle.sf_grammar.specs.Reading.{parse_number, parse_never, parse_timed, parse_selected, Read, got, ◌and_then◌, Counts, counts_with, counts_with_expression, counts_with_function, begins_type, begins_pattern, begins_expression, begins_term, type_head, word_kind, parse_keys, parse_outer_type, parse_headed_type, type_from, parse_inner_type, parse_pair_type, parse_pattern, parse_pattern_pair, link_of, link_from, parse_link, linked, parse_linked, behind_close, bracketed_from, parse_none, expression_head, parse_prefixed, parse_one_in_brackets, parse_two_in_brackets, parse_conditional, parse_mapping, parse_let, mapped_by, folded_by, parse_one_and_function, parse_two_and_function, parse_called, parse_worded_expression, parse_expression, expression_read, parse_function, parse_term, parse_joined, parse_value, parse_arrow, parse_accumulated, parse_sided, parse_headed, parse_transformed, parse_body, parse_switching, parse_named, parse_keeping, Actual, actual_value, actual_process, with_actual, counts_with_actual, behind_sf, argument_from, parse_argument, parse_arguments, parse_call, behind_leads, further_from, parse_further, listed_from, parse_listed, parameter_kind_from, parse_name_kind, parse_parameter, parse_parameters, parse_separator, parse_behind_head, begins_fresh, head_of, join_of, parse_join, join_from, term_read, parse_parts, parse_opening, parse_heading, parse_signature, parse_template, template_of, parse_symbol, parse_name, parse_type, parse_keyword, parse_version}
-use Rattle.sf_grammar.proofs.Words.{IsHeadToken, head_takes, IsFresh, fresh_takes, IsLone, named_alone, keyword_written, join_takes, link_token, LinksBetween, IsLinkToken, link_takes, BeginsWith, expression_head_takes, type_word, type_token, type_head_takes, IsWordKind, word_kind_is, close_takes, leads_takes, sf_takes}
+use Rattle.sf_grammar.specs.Spelling.{releasing_word, editing_word, spell_collection, spell_key_kind, WritesKeys, WritesCollection, stands_initially, spell_value, head_makes, in_brackets, version_number, mapping_word, folding_word, spell_keys, spell_type, spell_mapping, spell_pattern, spell_expression, spell_function, spell_further, spell_listed, spell_term, spell_arguments, spell_name_kind, spell_parameter, spell_heading, spell_signature, spell_template, value_word, side_word, heading_token, timing_word, selection_word, accumulation_word, switching_word, keeping_word, naming_token, join_symbol, type_depth, WritesType, IsWrittenType, WritesExpression, WritesFunction, WritesTerm, WritesArguments, WritesNameKind, HasWrittenTypes}
+use Rattle.sf_grammar.specs.Reading.{parse_number, parse_never, parse_timed, parse_selected, Read, got, ◌and_then◌, Counts, counts_with, counts_with_expression, counts_with_function, begins_type, begins_pattern, begins_expression, begins_term, type_head, word_kind, parse_keys, parse_outer_type, parse_headed_type, type_from, parse_inner_type, parse_pair_type, parse_pattern, parse_pattern_pair, link_of, link_from, parse_link, linked, parse_linked, behind_close, bracketed_from, parse_none, expression_head, parse_prefixed, parse_one_in_brackets, parse_two_in_brackets, parse_conditional, parse_mapping, parse_let, mapped_by, folded_by, parse_one_and_function, parse_two_and_function, parse_called, parse_worded_expression, parse_expression, expression_read, parse_function, parse_term, parse_joined, parse_value, parse_arrow, parse_accumulated, parse_sided, parse_headed, parse_transformed, parse_body, parse_switching, parse_named, parse_keeping, Actual, actual_value, actual_process, with_actual, counts_with_actual, behind_first, behind_list, ArgumentWord, no_word, process_word, collection_word, argument_word, parse_shallow, parse_collection, parse_gathered, parse_releasing, parse_editing, parse_edit, parse_empty, parse_used, parse_added, parse_dropped, parse_kept, parse_chosen, parse_form, parse_collection_form, parse_behind_collection_head, collection_head, begins_collection, parse_key_kind, parse_collection_kind, parse_kind_from, counts_with_collection, actual_collection, argument_from, parse_argument, parse_arguments, parse_call, behind_leads, further_from, parse_further, listed_from, parse_listed, parameter_kind_from, parse_name_kind, parse_parameter, parse_parameters, parse_separator, parse_behind_head, begins_fresh, head_of, join_of, parse_join, join_from, term_read, parse_parts, parse_opening, parse_heading, parse_signature, parse_template, template_of, parse_symbol, parse_name, parse_type, parse_keyword, parse_version}
+use Rattle.sf_grammar.proofs.Words.{IsHeadToken, head_takes, IsFresh, fresh_takes, IsLone, named_alone, keyword_written, join_takes, link_token, LinksBetween, IsLinkToken, link_takes, BeginsWith, expression_head_takes, type_word, type_token, type_head_takes, IsWordKind, word_kind_is, close_takes, leads_takes, process_word_takes, collection_word_takes, list_takes, collection_takes}
 use Rattle.sf_grammar.proofs.Parts.{spell_actual, separator_token, separator_takes, Same, bind_got, got_same, within_takes, deep_takes, met_takes, parts_takes, brackets_took, three_behind, symbol_takes, keyword_takes, name_takes, version_takes, TookKeys, keys_takes}
 
 pub record TookType (v : Version) (d met : ℕ) (tokens : List Tok) (k : Kind) (rest : List Tok) : Type 0 where
@@ -770,6 +773,238 @@ keeping_takes v d c w tokens t rest part few is =
       known = (one.known, two.known, three.known);
     }))))))))
 
+-- ## Collections
+
+-- a collection was taken
+pub record TookCollection (v : Version) (d : ℕ) (c : Counts) (tokens : List Tok) (i : Collection) (rest : List Tok) : Type 0 where
+  pub spelled : tokens ≡ spell_collection v i ++ rest
+  pub shallow : collection_depth i ≤ d
+  pub few : c.expressions + expressions_collected i ≤ 100000
+  pub known : WritesCollection v d i
+
+took_collection_as : (v : Version) (d : ℕ) (c : Counts) (tokens : List Tok) (i j : Collection) (r u : List Tok) → got i r ≡ got j u → TookCollection v d c tokens i r → TookCollection v d c tokens j u
+took_collection_as v d c tokens i j r u is took =
+    let same : Same i j r u = got_same i j r u is in
+    subst (λ (j : Collection). TookCollection v d c tokens j u) same.value (subst (λ (r : List Tok). TookCollection v d c tokens i r) same.rest took)
+
+-- collections that are read are taken
+abbrev pub TakesMembers : Version → ℕ → Type 0
+TakesMembers v d = (c : Counts) (tokens : List Tok) (i : Collection) (rest : List Tok) → c.expressions ≤ 100000 → parse_collection d v c tokens ≡ got i rest → TookCollection v d c tokens i rest
+
+-- Terms and collections that are read are taken.
+pub record TakesParts (v : Version) (d : ℕ) : Type 0 where
+  pub term : Takes v d
+  pub members : TakesMembers v d
+
+empty_takes : (v : Version) (d : ℕ) (c : Counts) (tokens : List Tok) (i : Collection) (rest : List Tok) → c.expressions ≤ 100000 → parse_empty d v tokens ≡ got i rest → TookCollection v (suc d) c (keyword words.Empty ∷ tokens) i rest
+unfolding parse_empty
+empty_takes v d c tokens i rest few is =
+    bind_got (λ k r. parse_inner_type d v r 0 r and_then λ t b. got (without_members k t) b) (parse_keys v tokens) i rest is (λ k r1 at_k is_k.
+    bind_got (λ t b. got (without_members k t) b) (parse_inner_type d v r1 0 r1) i rest is_k (λ t r2 at_t is_t.
+    let one : TookKeys v tokens k r1 = keys_takes v tokens k r1 at_k in
+    let two : TookType v d 0 r1 t r2 = inner_type_takes v d r1 0 r1 t r2 at_t in
+    took_collection_as v (suc d) c (keyword words.Empty ∷ tokens) (without_members k t) i r2 rest is_t (record {
+      spelled = ap (λ r. keyword words.Empty ∷ r) (one.spelled ∙ ap (λ r. spell_keys v k ++ r) two.spelled ∙ sym (append_assoc (spell_keys v k) (spell_type v t) r2));
+      shallow = omega arith;
+      few = omega (arith, few);
+      known = (one.known, written_type v d r1 t r2 two);
+    })))
+
+used_takes : (v : Version) (d : ℕ) (c : Counts) (tokens : List Tok) (i : Collection) (rest : List Tok) → c.expressions ≤ 100000 → parse_used tokens ≡ got i rest → TookCollection v (suc d) c (keyword words.Use ∷ tokens) i rest
+unfolding parse_used
+used_takes v d c tokens i rest few is =
+    bind_got (λ k r. got (used k) r) (parse_name tokens) i rest is (λ k r1 at_k is_k.
+    took_collection_as v (suc d) c (keyword words.Use ∷ tokens) (used k) i r1 rest is_k
+    (record { spelled = ap (λ r. keyword words.Use ∷ r) (name_takes tokens k r1 at_k); shallow = omega arith; few = omega (arith, few); known = tt }))
+
+added_takes : (v : Version) (d : ℕ) (c : Counts) (tokens : List Tok) (i : Collection) (rest : List Tok) → TakesParts v d → c.expressions ≤ 100000
+    → parse_added d v (parse_term d v) (parse_collection d v) c tokens ≡ got i rest → TookCollection v (suc d) c (keyword words.Add ∷ tokens) i rest
+unfolding parse_added
+added_takes v d c tokens i rest part few is =
+    let behind : Collection → List Tok → Read Collection = λ j r. parse_parts (parse_expression d v (counts_with_collection c j)) (parse_symbol symbols.Comma) (λ e. parse_term d v (counts_with_expression (counts_with_collection c j) e)) (λ e _ t rest. got (added j e t) rest) r in
+    bind_got (λ _ r. parse_collection d v c r and_then λ j r. parse_symbol symbols.Comma r and_then λ _ r. behind j r) (parse_symbol symbols.Open tokens) i rest is (λ u r0 opened is_u.
+    bind_got (λ j r. parse_symbol symbols.Comma r and_then λ _ r. behind j r) (parse_collection d v c r0) i rest is_u (λ j r1 at_j is_j.
+    bind_got (λ _ r. behind j r) (parse_symbol symbols.Comma r1) i rest is_j (λ m r2 at_m is_m.
+    parts_takes (parse_expression d v (counts_with_collection c j)) (parse_symbol symbols.Comma) (λ e. parse_term d v (counts_with_expression (counts_with_collection c j) e)) (λ e _ t rest. got (added j e t) rest) r2 i rest is_m
+    (λ e n t r3 r4 r5 r6 at_e at_n at_t closed is_t.
+    let one : TookCollection v d c r0 j r1 = part.members c r0 j r1 few at_j in
+    let two : TookExpression v d (counts_with_collection c j) r2 e r3 = expression_takes v d (counts_with_collection c j) r2 e r3 at_e in
+    let three : Took v d (counts_with_expression (counts_with_collection c j) e) r4 t r5 = part.term (counts_with_expression (counts_with_collection c j) e) r4 t r5 two.few at_t in
+    let member : List Tok = symbol symbols.Comma ∷ spell_term v t in
+    let behind : r2 ≡ (spell_expression v e ++ member) ++ r5 = rw (two.spelled, symbol_takes symbols.Comma r3 n r4 at_n, three.spelled, append_assoc (spell_expression v e) member r5) refl in
+    took_collection_as v (suc d) c (keyword words.Add ∷ tokens) (added j e t) i r6 rest is_t (record {
+      spelled = ap (λ r. keyword words.Add ∷ r) (symbol_takes symbols.Open tokens u r0 opened
+          ∙ brackets_took (spell_collection v j) (spell_expression v e ++ member) r0 r1 r2 r5 r6 (symbol symbols.Comma) one.spelled (symbol_takes symbols.Comma r1 m r2 at_m) behind closed);
+      shallow = omega (arith, one.shallow, two.shallow, three.shallow);
+      few = omega (arith, three.few_expressions);
+      known = (one.known, two.known, three.known);
+    })))))
+
+dropped_takes : (v : Version) (d : ℕ) (c : Counts) (tokens : List Tok) (i : Collection) (rest : List Tok) → TakesParts v d → c.expressions ≤ 100000
+    → parse_dropped d v (parse_collection d v) c tokens ≡ got i rest → TookCollection v (suc d) c (keyword words.Drop ∷ tokens) i rest
+unfolding parse_dropped
+dropped_takes v d c tokens i rest part few is =
+    bind_got (λ _ r. parse_parts (parse_collection d v c) (parse_symbol symbols.Comma) (λ j. parse_expression d v (counts_with_collection c j)) (λ j _ e rest. got (dropped j e) rest) r) (parse_symbol symbols.Open tokens) i rest is (λ u r0 opened is_u.
+    parts_takes (parse_collection d v c) (parse_symbol symbols.Comma) (λ j. parse_expression d v (counts_with_collection c j)) (λ j _ e rest. got (dropped j e) rest) r0 i rest is_u
+    (λ j m e r1 r2 r3 r4 at_j at_m at_e closed is_e.
+    let one : TookCollection v d c r0 j r1 = part.members c r0 j r1 few at_j in
+    let two : TookExpression v d (counts_with_collection c j) r2 e r3 = expression_takes v d (counts_with_collection c j) r2 e r3 at_e in
+    took_collection_as v (suc d) c (keyword words.Drop ∷ tokens) (dropped j e) i r4 rest is_e (record {
+      spelled = ap (λ r. keyword words.Drop ∷ r) (symbol_takes symbols.Open tokens u r0 opened
+          ∙ brackets_took (spell_collection v j) (spell_expression v e) r0 r1 r2 r3 r4 (symbol symbols.Comma) one.spelled (symbol_takes symbols.Comma r1 m r2 at_m) two.spelled closed);
+      shallow = omega (arith, one.shallow, two.shallow);
+      few = omega (arith, two.few);
+      known = (one.known, two.known);
+    })))
+
+kept_takes : (v : Version) (d : ℕ) (c : Counts) (tokens : List Tok) (i : Collection) (rest : List Tok) → TakesParts v d → c.expressions ≤ 100000
+    → parse_kept d v (parse_collection d v) c tokens ≡ got i rest → TookCollection v (suc d) c (keyword words.Keep ∷ tokens) i rest
+unfolding parse_kept
+kept_takes v d c tokens i rest part few is =
+    bind_got (λ _ r. parse_parts (parse_collection d v c) (parse_symbol symbols.Comma) (λ j. parse_function d v (counts_with_collection c j)) (λ j _ f rest. got (kept j f) rest) r) (parse_symbol symbols.Open tokens) i rest is (λ u r0 opened is_u.
+    parts_takes (parse_collection d v c) (parse_symbol symbols.Comma) (λ j. parse_function d v (counts_with_collection c j)) (λ j _ f rest. got (kept j f) rest) r0 i rest is_u
+    (λ j m f r1 r2 r3 r4 at_j at_m at_f closed is_f.
+    let one : TookCollection v d c r0 j r1 = part.members c r0 j r1 few at_j in
+    let two : TookFunction v d (counts_with_collection c j) r2 f r3 = function_takes v d (counts_with_collection c j) r2 f r3 at_f in
+    took_collection_as v (suc d) c (keyword words.Keep ∷ tokens) (kept j f) i r4 rest is_f (record {
+      spelled = ap (λ r. keyword words.Keep ∷ r) (symbol_takes symbols.Open tokens u r0 opened
+          ∙ brackets_took (spell_collection v j) (spell_function v f) r0 r1 r2 r3 r4 (symbol symbols.Comma) one.spelled (symbol_takes symbols.Comma r1 m r2 at_m) two.spelled closed);
+      shallow = omega (arith, one.shallow, two.shallow);
+      few = omega (arith, two.few);
+      known = (one.known, two.known);
+    })))
+
+chosen_takes : (v : Version) (d : ℕ) (c : Counts) (tokens : List Tok) (i : Collection) (rest : List Tok) → TakesParts v d → c.expressions ≤ 100000
+    → parse_chosen d v (parse_collection d v) c tokens ≡ got i rest → TookCollection v (suc d) c (keyword words.If ∷ tokens) i rest
+unfolding parse_chosen
+chosen_takes v d c tokens i rest part few is =
+    let last : Expression → Collection → List Tok → Read Collection = λ e j r. parse_collection d v (counts_with_collection (counts_with_expression c e) j) r and_then λ k r. got (chosen e j k) r in
+    let middle : Expression → List Tok → Read Collection = λ e r. parse_collection d v (counts_with_expression c e) r and_then λ j r. parse_keyword words.Else r and_then λ _ r. last e j r in
+    bind_got (λ e r. parse_keyword words.Then r and_then λ _ r. middle e r) (parse_expression d v c tokens) i rest is (λ e r0 at_e is_e.
+    bind_got (λ _ r. middle e r) (parse_keyword words.Then r0) i rest is_e (λ u r1 at_then is_u.
+    bind_got (λ j r. parse_keyword words.Else r and_then λ _ r. last e j r) (parse_collection d v (counts_with_expression c e) r1) i rest is_u (λ j r2 at_j is_j.
+    bind_got (λ _ r. last e j r) (parse_keyword words.Else r2) i rest is_j (λ w r3 at_else is_w.
+    bind_got (λ k r. got (chosen e j k) r) (parse_collection d v (counts_with_collection (counts_with_expression c e) j) r3) i rest is_w (λ k r4 at_k is_k.
+    let one : TookExpression v d c tokens e r0 = expression_takes v d c tokens e r0 at_e in
+    let two : TookCollection v d (counts_with_expression c e) r1 j r2 = part.members (counts_with_expression c e) r1 j r2 one.few at_j in
+    let three : TookCollection v d (counts_with_collection (counts_with_expression c e) j) r3 k r4 = part.members (counts_with_collection (counts_with_expression c e) j) r3 k r4 two.few at_k in
+    took_collection_as v (suc d) c (keyword words.If ∷ tokens) (chosen e j k) i r4 rest is_k (record {
+      spelled = ap (λ r. keyword words.If ∷ r) (rw (one.spelled, keyword_takes words.Then r0 u r1 at_then, two.spelled, keyword_takes words.Else r2 w r3 at_else, three.spelled)
+          (sym (three_behind (spell_expression v e) (spell_collection v j) (spell_collection v k) r4 (keyword words.Then) (keyword words.Else))));
+      shallow = omega (arith, one.shallow, two.shallow, three.shallow);
+      few = omega (arith, three.few);
+      known = (one.known, two.known, three.known);
+    }))))))
+
+-- what begins with a token begins with the collection's own
+collection_behind_takes : (v : Version) (d : ℕ) (c : Counts) (o : Option CollectionHead) (k : Tok) (tokens : List Tok) (i : Collection) (rest : List Tok) → TakesParts v d → collection_head k ≡ o → c.expressions ≤ 100000
+    → parse_behind_collection_head d v (parse_term d v) (parse_collection d v) c o (k ∷ tokens) tokens ≡ got i rest → TookCollection v (suc d) c (k ∷ tokens) i rest
+collection_behind_takes v d c (Some collection_heads.Empty) k tokens i rest part found few is = rw (collection_takes k collection_heads.Empty found) (empty_takes v d c tokens i rest few is)
+collection_behind_takes v d c (Some collection_heads.Used) k tokens i rest part found few is = rw (collection_takes k collection_heads.Used found) (used_takes v d c tokens i rest few is)
+collection_behind_takes v d c (Some collection_heads.Added) k tokens i rest part found few is = rw (collection_takes k collection_heads.Added found) (added_takes v d c tokens i rest part few is)
+collection_behind_takes v d c (Some collection_heads.Dropped) k tokens i rest part found few is = rw (collection_takes k collection_heads.Dropped found) (dropped_takes v d c tokens i rest part few is)
+collection_behind_takes v d c (Some collection_heads.Kept) k tokens i rest part found few is = rw (collection_takes k collection_heads.Kept found) (kept_takes v d c tokens i rest part few is)
+collection_behind_takes v d c (Some collection_heads.Chosen) k tokens i rest part found few is = rw (collection_takes k collection_heads.Chosen found) (chosen_takes v d c tokens i rest part few is)
+collection_behind_takes v d c None k tokens i rest part found few is = cc
+
+collection_form_takes : (v : Version) (d : ℕ) (c : Counts) (tokens : List Tok) (i : Collection) (rest : List Tok) → TakesParts v d → c.expressions ≤ 100000 → parse_collection_form d v (parse_term d v) (parse_collection d v) c tokens ≡ got i rest → TookCollection v (suc d) c tokens i rest
+collection_form_takes v d c (k ∷ tokens) i rest part few is = collection_behind_takes v d c (collection_head k) k tokens i rest part refl few is
+collection_form_takes v d c [] i rest part few is = cc
+
+gathered_takes : (v : Version) (d : ℕ) (c : Counts) (tokens : List Tok) (t : Term) (rest : List Tok) → TakesParts v d → c.expressions ≤ 100000
+    → parse_gathered (parse_collection d v) c (keyword words.ParB ∷ tokens) tokens ≡ got t rest → Took v (suc d) c (keyword words.ParB ∷ tokens) t rest
+unfolding parse_gathered
+gathered_takes v d c tokens t rest part few is =
+    let start : List Tok = keyword words.ParB ∷ tokens in
+    bind_got (λ i r. term_read c (gathered i) start r) (parse_collection d v c tokens) t rest is (λ i r1 at_i is_i.
+    within_takes (c.terms + terms_in (gathered i)) (gathered i) t start r1 rest is_i (λ few_terms same.
+    let one : TookCollection v d c tokens i r1 = part.members c tokens i r1 few at_i in
+    took_as v (suc d) c start (gathered i) t r1 rest same
+    (record { spelled = ap (λ r. keyword words.ParB ∷ r) one.spelled; shallow = omega (arith, one.shallow); few_terms = few_terms; few_expressions = one.few; known = one.known })))
+
+releasing_takes : (v : Version) (d : ℕ) (c : Counts) (w : Observation) (tokens : List Tok) (t : Term) (rest : List Tok) → TakesParts v d → c.expressions ≤ 100000
+    → parse_releasing d (parse_term d v) (parse_collection d v) c w (keyword (releasing_word w) ∷ tokens) tokens ≡ got t rest → Took v (suc d) c (keyword (releasing_word w) ∷ tokens) t rest
+unfolding parse_releasing
+releasing_takes v d c w tokens t rest part few is =
+    let start : List Tok = keyword (releasing_word w) ∷ tokens in
+    let body : Collection → Term → List Tok → Read (Pattern × Term) = λ i g. parse_body d (parse_term d v) (counts_with (counts_with_collection c i) g) in
+    let whole : Collection → Term → List Tok → Read Term = λ i g r. parse_parts parse_name (parse_symbol symbols.Comma) (λ _. body i g) (λ k _ b rest. term_read c (releasing w i g k b.0 b.1) start rest) r in
+    let others : Collection → List Tok → Read Term = λ i r. parse_term d v (counts_with_collection c i) r and_then λ g r. parse_symbol symbols.Comma r and_then λ _ r. whole i g r in
+    bind_got (λ _ r. parse_collection d v c r and_then λ i r. parse_symbol symbols.Comma r and_then λ _ r. others i r) (parse_symbol symbols.Open tokens) t rest is (λ u r0 opened is_u.
+    bind_got (λ i r. parse_symbol symbols.Comma r and_then λ _ r. others i r) (parse_collection d v c r0) t rest is_u (λ i r1 at_i is_i.
+    bind_got (λ _ r. others i r) (parse_symbol symbols.Comma r1) t rest is_i (λ m r2 at_m is_m.
+    bind_got (λ g r. parse_symbol symbols.Comma r and_then λ _ r. whole i g r) (parse_term d v (counts_with_collection c i) r2) t rest is_m (λ g r3 at_g is_g.
+    bind_got (λ _ r. whole i g r) (parse_symbol symbols.Comma r3) t rest is_g (λ n r4 at_n is_n.
+    parts_takes parse_name (parse_symbol symbols.Comma) (λ _. body i g) (λ k _ b rest. term_read c (releasing w i g k b.0 b.1) start rest) r4 t rest is_n
+    (λ k x b r5 r6 r7 r8 at_k at_x at_b closed is_t.
+    within_takes (c.terms + terms_in (releasing w i g k b.0 b.1)) (releasing w i g k b.0 b.1) t start r8 rest is_t (λ few_terms same.
+    let one : TookCollection v d c r0 i r1 = part.members c r0 i r1 few at_i in
+    let two : Took v d (counts_with_collection c i) r2 g r3 = part.term (counts_with_collection c i) r2 g r3 one.few at_g in
+    let three : TookBody v d (counts_with (counts_with_collection c i) g) r6 b r7 = body_takes v d (counts_with (counts_with_collection c i) g) r6 b r7 part.term two.few_expressions at_b in
+    let mapping : List Tok = symbol symbols.Comma ∷ name k ∷ symbol symbols.Comma ∷ spell_mapping (spell_pattern b.0) (spell_term v b.1) in
+    let behind : r2 ≡ (spell_term v g ++ mapping) ++ r7 =
+    rw (two.spelled, symbol_takes symbols.Comma r3 n r4 at_n, name_takes r4 k r5 at_k, symbol_takes symbols.Comma r5 x r6 at_x, three.spelled, append_assoc (spell_term v g) mapping r7) refl in
+    took_as v (suc d) c start (releasing w i g k b.0 b.1) t r8 rest same (record {
+      spelled = ap (λ r. keyword (releasing_word w) ∷ r) (symbol_takes symbols.Open tokens u r0 opened
+          ∙ brackets_took (spell_collection v i) (spell_term v g ++ mapping) r0 r1 r2 r7 r8 (symbol symbols.Comma) one.spelled (symbol_takes symbols.Comma r1 m r2 at_m) behind closed);
+      shallow = omega (arith, one.shallow, two.shallow, three.pattern, three.shallow);
+      few_terms = few_terms;
+      few_expressions = omega (arith, three.few_expressions);
+      known = (one.known, two.known, three.known);
+    }))))))))
+
+-- an edit was taken
+pub record TookEdit (v : Version) (d : ℕ) (c : Counts) (tokens : List Tok) (b : Pattern × Collection) (rest : List Tok) : Type 0 where
+  pub spelled : tokens ≡ spell_mapping (spell_pattern b.0) (spell_collection v b.1) ++ rest
+  pub pattern : pattern_depth b.0 ≤ d
+  pub shallow : collection_depth b.1 ≤ d
+  pub few : c.expressions + expressions_collected b.1 ≤ 100000
+  pub known : WritesCollection v d b.1
+
+edit_takes : (v : Version) (d : ℕ) (c : Counts) (tokens : List Tok) (b : Pattern × Collection) (rest : List Tok) → TakesMembers v d → c.expressions ≤ 100000
+    → parse_edit d (parse_collection d v) c tokens ≡ got b rest → TookEdit v d c tokens b rest
+edit_takes v d c tokens b rest part few is =
+    bind_got (λ p r. parse_symbol symbols.MapsTo r and_then λ _ r. parse_collection d v c r and_then λ i r. got (p, i) r) (parse_pattern d tokens) b rest is (λ p r1 at_p is_p.
+    bind_got (λ _ r. parse_collection d v c r and_then λ i r. got (p, i) r) (parse_symbol symbols.MapsTo r1) b rest is_p (λ m r2 at_m is_m.
+    bind_got (λ i r. got (p, i) r) (parse_collection d v c r2) b rest is_m (λ i r3 at_i is_i.
+    let one : TookPattern d tokens p r1 = pattern_takes d tokens p r1 at_p in
+    let two : TookCollection v d c r2 i r3 = part c r2 i r3 few at_i in
+    let same : Same (p, i) b r3 rest = got_same (p, i) b r3 rest is_i in
+    let took : TookEdit v d c tokens (p, i) r3 = record {
+      spelled = rw (one.spelled, symbol_takes symbols.MapsTo r1 m r2 at_m, two.spelled, append_assoc (spell_pattern p) (symbol symbols.MapsTo ∷ spell_collection v i) r3) refl;
+      pattern = one.shallow;
+      shallow = two.shallow;
+      few = two.few;
+      known = two.known;
+    } in
+    subst (λ (b : Pattern × Collection). TookEdit v d c tokens b rest) same.value (subst (λ (r : List Tok). TookEdit v d c tokens (p, i) r) same.rest took))))
+
+editing_takes : (v : Version) (d : ℕ) (c : Counts) (w : Observation) (tokens : List Tok) (t : Term) (rest : List Tok) → TakesParts v d → c.expressions ≤ 100000
+    → parse_editing d (parse_collection d v) c w (keyword (editing_word w) ∷ tokens) tokens ≡ got t rest → Took v (suc d) c (keyword (editing_word w) ∷ tokens) t rest
+unfolding parse_editing
+editing_takes v d c w tokens t rest part few is =
+    let start : List Tok = keyword (editing_word w) ∷ tokens in
+    let edit : Collection → List Tok → Read (Pattern × Collection) = λ i. parse_edit d (parse_collection d v) (counts_with_collection c i) in
+    let whole : Collection → List Tok → Read Term = λ i r. parse_parts parse_name (parse_symbol symbols.Comma) (λ _. edit i) (λ k _ b rest. term_read c (editing w i k b.0 b.1) start rest) r in
+    bind_got (λ _ r. parse_collection d v c r and_then λ i r. parse_symbol symbols.Comma r and_then λ _ r. whole i r) (parse_symbol symbols.Open tokens) t rest is (λ u r0 opened is_u.
+    bind_got (λ i r. parse_symbol symbols.Comma r and_then λ _ r. whole i r) (parse_collection d v c r0) t rest is_u (λ i r1 at_i is_i.
+    bind_got (λ _ r. whole i r) (parse_symbol symbols.Comma r1) t rest is_i (λ m r2 at_m is_m.
+    parts_takes parse_name (parse_symbol symbols.Comma) (λ _. edit i) (λ k _ b rest. term_read c (editing w i k b.0 b.1) start rest) r2 t rest is_m
+    (λ k x b r3 r4 r5 r6 at_k at_x at_b closed is_t.
+    within_takes (c.terms + terms_in (editing w i k b.0 b.1)) (editing w i k b.0 b.1) t start r6 rest is_t (λ few_terms same.
+    let one : TookCollection v d c r0 i r1 = part.members c r0 i r1 few at_i in
+    let two : TookEdit v d (counts_with_collection c i) r4 b r5 = edit_takes v d (counts_with_collection c i) r4 b r5 part.members one.few at_b in
+    let mapping : List Tok = name k ∷ symbol symbols.Comma ∷ spell_mapping (spell_pattern b.0) (spell_collection v b.1) in
+    let behind : r2 ≡ mapping ++ r5 = rw (name_takes r2 k r3 at_k, symbol_takes symbols.Comma r3 x r4 at_x, two.spelled) refl in
+    took_as v (suc d) c start (editing w i k b.0 b.1) t r6 rest same (record {
+      spelled = ap (λ r. keyword (editing_word w) ∷ r) (symbol_takes symbols.Open tokens u r0 opened
+          ∙ brackets_took (spell_collection v i) mapping r0 r1 r2 r5 r6 (symbol symbols.Comma) one.spelled (symbol_takes symbols.Comma r1 m r2 at_m) behind closed);
+      shallow = omega (arith, one.shallow, two.pattern, two.shallow);
+      few_terms = few_terms;
+      few_expressions = omega (arith, two.few);
+      known = (one.known, two.known);
+    }))))))
+
 join_from_takes : (o : Option Join) (s : Symbol) (tokens : List Tok) (j : Join) (rest : List Tok) → join_of s ≡ o → join_from o s tokens ≡ got j rest → symbol s ∷ tokens ≡ symbol (join_symbol j) ∷ rest
 join_from_takes (Some i) s tokens j rest found is =
     let same = got_same i j tokens rest is in
@@ -817,26 +1052,37 @@ took_actual_as v d c tokens a b r u is took =
     let same : Same a b r u = got_same a b r u is in
     subst (λ (b : Actual). TookActual v d c tokens b u) same.value (subst (λ (r : List Tok). TookActual v d c tokens a r) same.rest took)
 
-argument_from_takes : (v : Version) (d : ℕ) (c : Counts) (o : Option (List Tok)) (tokens : List Tok) (a : Actual) (rest : List Tok) → Takes v d → c.expressions ≤ 100000 → behind_sf tokens ≡ o
-    → argument_from d v (parse_term d v) c o tokens ≡ got a rest → TookActual v d c tokens a rest
-argument_from_takes v d c (Some r0) tokens a rest part few found is =
+argument_from_takes : (v : Version) (d : ℕ) (c : Counts) (w : ArgumentWord) (tokens : List Tok) (a : Actual) (rest : List Tok) → TakesParts v d → c.expressions ≤ 100000 → argument_word tokens ≡ w
+    → argument_from d v (parse_term d v) (parse_collection d v) c w tokens ≡ got a rest → TookActual v d c tokens a rest
+argument_from_takes v d c process_word tokens a rest part few found is =
+    let r0 : List Tok = behind_first tokens in
     bind_got (λ t r. got (actual_process t) r) (parse_term d v c r0) a rest is (λ t r1 at_t is_t.
-    let one : Took v d c r0 t r1 = part c r0 t r1 few at_t in
+    let one : Took v d c r0 t r1 = part.term c r0 t r1 few at_t in
     took_actual_as v d c tokens (actual_process t) a r1 rest is_t (record {
-      spelled = sf_takes tokens r0 found ∙ ap (λ r. keyword words.SignalFunction ∷ r) one.spelled;
+      spelled = process_word_takes tokens found ∙ ap (λ r. keyword words.SignalFunction ∷ r) one.spelled;
       shallow = omega (arith, one.shallow);
       few = one.few_expressions;
       known = (one.known, tt);
     }))
-argument_from_takes v d c None tokens a rest part few found is =
+argument_from_takes v d c collection_word tokens a rest part few found is =
+    let r0 : List Tok = behind_first tokens in
+    bind_got (λ i r. got (actual_collection i) r) (parse_collection d v c r0) a rest is (λ i r1 at_i is_i.
+    let one : TookCollection v d c r0 i r1 = part.members c r0 i r1 few at_i in
+    took_actual_as v d c tokens (actual_collection i) a r1 rest is_i (record {
+      spelled = collection_word_takes tokens found ∙ ap (λ r. keyword words.Collection ∷ r) one.spelled;
+      shallow = omega (arith, one.shallow);
+      few = one.few;
+      known = (one.known, tt);
+    }))
+argument_from_takes v d c no_word tokens a rest part few found is =
     bind_got (λ e r. got (actual_value e) r) (parse_expression d v c tokens) a rest is (λ e r1 at_e is_e.
     let one : TookExpression v d c tokens e r1 = expression_takes v d c tokens e r1 at_e in
     took_actual_as v d c tokens (actual_value e) a r1 rest is_e (record { spelled = one.spelled; shallow = omega (arith, one.shallow); few = one.few; known = (one.known, tt) }))
 
-argument_takes : (v : Version) (d : ℕ) (c : Counts) (tokens : List Tok) (a : Actual) (rest : List Tok) → Takes v d → c.expressions ≤ 100000
-    → parse_argument d v (parse_term d v) c tokens ≡ got a rest → TookActual v d c tokens a rest
+argument_takes : (v : Version) (d : ℕ) (c : Counts) (tokens : List Tok) (a : Actual) (rest : List Tok) → TakesParts v d → c.expressions ≤ 100000
+    → parse_argument d v (parse_term d v) (parse_collection d v) c tokens ≡ got a rest → TookActual v d c tokens a rest
 unfolding parse_argument
-argument_takes v d c tokens a rest part few is = argument_from_takes v d c (behind_sf tokens) tokens a rest part few refl is
+argument_takes v d c tokens a rest part few is = argument_from_takes v d c (argument_word tokens) tokens a rest part few refl is
 
 -- arguments were taken that are spelled so
 pub record TookArguments (v : Version) (d : ℕ) (c : Counts) (spelled : List Tok) (tokens : List Tok) (vs : Arguments) (rest : List Tok) : Type 0 where
@@ -869,6 +1115,17 @@ some_took v d c (actual_value e) vs tokens r1 rest one others = record {
   };
   further = refl;
 }
+some_took v d c (actual_collection i) vs tokens r1 rest one others =
+    let front : List Tok = keyword words.Collection ∷ spell_collection v i in
+    record {
+      listed = record {
+        split = one.spelled ∙ ap (λ r. front ++ r) others.split ∙ sym (append_assoc front (spell_further (spell_arguments v vs)) rest);
+        shallow = omega (arith, one.shallow, others.shallow);
+        few = omega (arith, others.few);
+        known = (one.known.0, others.known);
+      };
+      further = refl;
+    }
 some_took v d c (actual_process t) vs tokens r1 rest one others =
     let front : List Tok = keyword words.SignalFunction ∷ spell_term v t in
     record {
@@ -901,10 +1158,10 @@ took_listed_as v d c tokens vs ws r u is took =
 
 -- each arguments that are read, so many at most, were taken
 abbrev TakesSome : Version → ℕ → ℕ → Type 0
-TakesSome v d n = (c : Counts) (tokens : List Tok) (vs : Arguments) (rest : List Tok) → c.expressions ≤ 100000 → parse_arguments n d v (parse_term d v) c tokens ≡ got vs rest → TookSome v d c tokens vs rest
+TakesSome v d n = (c : Counts) (tokens : List Tok) (vs : Arguments) (rest : List Tok) → c.expressions ≤ 100000 → parse_arguments n d v (parse_term d v) (parse_collection d v) c tokens ≡ got vs rest → TookSome v d c tokens vs rest
 
 further_from_takes : (v : Version) (d n : ℕ) (c : Counts) (more : Bool) (tokens r0 : List Tok) (vs : Arguments) (rest : List Tok) → TakesSome v d n → c.expressions ≤ 100000 → tokens ≡ separator_token more ∷ r0
-    → further_from no_arguments (parse_arguments n d v (parse_term d v) c) more r0 ≡ got vs rest → TookFurther v d c tokens vs rest
+    → further_from no_arguments (parse_arguments n d v (parse_term d v) (parse_collection d v) c) more r0 ≡ got vs rest → TookFurther v d c tokens vs rest
 further_from_takes v d n c true tokens r0 vs rest takes few comma is =
     let some : TookSome v d c r0 vs rest = takes c r0 vs rest few is in
     record {
@@ -916,36 +1173,36 @@ further_from_takes v d n c true tokens r0 vs rest takes few comma is =
 further_from_takes v d n c false tokens r0 vs rest takes few closed is = took_further_as v d c tokens no_arguments vs r0 rest is (no_arguments_took v d c tokens r0 few closed)
 
 further_takes : (v : Version) (d n : ℕ) (c : Counts) (tokens : List Tok) (vs : Arguments) (rest : List Tok) → TakesSome v d n → c.expressions ≤ 100000
-    → parse_further no_arguments (parse_arguments n d v (parse_term d v) c) tokens ≡ got vs rest → TookFurther v d c tokens vs rest
+    → parse_further no_arguments (parse_arguments n d v (parse_term d v) (parse_collection d v) c) tokens ≡ got vs rest → TookFurther v d c tokens vs rest
 further_takes v d n c tokens vs rest takes few is =
-    bind_got (λ more r. further_from no_arguments (parse_arguments n d v (parse_term d v) c) more r) (parse_separator tokens) vs rest is (λ more r0 at is_more.
+    bind_got (λ more r. further_from no_arguments (parse_arguments n d v (parse_term d v) (parse_collection d v) c) more r) (parse_separator tokens) vs rest is (λ more r0 at is_more.
     further_from_takes v d n c more tokens r0 vs rest takes few (separator_takes tokens more r0 at) is_more)
 
-some_takes : (v : Version) (d n : ℕ) → Takes v d → TakesSome v d n
+some_takes : (v : Version) (d n : ℕ) → TakesParts v d → TakesSome v d n
 unfolding parse_arguments
 some_takes v d zero part c tokens vs rest few is = cc
 some_takes v d (suc n) part c tokens vs rest few is =
-    bind_got (λ a r. parse_further no_arguments (parse_arguments n d v (parse_term d v) (counts_with_actual c a)) r and_then λ ws r. got (with_actual a ws) r) (parse_argument d v (parse_term d v) c tokens) vs rest is (λ a r1 at_a is_a.
-    bind_got (λ ws r. got (with_actual a ws) r) (parse_further no_arguments (parse_arguments n d v (parse_term d v) (counts_with_actual c a)) r1) vs rest is_a (λ ws r2 at_ws is_ws.
+    bind_got (λ a r. parse_further no_arguments (parse_arguments n d v (parse_term d v) (parse_collection d v) (counts_with_actual c a)) r and_then λ ws r. got (with_actual a ws) r) (parse_argument d v (parse_term d v) (parse_collection d v) c tokens) vs rest is (λ a r1 at_a is_a.
+    bind_got (λ ws r. got (with_actual a ws) r) (parse_further no_arguments (parse_arguments n d v (parse_term d v) (parse_collection d v) (counts_with_actual c a)) r1) vs rest is_a (λ ws r2 at_ws is_ws.
     let one : TookActual v d c tokens a r1 = argument_takes v d c tokens a r1 part few at_a in
     let others : TookFurther v d (counts_with_actual c a) r1 ws r2 = further_takes v d n (counts_with_actual c a) r1 ws r2 (some_takes v d n part) one.few at_ws in
     took_some_as v d c tokens (with_actual a ws) vs r2 rest is_ws (some_took v d c a ws tokens r1 r2 one others)))
 
-listed_takes : (v : Version) (d : ℕ) (c : Counts) (o : Option (List Tok)) (tokens : List Tok) (vs : Arguments) (rest : List Tok) → Takes v d → c.expressions ≤ 100000 → behind_close tokens ≡ o
-    → listed_from no_arguments (λ tokens. parse_arguments (suc (length tokens)) d v (parse_term d v) c tokens) o tokens ≡ got vs rest → TookListed v d c tokens vs rest
+listed_takes : (v : Version) (d : ℕ) (c : Counts) (o : Option (List Tok)) (tokens : List Tok) (vs : Arguments) (rest : List Tok) → TakesParts v d → c.expressions ≤ 100000 → behind_close tokens ≡ o
+    → listed_from no_arguments (λ tokens. parse_arguments (suc (length tokens)) d v (parse_term d v) (parse_collection d v) c tokens) o tokens ≡ got vs rest → TookListed v d c tokens vs rest
 listed_takes v d c (Some r0) tokens vs rest part few found is = took_listed_as v d c tokens no_arguments vs r0 rest is (no_arguments_took v d c tokens r0 few (close_takes tokens r0 found))
 listed_takes v d c None tokens vs rest part few found is = (some_takes v d (suc (length tokens)) part c tokens vs rest few is).listed
 
 -- the arguments of a call were taken
-pub arguments_take : (v : Version) (d : ℕ) (c : Counts) (tokens : List Tok) (vs : Arguments) (rest : List Tok) → Takes v d → c.expressions ≤ 100000
-    → parse_listed no_arguments (λ tokens. parse_arguments (suc (length tokens)) d v (parse_term d v) c tokens) tokens ≡ got vs rest → TookListed v d c tokens vs rest
+pub arguments_take : (v : Version) (d : ℕ) (c : Counts) (tokens : List Tok) (vs : Arguments) (rest : List Tok) → TakesParts v d → c.expressions ≤ 100000
+    → parse_listed no_arguments (λ tokens. parse_arguments (suc (length tokens)) d v (parse_term d v) (parse_collection d v) c tokens) tokens ≡ got vs rest → TookListed v d c tokens vs rest
 arguments_take v d c tokens vs rest part few is = listed_takes v d c (behind_close tokens) tokens vs rest part few refl is
 
 -- a name and arguments in brackets
-call_takes : (v : Version) (d : ℕ) (c : Counts) (start : List Tok) (t : Term) (rest : List Tok) → Takes v d → c.expressions ≤ 100000 → parse_call d v (parse_term d v) c start ≡ got t rest → Took v (suc d) c start t rest
+call_takes : (v : Version) (d : ℕ) (c : Counts) (start : List Tok) (t : Term) (rest : List Tok) → TakesParts v d → c.expressions ≤ 100000 → parse_call d v (parse_term d v) (parse_collection d v) c start ≡ got t rest → Took v (suc d) c start t rest
 unfolding parse_call
 call_takes v d c start t rest part few is =
-    let arguments : List Tok → Read Arguments = λ r. parse_listed no_arguments (λ tokens. parse_arguments (suc (length tokens)) d v (parse_term d v) c tokens) r in
+    let arguments : List Tok → Read Arguments = λ r. parse_listed no_arguments (λ tokens. parse_arguments (suc (length tokens)) d v (parse_term d v) (parse_collection d v) c tokens) r in
     bind_got (λ g r. parse_symbol symbols.Open r and_then λ _ r. arguments r and_then λ vs r. term_read c (reference (call g vs)) start r) (parse_name start) t rest is (λ g r0 at_g is_g.
     bind_got (λ _ r. arguments r and_then λ vs r. term_read c (reference (call g vs)) start r) (parse_symbol symbols.Open r0) t rest is_g (λ u r1 opened is_u.
     bind_got (λ vs r. term_read c (reference (call g vs)) start r) (arguments r1) t rest is_u (λ vs r2 at_vs is_vs.
@@ -959,8 +1216,8 @@ call_takes v d c start t rest part few is =
       known = took.known;
     })))))
 
-behind_head_takes : (v : Version) (d : ℕ) (c : Counts) (h : Option Head) (k : Tok) (tokens : List Tok) (t : Term) (rest : List Tok) → Takes v d → head_of k ≡ h → c.expressions ≤ 100000
-    → parse_behind_head d v (parse_term d v) c h (k ∷ tokens) tokens ≡ got t rest → Took v (suc d) c (k ∷ tokens) t rest
+behind_head_takes : (v : Version) (d : ℕ) (c : Counts) (h : Option Head) (k : Tok) (tokens : List Tok) (t : Term) (rest : List Tok) → TakesParts v d → head_of k ≡ h → c.expressions ≤ 100000
+    → parse_behind_head d v (parse_term d v) (parse_collection d v) c h (k ∷ tokens) tokens ≡ got t rest → Took v (suc d) c (k ∷ tokens) t rest
 behind_head_takes v d c (Some (heads.Bare b)) k tokens t rest part found few is =
     let head : IsHeadToken k (heads.Bare b) = head_takes k (heads.Bare b) tt found in
     within_takes (c.terms + 1) (primitive (bare b)) t (k ∷ tokens) tokens rest is (λ few_terms same.
@@ -980,37 +1237,52 @@ behind_head_takes v d c (Some heads.Arrow) k tokens t rest part found few is =
 behind_head_takes v d c (Some (heads.Accumulated a)) k tokens t rest part found few is =
     by_token v d c k (keyword (accumulation_word a)) tokens t rest (λ start. parse_accumulated d v c a start tokens) (head_takes k (heads.Accumulated a) tt found).token is (accumulated_takes v d c a tokens t rest)
 behind_head_takes v d c (Some heads.Joined) k tokens t rest part found few is =
-    by_token v d c k (symbol symbols.Open) tokens t rest (λ start. parse_joined (parse_term d v) c start tokens) (head_takes k heads.Joined tt found).token is (joined_takes v d c tokens t rest part few)
+    by_token v d c k (symbol symbols.Open) tokens t rest (λ start. parse_joined (parse_term d v) c start tokens) (head_takes k heads.Joined tt found).token is (joined_takes v d c tokens t rest part.term few)
 behind_head_takes v d c (Some (heads.Sided s)) k tokens t rest part found few is =
-    by_token v d c k (keyword (side_word s)) tokens t rest (λ start. parse_sided (parse_term d v) c s start tokens) (head_takes k (heads.Sided s) tt found).token is (sided_takes v d c s tokens t rest part few)
+    by_token v d c k (keyword (side_word s)) tokens t rest (λ start. parse_sided (parse_term d v) c s start tokens) (head_takes k (heads.Sided s) tt found).token is (sided_takes v d c s tokens t rest part.term few)
 behind_head_takes v d c (Some (heads.Headed h)) k tokens t rest part found few is =
-    by_token v d c k (heading_token h) tokens t rest (λ start. parse_headed d v (parse_term d v) c h start tokens) (head_takes k (heads.Headed h) tt found).token is (headed_takes v d c h tokens t rest part)
+    by_token v d c k (heading_token h) tokens t rest (λ start. parse_headed d v (parse_term d v) c h start tokens) (head_takes k (heads.Headed h) tt found).token is (headed_takes v d c h tokens t rest part.term)
 behind_head_takes v d c (Some heads.Transformed) k tokens t rest part found few is =
-    by_token v d c k (symbol symbols.MapsFirstInput) tokens t rest (λ start. parse_transformed d v (parse_term d v) c start tokens) (head_takes k heads.Transformed tt found).token is (transformed_takes v d c tokens t rest part)
+    by_token v d c k (symbol symbols.MapsFirstInput) tokens t rest (λ start. parse_transformed d v (parse_term d v) c start tokens) (head_takes k heads.Transformed tt found).token is (transformed_takes v d c tokens t rest part.term)
 behind_head_takes v d c (Some (heads.Switching w)) k tokens t rest part found few is =
-    by_token v d c k (keyword (switching_word w)) tokens t rest (λ start. parse_switching d (parse_term d v) c w start tokens) (head_takes k (heads.Switching w) tt found).token is (switching_takes v d c w tokens t rest part few)
+    by_token v d c k (keyword (switching_word w)) tokens t rest (λ start. parse_switching d (parse_term d v) c w start tokens) (head_takes k (heads.Switching w) tt found).token is (switching_takes v d c w tokens t rest part.term few)
 behind_head_takes v d c (Some (heads.Named w)) k tokens t rest part found few is =
     let head : IsHeadToken k (heads.Named w) = head_takes k (heads.Named w) tt found in
     by_token v d c k (naming_token w) tokens t rest (λ start. parse_named w c start tokens) head.token is (named_takes v d c w tokens t rest few (λ n. keyword_written v w d n head.begins))
 behind_head_takes v d c (Some (heads.Keeping w)) k tokens t rest part found few is =
-    by_token v d c k (keyword (keeping_word w)) tokens t rest (λ start. parse_keeping d (parse_term d v) c w start tokens) (head_takes k (heads.Keeping w) tt found).token is (keeping_takes v d c w tokens t rest part few)
+    by_token v d c k (keyword (keeping_word w)) tokens t rest (λ start. parse_keeping d (parse_term d v) c w start tokens) (head_takes k (heads.Keeping w) tt found).token is (keeping_takes v d c w tokens t rest part.term few)
+behind_head_takes v d c (Some heads.Gathered) k tokens t rest part found few is =
+    by_token v d c k (keyword words.ParB) tokens t rest (λ start. parse_gathered (parse_collection d v) c start tokens) (head_takes k heads.Gathered tt found).token is (gathered_takes v d c tokens t rest part few)
+behind_head_takes v d c (Some (heads.Releasing w)) k tokens t rest part found few is =
+    by_token v d c k (keyword (releasing_word w)) tokens t rest (λ start. parse_releasing d (parse_term d v) (parse_collection d v) c w start tokens) (head_takes k (heads.Releasing w) tt found).token is (releasing_takes v d c w tokens t rest part few)
+behind_head_takes v d c (Some (heads.Editing w)) k tokens t rest part found few is =
+    by_token v d c k (keyword (editing_word w)) tokens t rest (λ start. parse_editing d (parse_collection d v) c w start tokens) (head_takes k (heads.Editing w) tt found).token is (editing_takes v d c w tokens t rest part few)
 behind_head_takes v d c (Some heads.Call) k tokens t rest part found few is = call_takes v d c (k ∷ tokens) t rest part few is
 behind_head_takes v d c None k tokens t rest part found few is = cc
 
 -- a form that begins a process anew, or that its first token begins
-head_at_takes : (v : Version) (d : ℕ) (c : Counts) (fresh : Bool) (k : Tok) (tokens : List Tok) (t : Term) (rest : List Tok) → Takes v d → begins_fresh v (k ∷ tokens) ≡ fresh → c.expressions ≤ 100000
-    → parse_behind_head d v (parse_term d v) c (if fresh then Some (heads.Named (namings.Process starts.Fresh)) else head_of k) (k ∷ tokens) tokens ≡ got t rest → Took v (suc d) c (k ∷ tokens) t rest
+head_at_takes : (v : Version) (d : ℕ) (c : Counts) (fresh : Bool) (k : Tok) (tokens : List Tok) (t : Term) (rest : List Tok) → TakesParts v d → begins_fresh v (k ∷ tokens) ≡ fresh → c.expressions ≤ 100000
+    → parse_behind_head d v (parse_term d v) (parse_collection d v) c (if fresh then Some (heads.Named (namings.Process starts.Fresh)) else head_of k) (k ∷ tokens) tokens ≡ got t rest → Took v (suc d) c (k ∷ tokens) t rest
 head_at_takes v d c true k tokens t rest part found few is =
     let first : IsFresh v k = fresh_takes v k tokens found in
     by_token v d c k (naming_token (namings.Process starts.Fresh)) tokens t rest (λ start. parse_named (namings.Process starts.Fresh) c start tokens) first.token is
     (named_takes v d c (namings.Process starts.Fresh) tokens t rest few (λ n. first.written))
 head_at_takes v d c false k tokens t rest part found few is = behind_head_takes v d c (head_of k) k tokens t rest part refl few is
 
+form_takes : (v : Version) (d : ℕ) (c : Counts) (tokens : List Tok) (t : Term) (rest : List Tok) → TakesParts v d → c.expressions ≤ 100000 → parse_form d v (parse_term d v) (parse_collection d v) c tokens ≡ got t rest → Took v (suc d) c tokens t rest
+form_takes v d c (k ∷ tokens) t rest part few is = head_at_takes v d c (begins_fresh v (k ∷ tokens)) k tokens t rest part refl few is
+form_takes v d c [] t rest part few is = cc
+
+pub parts_taken : (v : Version) (d : ℕ) → TakesParts v d
+unfolding parse_shallow
+parts_taken v zero = record { term = λ c tokens t rest few is. deep_takes begins_term tokens t rest is; members = λ c tokens i rest few is. deep_takes begins_collection tokens i rest is }
+parts_taken v (suc d) = record {
+  term = λ c tokens t rest few is. form_takes v d c tokens t rest (parts_taken v d) few is;
+  members = λ c tokens i rest few is. collection_form_takes v d c tokens i rest (parts_taken v d) few is;
+}
+
 pub term_takes : (v : Version) (d : ℕ) → Takes v d
-unfolding parse_term
-term_takes v zero c tokens t rest few is = deep_takes begins_term tokens t rest is
-term_takes v (suc d) c (k ∷ tokens) t rest few is = head_at_takes v d c (begins_fresh v (k ∷ tokens)) k tokens t rest (term_takes v d) refl few is
-term_takes v (suc d) c [] t rest few is = cc
+term_takes v d = (parts_taken v d).term
 
 -- what was read in front of a header's types and between them and behind
 pub record TookSignature (v : Version) (tokens : List Tok) (s : Kind × Kind) (rest : List Tok) : Type 0 where
@@ -1066,11 +1338,62 @@ parameter_kind_from_takes v t (Some r2) tokens r1 k rest one found is =
 parameter_kind_from_takes v t None tokens r1 k rest one found is =
     took_name_kind_as v tokens (value_kind t) k r1 rest is (record { spelled = one.spelled; known = written_type v 64 tokens t r1 one })
 
-name_kind_takes : (v : Version) (tokens : List Tok) (k : NameKind) (rest : List Tok) → parse_name_kind v tokens ≡ got k rest → TookNameKind v tokens k rest
-unfolding parse_name_kind
-name_kind_takes v tokens k rest is =
+-- the types of a collection's keys were taken
+record TookKeyKind (v : Version) (tokens : List Tok) (k : KeyKind) (rest : List Tok) : Type 0 where
+  pub spelled : tokens ≡ spell_key_kind v k ++ rest
+  pub known : WritesKeys v k
+
+took_key_kind_as : (v : Version) (tokens : List Tok) (j k : KeyKind) (r u : List Tok) → got j r ≡ got k u → TookKeyKind v tokens j r → TookKeyKind v tokens k u
+took_key_kind_as v tokens j k r u is took =
+    let same : Same j k r u = got_same j k r u is in
+    subst (λ (k : KeyKind). TookKeyKind v tokens k u) same.value (subst (λ (r : List Tok). TookKeyKind v tokens j r) same.rest took)
+
+key_kind_takes : (v : Version) (tokens : List Tok) (k : KeyKind) (rest : List Tok) → parse_key_kind v tokens ≡ got k rest → TookKeyKind v tokens k rest
+key_kind_takes versions.One tokens k rest is = took_key_kind_as versions.One tokens int_keys k tokens rest is (record { spelled = refl; known = tt })
+key_kind_takes versions.Two tokens k rest is =
+    bind_got (λ j r. parse_symbol symbols.Colon r and_then λ _ r. got j r) (parse_keys versions.Two tokens) k rest is (λ j r1 at_j is_j.
+    bind_got (λ _ r. got j r) (parse_symbol symbols.Colon r1) k rest is_j (λ u r2 colon is_u.
+    let one : TookKeys versions.Two tokens j r1 = keys_takes versions.Two tokens j r1 at_j in
+    took_key_kind_as versions.Two tokens j k r2 rest is_u (record {
+      spelled = one.spelled ∙ ap (λ r. spell_keys versions.Two j ++ r) (symbol_takes symbols.Colon r1 u r2 colon) ∙ sym (append_assoc (spell_keys versions.Two j) (symbol symbols.Colon ∷ []) r2);
+      known = one.known;
+    })))
+
+-- the types of a collection were taken, behind their opening bracket
+collection_kind_takes : (v : Version) (tokens : List Tok) (k : NameKind) (rest : List Tok) → parse_collection_kind v tokens ≡ got k rest → TookNameKind v (symbol symbols.OpenBracket ∷ tokens) k rest
+unfolding parse_collection_kind
+collection_kind_takes v tokens k rest is =
+    bind_got (λ j r. parse_type v r and_then λ t r. parse_symbol symbols.Leads r and_then λ _ r. parse_type v r and_then λ u r. parse_symbol symbols.CloseBracket r and_then λ _ r. got (collection_kind j t u) r) (parse_key_kind v tokens) k rest is (λ j r1 at_j is_j.
+    bind_got (λ t r. parse_symbol symbols.Leads r and_then λ _ r. parse_type v r and_then λ u r. parse_symbol symbols.CloseBracket r and_then λ _ r. got (collection_kind j t u) r) (parse_type v r1) k rest is_j (λ t r2 at_t is_t.
+    bind_got (λ _ r. parse_type v r and_then λ u r. parse_symbol symbols.CloseBracket r and_then λ _ r. got (collection_kind j t u) r) (parse_symbol symbols.Leads r2) k rest is_t (λ m r3 leads is_m.
+    bind_got (λ u r. parse_symbol symbols.CloseBracket r and_then λ _ r. got (collection_kind j t u) r) (parse_type v r3) k rest is_m (λ u r4 at_u is_u.
+    bind_got (λ _ r. got (collection_kind j t u) r) (parse_symbol symbols.CloseBracket r4) k rest is_u (λ w r5 closed is_w.
+    let one : TookKeyKind v tokens j r1 = key_kind_takes v tokens j r1 at_j in
+    let two : TookType v 64 0 r1 t r2 = inner_type_takes v 64 r1 0 r1 t r2 at_t in
+    let three : TookType v 64 0 r3 u r4 = inner_type_takes v 64 r3 0 r3 u r4 at_u in
+    took_name_kind_as v (symbol symbols.OpenBracket ∷ tokens) (collection_kind j t u) k r5 rest is_w (record {
+      spelled = ap (λ r. symbol symbols.OpenBracket ∷ r) (rw (
+        one.spelled,
+        two.spelled,
+        symbol_takes symbols.Leads r2 m r3 leads,
+        three.spelled,
+        symbol_takes symbols.CloseBracket r4 w r5 closed,
+        append_assoc (spell_key_kind v j) (spell_type v t ++ (symbol symbols.Leads ∷ (spell_type v u ++ (symbol symbols.CloseBracket ∷ [])))) r5,
+        append_assoc (spell_type v t) (symbol symbols.Leads ∷ (spell_type v u ++ (symbol symbols.CloseBracket ∷ []))) r5,
+        append_assoc (spell_type v u) (symbol symbols.CloseBracket ∷ []) r5,
+      ) refl);
+      known = (one.known, written_type v 64 r1 t r2 two, written_type v 64 r3 u r4 three);
+    }))))))
+
+kind_from_takes : (v : Version) (o : Option (List Tok)) (tokens : List Tok) (k : NameKind) (rest : List Tok) → behind_list tokens ≡ o → parse_kind_from v o tokens ≡ got k rest → TookNameKind v tokens k rest
+kind_from_takes v (Some r0) tokens k rest found is = rw (list_takes tokens r0 found) (collection_kind_takes v r0 k rest is)
+kind_from_takes v None tokens k rest found is =
     bind_got (λ t r. parameter_kind_from v t (behind_leads r) r) (parse_type v tokens) k rest is (λ t r1 at_t is_t.
     parameter_kind_from_takes v t (behind_leads r1) tokens r1 k rest (inner_type_takes v 64 tokens 0 tokens t r1 at_t) refl is_t)
+
+name_kind_takes : (v : Version) (tokens : List Tok) (k : NameKind) (rest : List Tok) → parse_name_kind v tokens ≡ got k rest → TookNameKind v tokens k rest
+unfolding parse_name_kind
+name_kind_takes v tokens k rest is = kind_from_takes v (behind_list tokens) tokens k rest refl is
 
 pub record TookParameter (v : Version) (tokens : List Tok) (q : Name × NameKind) (rest : List Tok) : Type 0 where
   pub spelled : tokens ≡ spell_parameter v q ++ rest

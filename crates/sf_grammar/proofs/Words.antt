@@ -38,7 +38,7 @@ use Rattle.sf_lex.specs.declared.word.Keyword.TheVariants as words
 use Rattle.sf_lex.specs.declared.symbol.Symbol.{Symbol}
 use Rattle.sf_lex.specs.declared.symbol.Symbol.TheVariants as symbols
 use Rattle.sf_lex.specs.Tokens.{Tok, keyword, name, symbol}
-use Rattle.sf_value.specs.Values.{Name, KeyKind, int_keys, text_keys, nodes}
+use Rattle.sf_value.specs.Values.{Name, KeyKind, int_keys, text_keys, Kind, unit_kind, bool_kind, int_kind, text_kind, pair_kind, event_kind, table_kind, nodes}
 use Rattle.sf_grammar.specs.declared.ty.Version.{Version}
 use Rattle.sf_grammar.specs.declared.ty.Version.TheVariants as versions
 use Rattle.sf_grammar.specs.declared.ty.WordType.{WordType}
@@ -51,8 +51,10 @@ use Rattle.sf_grammar.specs.declared.head.ExpressionHead.{ExpressionHead}
 use Rattle.sf_grammar.specs.declared.head.ExpressionHead.TheVariants as expression_heads
 use Rattle.sf_grammar.specs.declared.head.Link.{Link}
 use Rattle.sf_grammar.specs.declared.head.Link.TheVariants as links
-use Rattle.sf_grammar.specs.Spelling.{bare_word, value_word, stands_initially, timing_word, selection_word, accumulation_word, side_word, heading_token, switching_word, keeping_word, naming_token, spell_term, has_fresh, WritesStart, WritesTerm, join_symbol, unary_word, takes_brackets, operator_token, stands_between, mapping_word, maps_in_brackets, folding_word, in_brackets, spell_operand, spell_operands, spell_mapping, spell_mapped_so, spell_pattern, spell_type, spell_keys, type_depth, WritesKeys, WritesType, spell_expression}
-use Rattle.sf_grammar.specs.Reading.{head_of, begins_fresh, head_at, join_of, operator_of, link_of, expression_head, type_head, word_kind, got, parse_keys, behind_close, behind_leads, behind_sf}
+use Rattle.sf_grammar.specs.declared.head.CollectionHead.{CollectionHead}
+use Rattle.sf_grammar.specs.declared.head.CollectionHead.TheVariants as collection_heads
+use Rattle.sf_grammar.specs.Spelling.{bare_word, value_word, stands_initially, timing_word, selection_word, accumulation_word, side_word, heading_token, switching_word, keeping_word, releasing_word, editing_word, naming_token, spell_term, has_fresh, WritesStart, WritesTerm, join_symbol, unary_word, takes_brackets, operator_token, stands_between, mapping_word, maps_in_brackets, folding_word, in_brackets, spell_operand, spell_operands, spell_mapping, spell_mapped_so, spell_pattern, spell_type, spell_keys, type_depth, WritesKeys, WritesType, spell_expression}
+use Rattle.sf_grammar.specs.Reading.{head_of, begins_fresh, head_at, join_of, operator_of, link_of, expression_head, type_head, word_kind, got, parse_keys, behind_close, behind_leads, behind_list, behind_first, ArgumentWord, no_word, process_word, collection_word, argument_word, collection_head}
 
 -- the first token of a form; a call begins with any name, of which this is one
 abbrev pub head_token : Head → Tok
@@ -70,6 +72,9 @@ head_token heads.Transformed = symbol symbols.MapsFirstInput
 head_token (heads.Switching w) = keyword (switching_word w)
 head_token (heads.Named w) = naming_token w
 head_token (heads.Keeping w) = keyword (keeping_word w)
+head_token heads.Gathered = keyword words.ParB
+head_token (heads.Releasing w) = keyword (releasing_word w)
+head_token (heads.Editing w) = keyword (editing_word w)
 head_token heads.Call = name []
 
 -- a form that is a name alone begins with a keyword
@@ -129,6 +134,11 @@ head_again (heads.Named (namings.Process starts.Fresh)) begins = absurd begins
 head_again (heads.Named namings.Probe) begins = refl
 head_again (heads.Keeping observations.Immediate) begins = refl
 head_again (heads.Keeping observations.Delayed) begins = refl
+head_again heads.Gathered begins = refl
+head_again (heads.Releasing observations.Immediate) begins = refl
+head_again (heads.Releasing observations.Delayed) begins = refl
+head_again (heads.Editing observations.Immediate) begins = refl
+head_again (heads.Editing observations.Delayed) begins = refl
 head_again heads.Call begins = refl
 
 -- each form but a call has its own first token
@@ -188,6 +198,11 @@ head_takes (keyword words.Run) h own e = head_as (keyword words.Run) (heads.Name
 head_takes (keyword words.Probe) h own e = head_as (keyword words.Probe) (heads.Named namings.Probe) h e refl tt
 head_takes (keyword words.KSwitch) h own e = head_as (keyword words.KSwitch) (heads.Keeping observations.Immediate) h e refl tt
 head_takes (keyword words.DkSwitch) h own e = head_as (keyword words.DkSwitch) (heads.Keeping observations.Delayed) h e refl tt
+head_takes (keyword words.ParB) h own e = head_as (keyword words.ParB) heads.Gathered h e refl tt
+head_takes (keyword words.PSwitchB) h own e = head_as (keyword words.PSwitchB) (heads.Releasing observations.Immediate) h e refl tt
+head_takes (keyword words.DpSwitchB) h own e = head_as (keyword words.DpSwitchB) (heads.Releasing observations.Delayed) h e refl tt
+head_takes (keyword words.RpSwitchB) h own e = head_as (keyword words.RpSwitchB) (heads.Editing observations.Immediate) h e refl tt
+head_takes (keyword words.DrpSwitchB) h own e = head_as (keyword words.DrpSwitchB) (heads.Editing observations.Delayed) h e refl tt
 head_takes (name n) h own e = absurd (let p : heads.Call ≡ h = cc in subst HasOwnToken (sym p) own)
 head_takes _ h own e = cc
 
@@ -436,9 +451,54 @@ pub leads_takes : (tokens rest : List Tok) → behind_leads tokens ≡ Some rest
 leads_takes (symbol symbols.Leads ∷ tokens) rest e = let p : tokens ≡ rest = cc in rw p refl
 leads_takes _ rest e = cc
 
-pub sf_takes : (tokens rest : List Tok) → behind_sf tokens ≡ Some rest → tokens ≡ keyword words.SignalFunction ∷ rest
-sf_takes (keyword words.SignalFunction ∷ tokens) rest e = let p : tokens ≡ rest = cc in rw p refl
-sf_takes _ rest e = cc
+-- the tokens of a word in front of an argument
+abbrev pub word_tokens : ArgumentWord → List Tok
+word_tokens no_word = []
+word_tokens process_word = keyword words.SignalFunction ∷ []
+word_tokens collection_word = keyword words.Collection ∷ []
+
+pub process_word_takes : (tokens : List Tok) → argument_word tokens ≡ process_word → tokens ≡ keyword words.SignalFunction ∷ behind_first tokens
+process_word_takes (keyword words.SignalFunction ∷ tokens) e = refl
+process_word_takes _ e = cc
+
+pub collection_word_takes : (tokens : List Tok) → argument_word tokens ≡ collection_word → tokens ≡ keyword words.Collection ∷ behind_first tokens
+collection_word_takes (keyword words.Collection ∷ tokens) e = refl
+collection_word_takes _ e = cc
+
+pub list_takes : (tokens rest : List Tok) → behind_list tokens ≡ Some rest → tokens ≡ symbol symbols.OpenBracket ∷ rest
+list_takes (symbol symbols.OpenBracket ∷ tokens) rest e = let p : tokens ≡ rest = cc in rw p refl
+list_takes _ rest e = cc
+
+-- no type begins with the bracket of a collection's types
+pub no_list : (v : Version) (t : Kind) (rest : List Tok) → behind_list (spell_type v t ++ rest) ≡ None
+no_list v unit_kind rest = refl
+no_list v bool_kind rest = refl
+no_list v int_kind rest = refl
+no_list v text_kind rest = refl
+no_list v (pair_kind t u) rest = refl
+no_list v (event_kind t) rest = refl
+no_list v (table_kind k t) rest = refl
+
+-- the first token of a collection
+abbrev pub collection_token : CollectionHead → Tok
+collection_token collection_heads.Empty = keyword words.Empty
+collection_token collection_heads.Used = keyword words.Use
+collection_token collection_heads.Added = keyword words.Add
+collection_token collection_heads.Dropped = keyword words.Drop
+collection_token collection_heads.Kept = keyword words.Keep
+collection_token collection_heads.Chosen = keyword words.If
+
+collection_as : (t : Tok) (g h : CollectionHead) → Some g ≡ Some h → t ≡ collection_token g → t ≡ collection_token h
+collection_as t g h same token = let p : g ≡ h = cc in subst (λ h. t ≡ collection_token h) p token
+
+pub collection_takes : (t : Tok) (h : CollectionHead) → collection_head t ≡ Some h → t ≡ collection_token h
+collection_takes (keyword words.Empty) h e = collection_as (keyword words.Empty) collection_heads.Empty h e refl
+collection_takes (keyword words.Use) h e = collection_as (keyword words.Use) collection_heads.Used h e refl
+collection_takes (keyword words.Add) h e = collection_as (keyword words.Add) collection_heads.Added h e refl
+collection_takes (keyword words.Drop) h e = collection_as (keyword words.Drop) collection_heads.Dropped h e refl
+collection_takes (keyword words.Keep) h e = collection_as (keyword words.Keep) collection_heads.Kept h e refl
+collection_takes (keyword words.If) h e = collection_as (keyword words.If) collection_heads.Chosen h e refl
+collection_takes _ h e = cc
 
 operands_open : (between : Bool) (o : Operator) (xs ys rest : List Tok) → stands_between o ≡ between → behind_close (spell_operands between (operator_token o) xs ys ++ rest) ≡ None
 operands_open true o xs ys rest is = refl
@@ -461,51 +521,51 @@ no_close v (mapped e m p f) rest = refl
 no_close v (folded e o f p g) rest = refl
 no_close v (called g e) rest = refl
 
-unary_no_sf : (o : Unary) (rest : List Tok) → behind_sf (keyword (unary_word o) ∷ rest) ≡ None
-unary_no_sf unaries.Not rest = refl
-unary_no_sf unaries.Event rest = refl
-unary_no_sf unaries.First rest = refl
-unary_no_sf unaries.Second rest = refl
-unary_no_sf unaries.IsEvent rest = refl
-unary_no_sf unaries.Size rest = refl
+unary_no_argument_word : (o : Unary) (rest : List Tok) → argument_word (keyword (unary_word o) ∷ rest) ≡ no_word
+unary_no_argument_word unaries.Not rest = refl
+unary_no_argument_word unaries.Event rest = refl
+unary_no_argument_word unaries.First rest = refl
+unary_no_argument_word unaries.Second rest = refl
+unary_no_argument_word unaries.IsEvent rest = refl
+unary_no_argument_word unaries.Size rest = refl
 
-mapping_no_sf : (m : Mapping) (rest : List Tok) → behind_sf (keyword (mapping_word m) ∷ rest) ≡ None
-mapping_no_sf mappings.Let rest = refl
-mapping_no_sf mappings.Filter rest = refl
-mapping_no_sf mappings.Map rest = refl
+mapping_no_argument_word : (m : Mapping) (rest : List Tok) → argument_word (keyword (mapping_word m) ∷ rest) ≡ no_word
+mapping_no_argument_word mappings.Let rest = refl
+mapping_no_argument_word mappings.Filter rest = refl
+mapping_no_argument_word mappings.Map rest = refl
 
-folding_no_sf : (o : Folding) (rest : List Tok) → behind_sf (keyword (folding_word o) ∷ rest) ≡ None
-folding_no_sf foldings.Match rest = refl
-folding_no_sf foldings.Merge rest = refl
-folding_no_sf foldings.Fold rest = refl
+folding_no_argument_word : (o : Folding) (rest : List Tok) → argument_word (keyword (folding_word o) ∷ rest) ≡ no_word
+folding_no_argument_word foldings.Match rest = refl
+folding_no_argument_word foldings.Merge rest = refl
+folding_no_argument_word foldings.Fold rest = refl
 
-operands_no_sf : (o : Operator) (xs ys rest : List Tok) → behind_sf (spell_operands (stands_between o) (operator_token o) xs ys ++ rest) ≡ None
-operands_no_sf (operators.Arithmetic o) xs ys rest = refl
-operands_no_sf (operators.Equality o) xs ys rest = refl
-operands_no_sf (operators.Comparison o) xs ys rest = refl
-operands_no_sf (operators.Logic o) xs ys rest = refl
-operands_no_sf operators.Tag xs ys rest = refl
-operands_no_sf operators.Attach xs ys rest = refl
-operands_no_sf operators.FromEvent xs ys rest = refl
-operands_no_sf operators.Gate xs ys rest = refl
-operands_no_sf (operators.Merge merges.Left) xs ys rest = refl
-operands_no_sf (operators.Merge merges.Right) xs ys rest = refl
-operands_no_sf (operators.Merge merges.Exclusive) xs ys rest = refl
-operands_no_sf operators.Get xs ys rest = refl
+operands_no_argument_word : (o : Operator) (xs ys rest : List Tok) → argument_word (spell_operands (stands_between o) (operator_token o) xs ys ++ rest) ≡ no_word
+operands_no_argument_word (operators.Arithmetic o) xs ys rest = refl
+operands_no_argument_word (operators.Equality o) xs ys rest = refl
+operands_no_argument_word (operators.Comparison o) xs ys rest = refl
+operands_no_argument_word (operators.Logic o) xs ys rest = refl
+operands_no_argument_word operators.Tag xs ys rest = refl
+operands_no_argument_word operators.Attach xs ys rest = refl
+operands_no_argument_word operators.FromEvent xs ys rest = refl
+operands_no_argument_word operators.Gate xs ys rest = refl
+operands_no_argument_word (operators.Merge merges.Left) xs ys rest = refl
+operands_no_argument_word (operators.Merge merges.Right) xs ys rest = refl
+operands_no_argument_word (operators.Merge merges.Exclusive) xs ys rest = refl
+operands_no_argument_word operators.Get xs ys rest = refl
 
--- no expression begins with `sf`
-pub no_sf : (v : Version) (e : Expression) (rest : List Tok) → behind_sf (spell_expression v e ++ rest) ≡ None
-no_sf v (variable x) rest = refl
-no_sf v (literal unit_literal) rest = refl
-no_sf v (literal (truth_literal true)) rest = refl
-no_sf v (literal (truth_literal false)) rest = refl
-no_sf v (literal (int_literal z)) rest = refl
-no_sf v (literal (text_literal s)) rest = refl
-no_sf v (literal (none_literal t)) rest = refl
-no_sf v (paired e f) rest = refl
-no_sf v (applied o e) rest = unary_no_sf o (spell_operand (takes_brackets o) (spell_expression v e) ++ rest)
-no_sf v (operation e o f) rest = operands_no_sf o (spell_expression v e) (spell_expression v f) rest
-no_sf v (conditional e f g) rest = refl
-no_sf v (mapped e m p f) rest = mapping_no_sf m (spell_mapped_so (maps_in_brackets m) (spell_expression v e) (spell_pattern p) (spell_expression v f) ++ rest)
-no_sf v (folded e o f p g) rest = folding_no_sf o (in_brackets (spell_expression v e) (symbol symbols.Comma) (spell_expression v f ++ (symbol symbols.Comma ∷ spell_mapping (spell_pattern p) (spell_expression v g))) ++ rest)
-no_sf v (called g e) rest = refl
+-- no expression begins with the word of another argument
+pub no_argument_word : (v : Version) (e : Expression) (rest : List Tok) → argument_word (spell_expression v e ++ rest) ≡ no_word
+no_argument_word v (variable x) rest = refl
+no_argument_word v (literal unit_literal) rest = refl
+no_argument_word v (literal (truth_literal true)) rest = refl
+no_argument_word v (literal (truth_literal false)) rest = refl
+no_argument_word v (literal (int_literal z)) rest = refl
+no_argument_word v (literal (text_literal s)) rest = refl
+no_argument_word v (literal (none_literal t)) rest = refl
+no_argument_word v (paired e f) rest = refl
+no_argument_word v (applied o e) rest = unary_no_argument_word o (spell_operand (takes_brackets o) (spell_expression v e) ++ rest)
+no_argument_word v (operation e o f) rest = operands_no_argument_word o (spell_expression v e) (spell_expression v f) rest
+no_argument_word v (conditional e f g) rest = refl
+no_argument_word v (mapped e m p f) rest = mapping_no_argument_word m (spell_mapped_so (maps_in_brackets m) (spell_expression v e) (spell_pattern p) (spell_expression v f) ++ rest)
+no_argument_word v (folded e o f p g) rest = folding_no_argument_word o (in_brackets (spell_expression v e) (symbol symbols.Comma) (spell_expression v f ++ (symbol symbols.Comma ∷ spell_mapping (spell_pattern p) (spell_expression v g))) ++ rest)
+no_argument_word v (called g e) rest = refl

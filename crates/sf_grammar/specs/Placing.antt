@@ -31,15 +31,24 @@ use Rattle.sf_term.specs.declared.node.ArgumentsId.{ArgumentsId}
 use Rattle.sf_term.specs.declared.node.Argument.{Argument}
 use Rattle.sf_term.specs.declared.node.Argument.TheVariants as arguments
 use Rattle.sf_term.specs.declared.node.Primitive.TheVariants as primitives
+use Rattle.sf_value.specs.Values.{Kind}
+use Rattle.sf_value.specs.declared.ty.KeyType.{KeyType}
+use Rattle.sf_value.specs.KindView.{key_kind_of}
+use Rattle.sf_term.specs.Trees.{without_members}
+use Rattle.sf_term.specs.declared.collection.CollectionId.{CollectionId}
+use Rattle.sf_term.specs.declared.collection.CollExpr.{CollExpr}
+use Rattle.sf_term.specs.declared.collection.CollExpr.TheVariants as collections
+use Rattle.sf_term.specs.declared.node.Releasing.{Releasing}
+use Rattle.sf_term.specs.declared.node.Editing.{Editing}
 use Rattle.sf_term.specs.declared.node.Node.{Node}
 use Rattle.sf_term.specs.declared.node.Node.TheVariants as nodes
 use Rattle.sf_term.specs.declared.program.Program.{Program}
 use Rattle.sf_term.specs.Parameters.{PlacedParameter, binding_of}
 use Rattle.sf_term.specs.Headers.{Header}
-use Rattle.sf_term.specs.Arena.{HoldsTerm, HoldsExpression, HoldsPatternIn, ProgramHoldsFunction, term_node_at, term_spot_at, expression_under, expression_node_at, expression_spot_at, function_pattern_at, function_body_at, pattern_under, arguments_under, headers_of, template_in, templates_of, tree}
+use Rattle.sf_term.specs.Arena.{HoldsCollection, collection_under, HoldsTerm, HoldsExpression, HoldsPatternIn, ProgramHoldsFunction, term_node_at, term_spot_at, expression_under, expression_node_at, expression_spot_at, function_pattern_at, function_body_at, pattern_under, arguments_under, headers_of, template_in, templates_of, tree}
 use Rattle.sf_lex.specs.Tokens.{Located, place_at}
 use Rattle.sf_grammar.specs.declared.ty.Version.{Version}
-use Rattle.sf_grammar.specs.Spelling.{stands_initially, takes_brackets, stands_between, maps_in_brackets, spell_expression, spell_parameter, spell_signature, IsNetworkText, spell_term}
+use Rattle.sf_grammar.specs.Spelling.{stands_initially, takes_brackets, stands_between, maps_in_brackets, spell_expression, spell_parameter, spell_signature, IsNetworkText, spell_term, spell_collection}
 
 -- the places of two parts in brackets, with a token between them
 abbrev pub around : Spot → List Spot → Spot → List Spot → Spot → List Spot
@@ -132,8 +141,29 @@ mutual
     named_placed : {id : TermId} {w : Naming} {k : NameId} {at place : Spot} → TermStands p id (nodes.Named w k place) at → TermPlaced v p id (at ∷ place ∷ [])
     keeping_placed : {id a b c : TermId} {w : Observation} {k : NameId} {q : PatternId} {xs ys ps zs : List Spot} {at place : Spot} (opening comma second third leads closing : Spot) → TermStands p id (nodes.Keeping w a b k place q c) at
         → TermPlaced v p a xs → TermPlaced v p b ys → PatternStands p q ps → TermPlaced v p c zs → TermPlaced v p id (at ∷ around opening xs comma (ys ++ (second ∷ place ∷ third ∷ (ps ++ (leads ∷ zs)))) closing)
+    gathered_placed : {id : TermId} {i : CollectionId} {xs : List Spot} {at : Spot} → TermStands p id (nodes.Gathered i) at
+        → HoldsCollection p i → CollectionPlaced v p (collection_under p i) xs → TermPlaced v p id (at ∷ xs)
+    releasing_placed : {id : TermId} {n : Releasing} {xs ys ps zs : List Spot} {at : Spot} (opening comma second third leads closing : Spot) → TermStands p id (nodes.Releasing n) at
+        → HoldsCollection p n.members → CollectionPlaced v p (collection_under p n.members) xs → TermPlaced v p n.observer ys → PatternStands p n.pattern ps → TermPlaced v p n.body zs
+        → TermPlaced v p id (at ∷ around opening xs comma (ys ++ (second ∷ n.place ∷ third ∷ (ps ++ (leads ∷ zs)))) closing)
+    editing_placed : {id : TermId} {n : Editing} {xs ps ys : List Spot} {at : Spot} (opening comma second leads closing : Spot) → TermStands p id (nodes.Editing n) at
+        → HoldsCollection p n.members → CollectionPlaced v p (collection_under p n.members) xs → PatternStands p n.pattern ps → HoldsCollection p n.edit → CollectionPlaced v p (collection_under p n.edit) ys
+        → TermPlaced v p id (at ∷ around opening xs comma (n.place ∷ second ∷ (ps ++ (leads ∷ ys))) closing)
     call_placed : {id : TermId} {g : NameId} {a : ArgumentsId} {xs : List Spot} {at : Spot} (opening : Spot) → TermStands p id (nodes.Call g a) at
         → ArgumentsPlaced v p (arguments_under p a) xs → TermPlaced v p id (at ∷ opening ∷ xs)
+
+  -- a collection whose tokens have these places: each of its forms stands at its first token
+  pub data CollectionPlaced (v : Version) (p : Program) : CollExpr → List Spot → Type 0 where
+    empty_placed : {k : KeyType} {t : Kind} {xs : List Spot} {at : Spot} → length (at ∷ xs) ≡ length (spell_collection v (without_members (key_kind_of k) t)) → CollectionPlaced v p (collections.Empty k t at) (at ∷ xs)
+    used_placed : {k : NameId} {at place : Spot} → CollectionPlaced v p (collections.Used k place at) (at ∷ place ∷ [])
+    added_placed : {a : _} {c : CollExpr} {e : ExprId} {t : TermId} {xs ys zs : List Spot} {at : Spot} (opening comma second closing : Spot)
+        → CollectionPlaced v p c xs → ExpressionPlaced v p e ys → TermPlaced v p t zs → CollectionPlaced v p (collections.Added' a c e t at) (at ∷ around opening xs comma (ys ++ (second ∷ zs)) closing)
+    dropped_placed : {a : _} {c : CollExpr} {e : ExprId} {xs ys : List Spot} {at : Spot} (opening comma closing : Spot)
+        → CollectionPlaced v p c xs → ExpressionPlaced v p e ys → CollectionPlaced v p (collections.Dropped' a c e at) (at ∷ around opening xs comma ys closing)
+    kept_placed : {a : _} {c : CollExpr} {f : FunctionId} {xs ys : List Spot} {at : Spot} (opening comma closing : Spot)
+        → CollectionPlaced v p c xs → FunctionPlaced v p f ys → CollectionPlaced v p (collections.Kept' a c f at) (at ∷ around opening xs comma ys closing)
+    chosen_placed : {a b : _} {e : ExprId} {c d : CollExpr} {xs ys zs : List Spot} {at : Spot} (then_at else_at : Spot)
+        → ExpressionPlaced v p e xs → CollectionPlaced v p c ys → CollectionPlaced v p d zs → CollectionPlaced v p (collections.Chosen' e a c b d at) (at ∷ (xs ++ (then_at ∷ (ys ++ (else_at ∷ zs)))))
 
   -- the arguments of a call and the closing bracket, whose tokens have these places
   pub data ArgumentsPlaced (v : Version) (p : Program) : List Argument → List Spot → Type 0 where
@@ -149,6 +179,7 @@ mutual
   pub data ArgumentPlaced (v : Version) (p : Program) : Argument → List Spot → Type 0 where
     value_argument_placed : {e : ExprId} {xs : List Spot} → ExpressionPlaced v p e xs → ArgumentPlaced v p (arguments.Value e) xs
     process_argument_placed : {t : TermId} {xs : List Spot} (word : Spot) → TermPlaced v p t xs → ArgumentPlaced v p (arguments.Process t) (word ∷ xs)
+    collection_argument_placed : {i : CollectionId} {xs : List Spot} (word : Spot) → HoldsCollection p i → CollectionPlaced v p (collection_under p i) xs → ArgumentPlaced v p (arguments.Collection i) (word ∷ xs)
 
 -- a parameter whose tokens have these places: its name stands at the first
 pub record ParameterPlaced (v : Version) (q : PlacedParameter) (places : List Spot) : Type 0 where

@@ -39,8 +39,8 @@ use Rattle.sf_term.specs.declared.form.Switching.TheVariants as switches
 use Rattle.sf_term.specs.declared.form.Start.TheVariants as starts
 use Rattle.sf_term.specs.declared.form.Naming.{Naming}
 use Rattle.sf_term.specs.declared.form.Naming.TheVariants as namings
-use Rattle.sf_term.specs.Parameters.{NameKind, value as value_kind, process as process_kind, Bindings}
-use Rattle.sf_term.specs.Trees.{Term, primitive, reference, joined, sided, transformed, switching, keeping, call, named_term, Arguments, no_arguments, value_argument, process_argument, bare, never, with_value, timed, selected, arrow, accumulated, Template, terms_in, expressions_in}
+use Rattle.sf_term.specs.Parameters.{NameKind, value as value_kind, process as process_kind, collection as collection_kind, Bindings}
+use Rattle.sf_term.specs.Trees.{Term, primitive, reference, joined, sided, transformed, switching, keeping, gathered, releasing, editing, Collection, without_members, used, added, dropped, kept, chosen, call, named_term, Arguments, no_arguments, value_argument, process_argument, collection_argument, bare, never, with_value, timed, selected, arrow, accumulated, Template, terms_in, terms_collected, expressions_in, expressions_collected}
 use Rattle.sf_lex.specs.declared.word.Keyword.{Keyword}
 use Rattle.sf_lex.specs.declared.word.Keyword.TheVariants as words
 use Rattle.sf_lex.specs.declared.symbol.Symbol.{Symbol}
@@ -59,6 +59,8 @@ use Rattle.sf_grammar.specs.declared.ty.TypeHead.{TypeHead}
 use Rattle.sf_grammar.specs.declared.ty.TypeHead.TheVariants as type_heads
 use Rattle.sf_grammar.specs.declared.head.Head.{Head}
 use Rattle.sf_grammar.specs.declared.head.Head.TheVariants as heads
+use Rattle.sf_grammar.specs.declared.head.CollectionHead.{CollectionHead}
+use Rattle.sf_grammar.specs.declared.head.CollectionHead.TheVariants as collection_heads
 use Rattle.sf_grammar.specs.declared.head.ExpressionHead.{ExpressionHead}
 use Rattle.sf_grammar.specs.declared.head.ExpressionHead.TheVariants as expression_heads
 use Rattle.sf_grammar.specs.declared.head.Link.{Link}
@@ -211,9 +213,33 @@ abbrev pub parameter_kind_from : Version → Kind → Option (List Tok) → List
 parameter_kind_from v t (Some rest) tokens = parse_type v rest and_then λ u rest. got (process_kind t u) rest
 parameter_kind_from v t None tokens = got (value_kind t) tokens
 
--- what a parameter stands for: a value of a type, or a process from a type to a type
+-- what stands of the keys behind the bracket of a collection's types
+abbrev pub parse_key_kind : Version → List Tok → Read KeyKind
+parse_key_kind versions.One tokens = got int_keys tokens
+parse_key_kind versions.Two tokens = parse_keys versions.Two tokens and_then λ k rest. parse_symbol symbols.Colon rest and_then λ _ rest. got k rest
+
+-- behind the opening bracket of a collection's types: those of its keys, and of its members' inputs and outputs
+unfoldable pub parse_collection_kind : Version → List Tok → Read NameKind
+parse_collection_kind v tokens =
+    parse_key_kind v tokens and_then λ k rest.
+    parse_type v rest and_then λ t rest.
+    parse_symbol symbols.Leads rest and_then λ _ rest.
+    parse_type v rest and_then λ u rest.
+    parse_symbol symbols.CloseBracket rest and_then λ _ rest.
+    got (collection_kind k t u) rest
+
+-- behind the bracket that begins a collection's types, if it stands in front
+abbrev pub behind_list : List Tok → Option (List Tok)
+behind_list (symbol symbols.OpenBracket ∷ rest) = Some rest
+behind_list _ = None
+
+abbrev pub parse_kind_from : Version → Option (List Tok) → List Tok → Read NameKind
+parse_kind_from v (Some rest) tokens = parse_collection_kind v rest
+parse_kind_from v None tokens = parse_type v tokens and_then λ t rest. parameter_kind_from v t (behind_leads rest) rest
+
+-- what a parameter stands for: a value of a type, a process from a type to a type, or a collection of such processes
 unfoldable pub parse_name_kind : Version → List Tok → Read NameKind
-parse_name_kind v tokens = parse_type v tokens and_then λ t rest. parameter_kind_from v t (behind_leads rest) rest
+parse_name_kind v tokens = parse_kind_from v (behind_list tokens) tokens
 
 unfoldable pub parse_parameter : Version → List Tok → Read (Name × NameKind)
 parse_parameter v tokens = parse_name tokens and_then λ x rest. parse_symbol symbols.Colon rest and_then λ _ rest. parse_name_kind v rest and_then λ k rest. got (x, k) rest
@@ -276,6 +302,10 @@ counts_with_function c f = record { terms = c.terms; expressions = c.expressions
 -- how many it has with a term
 abbrev pub counts_with : Counts → Term → Counts
 counts_with c t = record { terms = c.terms + terms_in t; expressions = c.expressions + expressions_in t }
+
+-- how many it has with a collection
+abbrev pub counts_with_collection : Counts → Collection → Counts
+counts_with_collection c i = record { terms = c.terms + terms_collected i; expressions = c.expressions + expressions_collected i }
 
 -- an expression was read to its end: it may be one too many
 abbrev pub expression_read : Counts → Expression → List Tok → List Tok → Read Expression
@@ -524,6 +554,11 @@ head_of (keyword words.Run) = Some (heads.Named (namings.Process starts.Run))
 head_of (keyword words.Probe) = Some (heads.Named namings.Probe)
 head_of (keyword words.KSwitch) = Some (heads.Keeping observations.Immediate)
 head_of (keyword words.DkSwitch) = Some (heads.Keeping observations.Delayed)
+head_of (keyword words.ParB) = Some heads.Gathered
+head_of (keyword words.PSwitchB) = Some (heads.Releasing observations.Immediate)
+head_of (keyword words.DpSwitchB) = Some (heads.Releasing observations.Delayed)
+head_of (keyword words.RpSwitchB) = Some (heads.Editing observations.Immediate)
+head_of (keyword words.DrpSwitchB) = Some (heads.Editing observations.Delayed)
 head_of (name n) = Some heads.Call
 head_of _ = None
 
@@ -608,48 +643,160 @@ parse_switching left part c w start tokens =
 unfoldable pub parse_named : Naming → Counts → List Tok → List Tok → Read Term
 parse_named w c start tokens = parse_name tokens and_then λ k rest. term_read c (named_term w k) start rest
 
--- an argument of a call: a value, or a term that is a process
+-- the form of a collection that a token begins
+abbrev pub collection_head : Tok → Option CollectionHead
+collection_head (keyword words.Empty) = Some collection_heads.Empty
+collection_head (keyword words.Use) = Some collection_heads.Used
+collection_head (keyword words.Add) = Some collection_heads.Added
+collection_head (keyword words.Drop) = Some collection_heads.Dropped
+collection_head (keyword words.Keep) = Some collection_heads.Kept
+collection_head (keyword words.If) = Some collection_heads.Chosen
+collection_head _ = None
+
+-- behind `empty`: the type of the values, in version 2 behind that of the keys, where so much depth is left
+unfoldable pub parse_empty : ℕ → Version → List Tok → Read Collection
+parse_empty left v tokens = parse_keys v tokens and_then λ k rest. parse_inner_type left v rest 0 rest and_then λ t behind. got (without_members k t) behind
+
+-- behind `use`
+unfoldable pub parse_used : List Tok → Read Collection
+parse_used tokens = parse_name tokens and_then λ k rest. got (used k) rest
+
+-- behind `add`: a collection, the key and the term that are added, where both are read so
+unfoldable pub parse_added : ℕ → Version → (Counts → List Tok → Read Term) → (Counts → List Tok → Read Collection) → Counts → List Tok → Read Collection
+parse_added left v part members c tokens =
+    parse_symbol symbols.Open tokens and_then λ _ rest.
+    members c rest and_then λ i rest.
+    parse_symbol symbols.Comma rest and_then λ _ rest.
+    parse_parts (parse_expression left v (counts_with_collection c i)) (parse_symbol symbols.Comma) (λ e. part (counts_with_expression (counts_with_collection c i) e)) (λ e _ t rest. got (added i e t) rest) rest
+
+-- behind `drop`: a collection and a key
+unfoldable pub parse_dropped : ℕ → Version → (Counts → List Tok → Read Collection) → Counts → List Tok → Read Collection
+parse_dropped left v members c tokens =
+    parse_symbol symbols.Open tokens and_then λ _ rest.
+    parse_parts (members c) (parse_symbol symbols.Comma) (λ i. parse_expression left v (counts_with_collection c i)) (λ i _ e rest. got (dropped i e) rest) rest
+
+-- behind `keep`: a collection and a function
+unfoldable pub parse_kept : ℕ → Version → (Counts → List Tok → Read Collection) → Counts → List Tok → Read Collection
+parse_kept left v members c tokens =
+    parse_symbol symbols.Open tokens and_then λ _ rest.
+    parse_parts (members c) (parse_symbol symbols.Comma) (λ i. parse_function left v (counts_with_collection c i)) (λ i _ f rest. got (kept i f) rest) rest
+
+-- behind `if`: a condition, and a collection behind each of two words
+unfoldable pub parse_chosen : ℕ → Version → (Counts → List Tok → Read Collection) → Counts → List Tok → Read Collection
+parse_chosen left v members c tokens =
+    parse_expression left v c tokens and_then λ e rest.
+    parse_keyword words.Then rest and_then λ _ rest.
+    members (counts_with_expression c e) rest and_then λ i rest.
+    parse_keyword words.Else rest and_then λ _ rest.
+    members (counts_with_collection (counts_with_expression c e) i) rest and_then λ j rest.
+    got (chosen e i j) rest
+
+-- behind the first token of a collection
+abbrev pub parse_behind_collection_head : ℕ → Version → (Counts → List Tok → Read Term) → (Counts → List Tok → Read Collection) → Counts → Option CollectionHead → List Tok → List Tok → Read Collection
+parse_behind_collection_head left v part members c (Some collection_heads.Empty) start tokens = parse_empty left v tokens
+parse_behind_collection_head left v part members c (Some collection_heads.Used) start tokens = parse_used tokens
+parse_behind_collection_head left v part members c (Some collection_heads.Added) start tokens = parse_added left v part members c tokens
+parse_behind_collection_head left v part members c (Some collection_heads.Dropped) start tokens = parse_dropped left v members c tokens
+parse_behind_collection_head left v part members c (Some collection_heads.Kept) start tokens = parse_kept left v members c tokens
+parse_behind_collection_head left v part members c (Some collection_heads.Chosen) start tokens = parse_chosen left v members c tokens
+parse_behind_collection_head left v part members c None start tokens = stop Unexpected start
+
+-- a collection by its first token
+abbrev pub parse_collection_form : ℕ → Version → (Counts → List Tok → Read Term) → (Counts → List Tok → Read Collection) → Counts → List Tok → Read Collection
+parse_collection_form left v part members c (t ∷ rest) = parse_behind_collection_head left v part members c (collection_head t) (t ∷ rest) rest
+parse_collection_form left v part members c [] = stop Unexpected []
+
+abbrev pub begins_collection : Tok → Bool
+begins_collection t = is_some (collection_head t)
+
+-- behind `parB`, with which `start` begins, where the collection is read so
+unfoldable pub parse_gathered : (Counts → List Tok → Read Collection) → Counts → List Tok → List Tok → Read Term
+parse_gathered members c start tokens = members c tokens and_then λ i rest. term_read c (gathered i) start rest
+
+-- behind the word of members that give way to a term, which knows them by a name, where all are read so
+unfoldable pub parse_releasing : ℕ → (Counts → List Tok → Read Term) → (Counts → List Tok → Read Collection) → Counts → Observation → List Tok → List Tok → Read Term
+parse_releasing left part members c w start tokens =
+    parse_symbol symbols.Open tokens and_then λ _ rest.
+    members c rest and_then λ i rest.
+    parse_symbol symbols.Comma rest and_then λ _ rest.
+    part (counts_with_collection c i) rest and_then λ q rest.
+    parse_symbol symbols.Comma rest and_then λ _ rest.
+    parse_parts parse_name (parse_symbol symbols.Comma) (λ _. parse_body left part (counts_with (counts_with_collection c i) q)) (λ k _ b rest. term_read c (releasing w i q k b.0 b.1) start rest) rest
+
+-- an edit: a pattern of so much depth at most, and a collection, where that is read so
+abbrev pub parse_edit : ℕ → (Counts → List Tok → Read Collection) → Counts → List Tok → Read (Pattern × Collection)
+parse_edit left members c tokens =
+    parse_pattern left tokens and_then λ p rest.
+    parse_symbol symbols.MapsTo rest and_then λ _ rest.
+    members c rest and_then λ i rest.
+    got (p, i) rest
+
+-- behind the word of members that are edited, where all are read so
+unfoldable pub parse_editing : ℕ → (Counts → List Tok → Read Collection) → Counts → Observation → List Tok → List Tok → Read Term
+parse_editing left members c w start tokens =
+    parse_symbol symbols.Open tokens and_then λ _ rest.
+    members c rest and_then λ i rest.
+    parse_symbol symbols.Comma rest and_then λ _ rest.
+    parse_parts parse_name (parse_symbol symbols.Comma) (λ _. parse_edit left members (counts_with_collection c i)) (λ k _ b rest. term_read c (editing w i k b.0 b.1) start rest) rest
+
+-- an argument of a call: a value, a term that is a process, or a collection
 pub data Actual : Type 0 where
   actual_value : Expression → Actual
   actual_process : Term → Actual
+  actual_collection : Collection → Actual
 
 -- arguments with one in front of them
 abbrev pub with_actual : Actual → Arguments → Arguments
 with_actual (actual_value e) vs = value_argument e vs
 with_actual (actual_process t) vs = process_argument t vs
+with_actual (actual_collection i) vs = collection_argument i vs
 
 -- how many terms and expressions a program has with an argument
 abbrev pub counts_with_actual : Counts → Actual → Counts
 counts_with_actual c (actual_value e) = counts_with_expression c e
 counts_with_actual c (actual_process t) = counts_with c t
+counts_with_actual c (actual_collection i) = counts_with_collection c i
 
--- behind `sf`, if it stands in front
-abbrev pub behind_sf : List Tok → Option (List Tok)
-behind_sf (keyword words.SignalFunction ∷ rest) = Some rest
-behind_sf _ = None
+-- the word in front of an argument that is no value
+pub data ArgumentWord : Type 0 where
+  no_word : ArgumentWord
+  process_word : ArgumentWord
+  collection_word : ArgumentWord
 
-abbrev pub argument_from : ℕ → Version → (Counts → List Tok → Read Term) → Counts → Option (List Tok) → List Tok → Read Actual
-argument_from left v part c (Some rest) tokens = part c rest and_then λ t rest. got (actual_process t) rest
-argument_from left v part c None tokens = parse_expression left v c tokens and_then λ e rest. got (actual_value e) rest
+-- the word that stands in front of an argument
+abbrev pub argument_word : List Tok → ArgumentWord
+argument_word (keyword words.SignalFunction ∷ rest) = process_word
+argument_word (keyword words.Collection ∷ rest) = collection_word
+argument_word _ = no_word
 
--- an argument, whose expression is of so much depth at most, and whose term is read so
-unfoldable pub parse_argument : ℕ → Version → (Counts → List Tok → Read Term) → Counts → List Tok → Read Actual
-parse_argument left v part c tokens = argument_from left v part c (behind_sf tokens) tokens
+-- the tokens behind the first
+abbrev pub behind_first : List Tok → List Tok
+behind_first [] = []
+behind_first (t ∷ rest) = rest
+
+abbrev pub argument_from : ℕ → Version → (Counts → List Tok → Read Term) → (Counts → List Tok → Read Collection) → Counts → ArgumentWord → List Tok → Read Actual
+argument_from left v part members c no_word tokens = parse_expression left v c tokens and_then λ e rest. got (actual_value e) rest
+argument_from left v part members c process_word tokens = part c (behind_first tokens) and_then λ t rest. got (actual_process t) rest
+argument_from left v part members c collection_word tokens = members c (behind_first tokens) and_then λ i rest. got (actual_collection i) rest
+
+-- an argument, whose expression is of so much depth at most, and whose term or collection is read so
+unfoldable pub parse_argument : ℕ → Version → (Counts → List Tok → Read Term) → (Counts → List Tok → Read Collection) → Counts → List Tok → Read Actual
+parse_argument left v part members c tokens = argument_from left v part members c (argument_word tokens) tokens
 
 -- arguments, so many at most, and the closing bracket behind them
-unfoldable pub parse_arguments : ℕ → ℕ → Version → (Counts → List Tok → Read Term) → Counts → List Tok → Read Arguments
-parse_arguments zero left v part c tokens = stop Unexpected tokens
-parse_arguments (suc n) left v part c tokens =
-    parse_argument left v part c tokens and_then λ a rest.
-    parse_further no_arguments (parse_arguments n left v part (counts_with_actual c a)) rest and_then λ vs rest.
+unfoldable pub parse_arguments : ℕ → ℕ → Version → (Counts → List Tok → Read Term) → (Counts → List Tok → Read Collection) → Counts → List Tok → Read Arguments
+parse_arguments zero left v part members c tokens = stop Unexpected tokens
+parse_arguments (suc n) left v part members c tokens =
+    parse_argument left v part members c tokens and_then λ a rest.
+    parse_further no_arguments (parse_arguments n left v part members (counts_with_actual c a)) rest and_then λ vs rest.
     got (with_actual a vs) rest
 
 -- a call: a template's name and arguments, which are fewer than the tokens
-unfoldable pub parse_call : ℕ → Version → (Counts → List Tok → Read Term) → Counts → List Tok → Read Term
-parse_call left v part c start =
+unfoldable pub parse_call : ℕ → Version → (Counts → List Tok → Read Term) → (Counts → List Tok → Read Collection) → Counts → List Tok → Read Term
+parse_call left v part members c start =
     parse_name start and_then λ g rest.
     parse_symbol symbols.Open rest and_then λ _ rest.
-    parse_listed no_arguments (λ tokens. parse_arguments (suc (length tokens)) left v part c tokens) rest and_then λ vs rest.
+    parse_listed no_arguments (λ tokens. parse_arguments (suc (length tokens)) left v part members c tokens) rest and_then λ vs rest.
     term_read c (reference (call g vs)) start rest
 
 -- behind the word of a term that gives way to another, which knows it by a name, where all are read so
@@ -675,36 +822,54 @@ unfoldable pub parse_joined : (Counts → List Tok → Read Term) → Counts →
 parse_joined part c start tokens = parse_parts (part c) parse_join (λ f. part (counts_with c f)) (λ f j g rest. term_read c (joined j f g) start rest) tokens
 
 -- behind the first token of a form
-abbrev pub parse_behind_head : ℕ → Version → (Counts → List Tok → Read Term) → Counts → Option Head → List Tok → List Tok → Read Term
-parse_behind_head left v part c (Some (heads.Bare b)) start tokens = term_read c (primitive (bare b)) start tokens
-parse_behind_head left v part c (Some (heads.WithValue k)) start tokens = parse_value left v c k start tokens
-parse_behind_head left v part c (Some (heads.Timed k)) start tokens = parse_timed left v c k start tokens
-parse_behind_head left v part c (Some (heads.Selected k)) start tokens = parse_selected c k start tokens
-parse_behind_head left v part c (Some heads.Never) start tokens = parse_never left v c start tokens
-parse_behind_head left v part c (Some heads.Arrow) start tokens = parse_arrow left v c start tokens
-parse_behind_head left v part c (Some (heads.Accumulated k)) start tokens = parse_accumulated left v c k start tokens
-parse_behind_head left v part c (Some heads.Joined) start tokens = parse_joined part c start tokens
-parse_behind_head left v part c (Some (heads.Sided s)) start tokens = parse_sided part c s start tokens
-parse_behind_head left v part c (Some (heads.Headed h)) start tokens = parse_headed left v part c h start tokens
-parse_behind_head left v part c (Some heads.Transformed) start tokens = parse_transformed left v part c start tokens
-parse_behind_head left v part c (Some (heads.Switching w)) start tokens = parse_switching left part c w start tokens
-parse_behind_head left v part c (Some (heads.Named w)) start tokens = parse_named w c start tokens
-parse_behind_head left v part c (Some (heads.Keeping w)) start tokens = parse_keeping left part c w start tokens
-parse_behind_head left v part c (Some heads.Call) start tokens = parse_call left v part c start
-parse_behind_head left v part c None start tokens = stop Unexpected start
+abbrev pub parse_behind_head : ℕ → Version → (Counts → List Tok → Read Term) → (Counts → List Tok → Read Collection) → Counts → Option Head → List Tok → List Tok → Read Term
+parse_behind_head left v part members c (Some (heads.Bare b)) start tokens = term_read c (primitive (bare b)) start tokens
+parse_behind_head left v part members c (Some (heads.WithValue k)) start tokens = parse_value left v c k start tokens
+parse_behind_head left v part members c (Some (heads.Timed k)) start tokens = parse_timed left v c k start tokens
+parse_behind_head left v part members c (Some (heads.Selected k)) start tokens = parse_selected c k start tokens
+parse_behind_head left v part members c (Some heads.Never) start tokens = parse_never left v c start tokens
+parse_behind_head left v part members c (Some heads.Arrow) start tokens = parse_arrow left v c start tokens
+parse_behind_head left v part members c (Some (heads.Accumulated k)) start tokens = parse_accumulated left v c k start tokens
+parse_behind_head left v part members c (Some heads.Joined) start tokens = parse_joined part c start tokens
+parse_behind_head left v part members c (Some (heads.Sided s)) start tokens = parse_sided part c s start tokens
+parse_behind_head left v part members c (Some (heads.Headed h)) start tokens = parse_headed left v part c h start tokens
+parse_behind_head left v part members c (Some heads.Transformed) start tokens = parse_transformed left v part c start tokens
+parse_behind_head left v part members c (Some (heads.Switching w)) start tokens = parse_switching left part c w start tokens
+parse_behind_head left v part members c (Some (heads.Named w)) start tokens = parse_named w c start tokens
+parse_behind_head left v part members c (Some (heads.Keeping w)) start tokens = parse_keeping left part c w start tokens
+parse_behind_head left v part members c (Some heads.Call) start tokens = parse_call left v part members c start
+parse_behind_head left v part members c (Some heads.Gathered) start tokens = parse_gathered members c start tokens
+parse_behind_head left v part members c (Some (heads.Releasing w)) start tokens = parse_releasing left part members c w start tokens
+parse_behind_head left v part members c (Some (heads.Editing w)) start tokens = parse_editing left members c w start tokens
+parse_behind_head left v part members c None start tokens = stop Unexpected start
 
 -- a term by its first tokens
-abbrev pub parse_form : ℕ → Version → (Counts → List Tok → Read Term) → Counts → List Tok → Read Term
-parse_form left v part c (t ∷ rest) = parse_behind_head left v part c (head_at v (t ∷ rest)) (t ∷ rest) rest
-parse_form left v part c [] = stop Unexpected []
+abbrev pub parse_form : ℕ → Version → (Counts → List Tok → Read Term) → (Counts → List Tok → Read Collection) → Counts → List Tok → Read Term
+parse_form left v part members c (t ∷ rest) = parse_behind_head left v part members c (head_at v (t ∷ rest)) (t ∷ rest) rest
+parse_form left v part members c [] = stop Unexpected []
 
 abbrev pub begins_term : Tok → Bool
 begins_term t = is_some (head_of t)
 
+-- How terms and collections are read.
+pub record PartReaders : Type 0 where
+  pub term : Counts → List Tok → Read Term
+  pub members : Counts → List Tok → Read Collection
+
+-- those of so much depth at most
+unfoldable pub parse_shallow : ℕ → Version → PartReaders
+parse_shallow zero v = record { term = λ c tokens. too_deep begins_term tokens; members = λ c tokens. too_deep begins_collection tokens }
+parse_shallow (suc left) v =
+    let inner = parse_shallow left v in
+    record { term = parse_form left v inner.term inner.members; members = parse_collection_form left v inner.term inner.members }
+
 -- a term of so much depth at most
-unfoldable pub parse_term : ℕ → Version → Counts → List Tok → Read Term
-parse_term zero v c tokens = too_deep begins_term tokens
-parse_term (suc left) v c tokens = parse_form left v (parse_term left v) c tokens
+abbrev pub parse_term : ℕ → Version → Counts → List Tok → Read Term
+parse_term left v = (parse_shallow left v).term
+
+-- a collection of so much depth at most
+abbrev pub parse_collection : ℕ → Version → Counts → List Tok → Read Collection
+parse_collection left v = (parse_shallow left v).members
 
 abbrev pub template_of : Name × Bindings → Kind × Kind → Term → Template
 template_of h s t = record { name = h.0; parameters = h.1; input = s.0; output = s.1; body = t }

@@ -41,7 +41,7 @@ use Rattle.sf_term.specs.declared.form.Start.TheVariants as starts
 use Rattle.sf_term.specs.declared.form.Naming.{Naming}
 use Rattle.sf_term.specs.declared.form.Naming.TheVariants as namings
 use Rattle.sf_term.specs.Parameters.{NameKind, value as value_kind, process as process_kind, collection as collection_kind}
-use Rattle.sf_term.specs.Trees.{bare, probe, never, with_value, timed, selected, arrow, accumulated, fused, Term, primitive, reference, joined, sided, headed, transformed, switching, keeping, gathered, releasing, editing, staged, Reference, started, call, Arguments, no_arguments, value_argument, process_argument, collection_argument, closed_argument, Template, Templates, term_depth, terms_in, expressions_in}
+use Rattle.sf_term.specs.Trees.{bare, probe, never, with_value, timed, selected, arrow, accumulated, fused, Term, primitive, reference, joined, sided, headed, transformed, switching, keeping, gathered, releasing, editing, staged, Collection, without_members, used, added, dropped, kept, chosen, Reference, started, call, Arguments, no_arguments, value_argument, process_argument, collection_argument, closed_argument, Template, Templates, term_depth, terms_in, expressions_in}
 use Rattle.sf_lex.specs.declared.word.Keyword.{Keyword}
 use Rattle.sf_lex.specs.declared.word.Keyword.TheVariants as words
 use Rattle.sf_lex.specs.declared.symbol.Symbol.{Symbol}
@@ -252,6 +252,15 @@ spell_folded o first second pattern body = keyword (folding_word o) ∷ in_brack
 abbrev pub spell_keeping : Observation → List Tok → List Tok → Name → List Tok → List Tok → List Tok
 spell_keeping w source observer k pattern body = keyword (keeping_word w) ∷ in_brackets source (symbol symbols.Comma) (observer ++ (symbol symbols.Comma ∷ name k ∷ symbol symbols.Comma ∷ spell_mapping pattern body))
 
+-- the word of members that give way to a term, and of members that are edited
+abbrev pub releasing_word : Observation → Keyword
+releasing_word observations.Immediate = words.PSwitchB
+releasing_word observations.Delayed = words.DpSwitchB
+
+abbrev pub editing_word : Observation → Keyword
+editing_word observations.Immediate = words.RpSwitchB
+editing_word observations.Delayed = words.DrpSwitchB
+
 -- a call of a stored function by its name, and its argument
 abbrev pub spell_called : Name → List Tok → List Tok
 spell_called g argument = keyword words.Call ∷ name g ∷ spell_operand true argument
@@ -315,7 +324,7 @@ spell_value false word value = keyword word ∷ value
 spell_value true word value = symbol symbols.Initially ∷ in_brackets value (symbol symbols.Comma) (keyword word ∷ [])
 
 abbrev mutual
-  -- the forms of plans and those of collections stand in no text
+  -- the forms of plans stand in no text
   pub spell_term : Version → Term → List Tok
   spell_term v (primitive (bare k)) = keyword (bare_word k) ∷ []
   spell_term v (primitive (probe k)) = naming_token namings.Probe ∷ name k ∷ []
@@ -333,29 +342,45 @@ abbrev mutual
   spell_term v (transformed h f) = symbol symbols.MapsFirstInput ∷ in_brackets (spell_function v h) (symbol symbols.Comma) (spell_term v f)
   spell_term v (switching w f p g) = keyword (switching_word w) ∷ in_brackets (spell_term v f) (symbol symbols.Comma) (spell_mapping (spell_pattern p) (spell_term v g))
   spell_term v (keeping w f g k p u) = spell_keeping w (spell_term v f) (spell_term v g) k (spell_pattern p) (spell_term v u)
-  spell_term v (gathered i) = []
-  spell_term v (releasing w i q k p u) = []
-  spell_term v (editing w i k p u) = []
+  spell_term v (gathered i) = keyword words.ParB ∷ spell_collection v i
+  spell_term v (releasing w i q k p u) =
+      keyword (releasing_word w) ∷ in_brackets (spell_collection v i) (symbol symbols.Comma) (spell_term v q ++ (symbol symbols.Comma ∷ name k ∷ symbol symbols.Comma ∷ spell_mapping (spell_pattern p) (spell_term v u)))
+  spell_term v (editing w i k p u) =
+      keyword (editing_word w) ∷ in_brackets (spell_collection v i) (symbol symbols.Comma) (name k ∷ symbol symbols.Comma ∷ spell_mapping (spell_pattern p) (spell_collection v u))
   spell_term v (staged x f g) = []
+
+  -- a collection
+  pub spell_collection : Version → Collection → List Tok
+  spell_collection v (without_members k t) = keyword words.Empty ∷ (spell_keys v k ++ spell_type v t)
+  spell_collection v (used x) = keyword words.Use ∷ name x ∷ []
+  spell_collection v (added i e t) = keyword words.Add ∷ in_brackets (spell_collection v i) (symbol symbols.Comma) (spell_expression v e ++ (symbol symbols.Comma ∷ spell_term v t))
+  spell_collection v (dropped i e) = keyword words.Drop ∷ in_brackets (spell_collection v i) (symbol symbols.Comma) (spell_expression v e)
+  spell_collection v (kept i f) = keyword words.Keep ∷ in_brackets (spell_collection v i) (symbol symbols.Comma) (spell_function v f)
+  spell_collection v (chosen e i j) = spell_choice (spell_expression v e) (spell_collection v i) (spell_collection v j)
 
   -- the name of a process behind where it begins, or that of a template with arguments in brackets
   pub spell_reference : Version → Reference → List Tok
   spell_reference v (started w k) = naming_token (namings.Process w) ∷ name k ∷ []
   spell_reference v (call g vs) = name g ∷ symbol symbols.Open ∷ spell_listed (spell_arguments v vs)
 
-  -- arguments, one by one: an expression, or a term behind `sf`
+  -- arguments, one by one: an expression, a term behind `sf`, or a collection behind `col`
   pub spell_arguments : Version → Arguments → List (List Tok)
   spell_arguments v no_arguments = []
   spell_arguments v (value_argument e vs) = spell_expression v e ∷ spell_arguments v vs
   spell_arguments v (process_argument t vs) = (keyword words.SignalFunction ∷ spell_term v t) ∷ spell_arguments v vs
-  spell_arguments v (collection_argument i vs) = [] ∷ spell_arguments v vs
+  spell_arguments v (collection_argument i vs) = (keyword words.Collection ∷ spell_collection v i) ∷ spell_arguments v vs
   spell_arguments v (closed_argument t vs) = [] ∷ spell_arguments v vs
 
--- what a name stands for: the type of a value, or both types of a process
+-- only version 2 writes the type of a collection's keys
+abbrev pub spell_key_kind : Version → KeyKind → List Tok
+spell_key_kind versions.One k = []
+spell_key_kind versions.Two k = spell_keys versions.Two k ++ (symbol symbols.Colon ∷ [])
+
+-- what a name stands for: the type of a value, both types of a process, or those of a collection in brackets
 abbrev pub spell_name_kind : Version → NameKind → List Tok
 spell_name_kind v (value_kind t) = spell_type v t
 spell_name_kind v (process_kind t u) = spell_type v t ++ (symbol symbols.Leads ∷ spell_type v u)
-spell_name_kind v (collection_kind k t u) = []
+spell_name_kind v (collection_kind k t u) = symbol symbols.OpenBracket ∷ (spell_key_kind v k ++ (spell_type v t ++ (symbol symbols.Leads ∷ (spell_type v u ++ (symbol symbols.CloseBracket ∷ [])))))
 
 -- a parameter of a template
 abbrev pub spell_parameter : Version → Name × NameKind → List Tok
@@ -461,10 +486,19 @@ abbrev mutual
   WritesTerm v (suc d) (transformed h f) = WritesFunction v d h × WritesTerm v d f
   WritesTerm v (suc d) (switching w f p g) = WritesTerm v d f × WritesTerm v d g
   WritesTerm v (suc d) (keeping w f g k p u) = WritesTerm v d f × WritesTerm v d g × WritesTerm v d u
-  WritesTerm v (suc d) (gathered i) = ⊥
-  WritesTerm v (suc d) (releasing w i q k p u) = ⊥
-  WritesTerm v (suc d) (editing w i k p u) = ⊥
+  WritesTerm v (suc d) (gathered i) = WritesCollection v d i
+  WritesTerm v (suc d) (releasing w i q k p u) = WritesCollection v d i × WritesTerm v d q × WritesTerm v d u
+  WritesTerm v (suc d) (editing w i k p u) = WritesCollection v d i × WritesCollection v d u
   WritesTerm v d t = ⊤
+
+  -- the same of a collection
+  pub WritesCollection : Version → ℕ → Collection → Type 0
+  WritesCollection v (suc d) (without_members k t) = WritesKeys v k × IsWrittenType v d t
+  WritesCollection v (suc d) (added i e t) = WritesCollection v d i × WritesExpression v d e × WritesTerm v d t
+  WritesCollection v (suc d) (dropped i e) = WritesCollection v d i × WritesExpression v d e
+  WritesCollection v (suc d) (kept i f) = WritesCollection v d i × WritesFunction v d f
+  WritesCollection v (suc d) (chosen e i j) = WritesExpression v d e × WritesCollection v d i × WritesCollection v d j
+  WritesCollection v d i = ⊤
 
   -- the same of what stands within a reference
   pub WritesReference : Version → ℕ → Reference → Type 0
@@ -476,14 +510,14 @@ abbrev mutual
   WritesArguments v d no_arguments = ⊤
   WritesArguments v d (value_argument e vs) = WritesExpression v d e × WritesArguments v d vs
   WritesArguments v d (process_argument t vs) = WritesTerm v d t × WritesArguments v d vs
-  WritesArguments v d (collection_argument i vs) = ⊥
+  WritesArguments v d (collection_argument i vs) = WritesCollection v d i × WritesArguments v d vs
   WritesArguments v d (closed_argument t vs) = WritesArguments v d vs
 
 -- a text of the version has the types of what a name stands for
 abbrev pub WritesNameKind : Version → NameKind → Type 0
 WritesNameKind v (value_kind t) = IsWrittenType v 64 t
 WritesNameKind v (process_kind t u) = IsWrittenType v 64 t × IsWrittenType v 64 u
-WritesNameKind v (collection_kind k t u) = ⊥
+WritesNameKind v (collection_kind k t u) = WritesKeys v k × IsWrittenType v 64 t × IsWrittenType v 64 u
 
 -- a text of the version has the types of a template
 pub record HasWrittenTypes (v : Version) (t : Template) : Type 0 where

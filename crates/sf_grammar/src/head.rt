@@ -1,7 +1,7 @@
 //! What tokens stand for within terms and expressions.
 ghost use Rattle.std.specs.Prelude.{◌≡◌};
 ghost use Rattle.sf_lex.specs.Tokens.{token_of};
-ghost use Rattle.sf_grammar.specs.Reading.{expression_head, head_of, join_of, link_of, operator_of};
+ghost use Rattle.sf_grammar.specs.Reading.{collection_head, expression_head, head_of, join_of, link_of, operator_of};
 
 use sf_expr::{Arithmetic, Comparison, Equality, Folding, Logic, Mapping, Merge, Operator, Unary};
 use sf_lex::{Keyword, Symbol, Token};
@@ -43,6 +43,29 @@ pub enum Head {
     Keeping(Observation),
     /// The name of a template, and arguments in brackets behind it.
     Call,
+    /// `parB`, and a collection behind it.
+    Gathered,
+    /// A word, and behind it a collection, a term, a name, a pattern and another term in brackets.
+    Releasing(Observation),
+    /// A word, and behind it a collection, a name, a pattern and another collection in brackets.
+    Editing(Observation),
+}
+
+/// A collection by its first token, by its shape.
+#[derive(Clone, Copy, Debug, PartialEq, Eq)]
+pub enum CollectionHead {
+    /// `empty`, and a type behind it.
+    Empty,
+    /// `use`, and a name behind it.
+    Used,
+    /// `add`, and behind it a collection, an expression and a term in brackets.
+    Added,
+    /// `drop`, and behind it a collection and an expression in brackets.
+    Dropped,
+    /// `keep`, and behind it a collection and a function in brackets.
+    Kept,
+    /// `if`, and behind it an expression and two collections with words between them.
+    Chosen,
 }
 
 /// An expression that a word begins, by its shape.
@@ -135,7 +158,27 @@ pub fn head_of(token: &Token) -> Option<Head>
         Token::Keyword(Keyword::Probe) => Some(Head::Named(Naming::Probe)),
         Token::Keyword(Keyword::KSwitch) => Some(Head::Keeping(Observation::Immediate)),
         Token::Keyword(Keyword::DkSwitch) => Some(Head::Keeping(Observation::Delayed)),
+        Token::Keyword(Keyword::ParB) => Some(Head::Gathered),
+        Token::Keyword(Keyword::PSwitchB) => Some(Head::Releasing(Observation::Immediate)),
+        Token::Keyword(Keyword::DpSwitchB) => Some(Head::Releasing(Observation::Delayed)),
+        Token::Keyword(Keyword::RpSwitchB) => Some(Head::Editing(Observation::Immediate)),
+        Token::Keyword(Keyword::DrpSwitchB) => Some(Head::Editing(Observation::Delayed)),
         Token::Name(_) => Some(Head::Call),
+        _ => None,
+    }
+}
+
+/// The form of a collection that a token begins.
+pub fn collection_head(token: &Token) -> Option<CollectionHead>
+    ensures { result ≡ collection_head (token_of token.now) }
+{
+    match token {
+        Token::Keyword(Keyword::Empty) => Some(CollectionHead::Empty),
+        Token::Keyword(Keyword::Use) => Some(CollectionHead::Used),
+        Token::Keyword(Keyword::Add) => Some(CollectionHead::Added),
+        Token::Keyword(Keyword::Drop) => Some(CollectionHead::Dropped),
+        Token::Keyword(Keyword::Keep) => Some(CollectionHead::Kept),
+        Token::Keyword(Keyword::If) => Some(CollectionHead::Chosen),
         _ => None,
     }
 }

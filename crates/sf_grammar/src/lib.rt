@@ -5,6 +5,9 @@ mod head;
 mod laws;
 mod ty;
 
-pub use head::{ExpressionHead, Head, Link, expression_head, head_of, join_of, link_of};
+pub use head::{
+    CollectionHead, ExpressionHead, Head, Link, collection_head, expression_head, head_of, join_of,
+    link_of,
+};
 pub use laws::{a_network_or_a_breach, one_network, one_place_a_token};
 pub use ty::{TypeHead, Version, WordType, type_head};

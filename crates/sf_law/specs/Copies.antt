@@ -1,8 +1,10 @@
 -- What a plan copies of a program.
-use Rattle.std.specs.Prelude.{◌≡◌, ℤ, Option, Some, None, Vec, String, string_bytes}
+use Rattle.std.specs.Prelude.{◌≡◌, ℤ, Option, Some, None, Vec, String, string_bytes, slice_index_or}
 use Rattle.std.specs.List.{AllZip}
 use Rattle.std.specs.declared.rc.Rc.{Rc}
 use Rattle.std.specs.declared.alloc.Global.{Global}
+use Rattle.sf_value.specs.Values.{Kind}
+use Rattle.sf_value.specs.declared.ty.KeyType.{KeyType}
 use Rattle.sf_expr.specs.declared.exprs.ConstantId.{ConstantId}
 use Rattle.sf_expr.specs.declared.exprs.ExprId.{ExprId}
 use Rattle.sf_expr.specs.declared.exprs.FunctionId.{FunctionId}
@@ -27,6 +29,11 @@ use Rattle.sf_term.specs.declared.node.TermId.{TermId}
 use Rattle.sf_term.specs.declared.node.ArgumentsId.{ArgumentsId}
 use Rattle.sf_term.specs.declared.node.Argument.{Argument}
 use Rattle.sf_term.specs.declared.node.Argument.TheVariants as arguments
+use Rattle.sf_term.specs.declared.node.Releasing.{Releasing}
+use Rattle.sf_term.specs.declared.node.Editing.{Editing}
+use Rattle.sf_term.specs.declared.collection.CollectionId.{CollectionId}
+use Rattle.sf_term.specs.declared.collection.CollExpr.{CollExpr}
+use Rattle.sf_term.specs.declared.collection.CollExpr.TheVariants as stored
 use Rattle.sf_term.specs.declared.node.Node.{Node}
 use Rattle.sf_term.specs.declared.node.Node.TheVariants as terms
 use Rattle.sf_term.specs.declared.node.Primitive.{Primitive}
@@ -34,12 +41,18 @@ use Rattle.sf_term.specs.declared.node.Primitive.TheVariants as primitives
 use Rattle.sf_term.specs.declared.program.Program.{Program}
 use Rattle.sf_term.specs.Parameters.{PlacedParameter}
 use Rattle.sf_term.specs.Headers.{Header as TermHeader}
-use Rattle.sf_term.specs.Arena.{tree as term, expressions_of, term_node_at, arguments_under}
+use Rattle.sf_term.specs.Arena.{tree as term, expressions_of, term_number, term_node_at, arguments_under, collection_under}
 use Rattle.sf_code.specs.declared.open.OpenCode.{OpenCode}
 use Rattle.sf_law.specs.declared.node.PlanId.{PlanId}
 use Rattle.sf_law.specs.declared.node.TemplateId.{TemplateId}
 use Rattle.sf_law.specs.declared.node.PlanArgument.{PlanArgument}
 use Rattle.sf_law.specs.declared.node.PlanArgument.TheVariants as plan_arguments
+use Rattle.sf_law.specs.declared.node.PlanCollection.{PlanCollection}
+use Rattle.sf_law.specs.declared.node.PlanCollection.TheVariants as plan_collections
+use Rattle.sf_law.specs.declared.node.PlanReleasing.{PlanReleasing}
+use Rattle.sf_law.specs.declared.node.PlanEditing.{PlanEditing}
+use Rattle.sf_law.specs.declared.members.TermPlans.{TermPlans}
+use Rattle.sf_law.specs.declared.members.TermPlans.TheVariants.{AsNumbered, Listed}
 use Rattle.sf_law.specs.declared.node.PlanNode.{PlanNode}
 use Rattle.sf_law.specs.declared.node.PlanNode.TheVariants as plans
 use Rattle.sf_law.specs.declared.node.PlanPrimitive.{PlanPrimitive}
@@ -51,6 +64,11 @@ use Rattle.sf_law.specs.Arena.{plan_tree}
 -- the id of the same number
 abbrev pub plan_id : TermId → PlanId
 plan_id t = record { 0 = t.0 }
+
+-- the id under which a term stands; the first one where none is listed for it
+abbrev pub stands_under : TermPlans → TermId → PlanId
+stands_under AsNumbered t = plan_id t
+stands_under (Listed ids) t = slice_index_or ids.now (term_number t) (record { 0 = 0 })
 
 -- A plan's primitive is a program's, whatever its code: of the same form, with the same id.
 pub data CopiesPrimitive : Primitive → PlanPrimitive → Type 0 where
@@ -74,25 +92,60 @@ named_process (terms.Headed h e a) = None
 named_process (terms.Transformed f a) = None
 named_process (terms.Switching w a q b) = None
 named_process (terms.Keeping w a o k s q b) = None
+named_process (terms.Gathered c) = None
+named_process (terms.Releasing n) = None
+named_process (terms.Editing n) = None
 
--- A plan's argument is a program's, whatever its code: the same expression, the same named process, or the id of the same number.
-pub data CopiesArgument (p : Program) : Argument → PlanArgument → Type 0 where
-  copies_value : {e : ExprId} {c : OpenCode} → CopiesArgument p (arguments.Value e) (plan_arguments.Value e c)
-  copies_started : {a : TermId} {w : Start} {k : NameId} → named_process (term_node_at p a) ≡ Some (w, k) → CopiesArgument p (arguments.Process a) (plan_arguments.Started w k)
-  copies_closed : {a : TermId} → named_process (term_node_at p a) ≡ None → CopiesArgument p (arguments.Process a) (plan_arguments.Closed (plan_id a))
+-- A plan's collection is a program's, whatever its code: of the same form, with the same ids of its names, expressions and
+-- functions, and with these ids of its terms.
+pub data CopiesCollection (m : TermId → PlanId) : CollExpr → PlanCollection → Type 0 where
+  copies_empty : {k : KeyType} {t : Kind} {s : _} → CopiesCollection m (stored.Empty k t s) (plan_collections.Empty k t)
+  copies_used : {k : NameId} {r s : _} → CopiesCollection m (stored.Used k r s) (plan_collections.Used k)
+  copies_added : {a : _} {b : _} {c : CollExpr} {d : PlanCollection} {e : ExprId} {o : OpenCode} {t : TermId} {s : _} → CopiesCollection m c d → CopiesCollection m (stored.Added' a c e t s) (plan_collections.Added' b d e o (m t))
+  copies_dropped : {a : _} {b : _} {c : CollExpr} {d : PlanCollection} {e : ExprId} {o : OpenCode} {s : _} → CopiesCollection m c d → CopiesCollection m (stored.Dropped' a c e s) (plan_collections.Dropped' b d e o)
+  copies_kept : {a : _} {b : _} {c : CollExpr} {d : PlanCollection} {f : FunctionId} {o : OpenCode} {s : _} → CopiesCollection m c d → CopiesCollection m (stored.Kept' a c f s) (plan_collections.Kept' b d f o)
+  copies_chosen : {a : _} {b : _} {y : _} {z : _} {c d : CollExpr} {g h : PlanCollection} {e : ExprId} {o : OpenCode} {s : _} → CopiesCollection m c g → CopiesCollection m d h → CopiesCollection m (stored.Chosen' e a c b d s) (plan_collections.Chosen' e o y g z h)
 
--- A plan's node is a program's, whatever its code and the template that it calls: of the same form, with the same id of its expression and the ids of the same numbers.
-pub data CopiesNode (p : Program) : Node → PlanNode → Type 0 where
-  copies_primitive : {q : Primitive} {r : PlanPrimitive} → CopiesPrimitive q r → CopiesNode p (terms.Primitive q) (plans.Primitive r)
-  copies_process : {w : Start} {k : NameId} {s : _} → CopiesNode p (terms.Named (Process w) k s) (plans.Started w k)
-  copies_probe : {k : NameId} {s : _} {r : Rc (String Global) Global} → string_bytes r.value ≡ name_at (expressions_of p) k → CopiesNode p (terms.Named Probe k s) (plans.Probe r)
-  copies_call : {k : NameId} {a : ArgumentsId} {g : TemplateId} {v : Vec PlanArgument Global} → AllZip (CopiesArgument p) (arguments_under p a) v.items → CopiesNode p (terms.Call k a) (plans.Call k g v)
-  copies_joined : {j : Join} {a b : TermId} → CopiesNode p (terms.Joined j a b) (plans.Joined j (plan_id a) (plan_id b))
-  copies_sided : {d : Side} {a : TermId} → CopiesNode p (terms.Sided d a) (plans.Sided d (plan_id a))
-  copies_switching : {w : Switching} {a b : TermId} {q : PatternId} → CopiesNode p (terms.Switching w a q b) (plans.Switching w (plan_id a) q (plan_id b))
-  copies_keeping : {w : Observation} {a o b : TermId} {k : NameId} {s : _} {q : PatternId} → CopiesNode p (terms.Keeping w a o k s q b) (plans.Keeping w (plan_id a) (plan_id o) k q (plan_id b))
-  copies_headed : {h : Heading} {e : ExprId} {c : OpenCode} {a : TermId} → CopiesNode p (terms.Headed h e a) (plans.Headed h e c (plan_id a))
-  copies_transformed : {f : FunctionId} {c : OpenCode} {a : TermId} → CopiesNode p (terms.Transformed f a) (plans.Transformed f c (plan_id a))
+-- Members that give way, in a plan: with the same name and pattern, and with these ids of their terms.
+pub record CopiesReleasing (p : Program) (m : TermId → PlanId) (s : Releasing) (r : PlanReleasing) : Type 0 where
+  pub shown : r.shown ≡ s.shown
+  pub members : CopiesCollection m (collection_under p s.members) r.members.value
+  pub observer : r.observer ≡ m s.observer
+  pub name : r.name ≡ s.name
+  pub pattern : r.pattern ≡ s.pattern
+  pub body : r.body ≡ m s.body
+
+-- Members that are edited, likewise.
+pub record CopiesEditing (p : Program) (m : TermId → PlanId) (s : Editing) (r : PlanEditing) : Type 0 where
+  pub shown : r.shown ≡ s.shown
+  pub members : CopiesCollection m (collection_under p s.members) r.members.value
+  pub name : r.name ≡ s.name
+  pub pattern : r.pattern ≡ s.pattern
+  pub edit : CopiesCollection m (collection_under p s.edit) r.edit.value
+
+-- A plan's argument is a program's, whatever its code: the same expression, the same named process, these ids of its terms.
+pub data CopiesArgument (p : Program) (m : TermId → PlanId) : Argument → PlanArgument → Type 0 where
+  copies_value : {e : ExprId} {c : OpenCode} → CopiesArgument p m (arguments.Value e) (plan_arguments.Value e c)
+  copies_started : {a : TermId} {w : Start} {k : NameId} → named_process (term_node_at p a) ≡ Some (w, k) → CopiesArgument p m (arguments.Process a) (plan_arguments.Started w k)
+  copies_closed : {a : TermId} → named_process (term_node_at p a) ≡ None → CopiesArgument p m (arguments.Process a) (plan_arguments.Closed (m a))
+  copies_members : {c : CollectionId} {r : Rc PlanCollection Global} → CopiesCollection m (collection_under p c) r.value → CopiesArgument p m (arguments.Collection c) (plan_arguments.Collected r)
+
+-- A plan's node is a program's, whatever its code and the template that it calls: of the same form, with the same ids of its
+-- expressions, and with these ids of its terms.
+pub data CopiesNode (p : Program) (m : TermId → PlanId) : Node → PlanNode → Type 0 where
+  copies_primitive : {q : Primitive} {r : PlanPrimitive} → CopiesPrimitive q r → CopiesNode p m (terms.Primitive q) (plans.Primitive r)
+  copies_process : {w : Start} {k : NameId} {s : _} → CopiesNode p m (terms.Named (Process w) k s) (plans.Started w k)
+  copies_probe : {k : NameId} {s : _} {r : Rc (String Global) Global} → string_bytes r.value ≡ name_at (expressions_of p) k → CopiesNode p m (terms.Named Probe k s) (plans.Probe r)
+  copies_call : {k : NameId} {a : ArgumentsId} {g : TemplateId} {v : Vec PlanArgument Global} → AllZip (CopiesArgument p m) (arguments_under p a) v.items → CopiesNode p m (terms.Call k a) (plans.Call k g v)
+  copies_joined : {j : Join} {a b : TermId} → CopiesNode p m (terms.Joined j a b) (plans.Joined j (m a) (m b))
+  copies_sided : {d : Side} {a : TermId} → CopiesNode p m (terms.Sided d a) (plans.Sided d (m a))
+  copies_switching : {w : Switching} {a b : TermId} {q : PatternId} → CopiesNode p m (terms.Switching w a q b) (plans.Switching w (m a) q (m b))
+  copies_keeping : {w : Observation} {a o b : TermId} {k : NameId} {s : _} {q : PatternId} → CopiesNode p m (terms.Keeping w a o k s q b) (plans.Keeping w (m a) (m o) k q (m b))
+  copies_headed : {h : Heading} {e : ExprId} {c : OpenCode} {a : TermId} → CopiesNode p m (terms.Headed h e a) (plans.Headed h e c (m a))
+  copies_transformed : {f : FunctionId} {c : OpenCode} {a : TermId} → CopiesNode p m (terms.Transformed f a) (plans.Transformed f c (m a))
+  copies_gathered : {c : CollectionId} {r : Rc PlanCollection Global} → CopiesCollection m (collection_under p c) r.value → CopiesNode p m (terms.Gathered c) (plans.Gathered r)
+  copies_releasing : {s : Releasing} {r : PlanReleasing} → CopiesReleasing p m s r → CopiesNode p m (terms.Releasing s) (plans.Releasing r)
+  copies_editing : {s : Editing} {r : PlanEditing} → CopiesEditing p m s r → CopiesNode p m (terms.Editing s) (plans.Editing r)
 
 -- A plan's parameter is a program's, with its name and the pattern that binds it among the expressions.
 pub record CopiesParameter (x : Exprs) (q : PlacedParameter) (r : ParameterHeader) : Type 0 where

@@ -3,6 +3,7 @@
 
 mod asked;
 mod laws;
+mod members;
 mod mentioned;
 mod mentions;
 mod node;
@@ -12,11 +13,12 @@ mod plan;
 mod template;
 
 pub use laws::asks_for_none;
+pub use members::TermPlans;
 pub use mentioned::{Binder, Mentioned};
 pub use node::{
     PlanArgument, PlanChain, PlanCollection, PlanEditing, PlanId, PlanNode, PlanPrimitive,
     PlanReleasing, TemplateId,
 };
-pub use plain::{empty_plan, plain_plan, plan_named, plan_primitive, started};
+pub use plain::{empty_plan, plain_plan, plan_node};
 pub use plan::Plan;
 pub use template::{PlanParameter, PlanTemplate};

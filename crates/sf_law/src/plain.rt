@@ -4,16 +4,19 @@ ghost use Rattle.std.specs.List.{AllZip};
 ghost use Rattle.sf_expr.specs.Arena.{function_at, placed_at, HoldsPattern, Keeps};
 ghost use Rattle.sf_expr.specs.Patterns.{placed_name};
 ghost use Rattle.sf_term.specs.Arena.{expressions_of as program_expressions, headers_of as program_headers};
+ghost use Rattle.sf_term.specs.declared.node.TermId.{TermId as TermIdOf};
 ghost use Rattle.sf_term.specs.declared.node.Node.TheVariants.{Call as call_node, Named as named_node};
 ghost use Rattle.sf_code.specs.Worth.{IsCodeOfFunction};
 ghost use Rattle.sf_refusal.specs.declared.spot.Spot.{Spot};
+ghost use Rattle.sf_law.specs.declared.node.PlanId.{PlanId as PlanIdOf};
 ghost use Rattle.sf_law.specs.Headers.{PlanHeader};
 ghost use Rattle.sf_law.specs.Entries.{IsCodedPrimitive, IsCodedArgument, IsCoded, calls_first};
 ghost use Rattle.sf_law.specs.Arena.{plan_expressions, plan_asked, node_count, plan_headers};
-ghost use Rattle.sf_law.specs.Copies.{plan_id as id_of, named_process, CopiesArgument, CopiesPrimitive, CopiesNode, CopiesParameter, CopiesTemplate, ShowsTerms};
+ghost use Rattle.sf_law.specs.Copies.{plan_id as id_of, stands_under, named_process, CopiesArgument, CopiesPrimitive, CopiesNode, CopiesParameter, CopiesTemplate, ShowsTerms};
 ghost use Rattle.sf_law.specs.Plans.{IsPlanOf};
 ghost use Rattle.sf_law.specs.declared.mentioned.Mentioned.TheVariants.{Any as any_name};
 
+use crate::members::{TermPlans, plan_editing, plan_gathered, plan_members, plan_releasing};
 use crate::node::{PlanArgument, PlanId, PlanNode, PlanPrimitive};
 use crate::plan::Plan;
 use crate::template::{PlanParameter, PlanTemplate};
@@ -137,20 +140,21 @@ fn copy_terms(alloc: Global, plan: &mut Plan, program: &Program) -> Result<(), A
 {
     for number in 0..program.len() {
         let node = program.node(program.term(number));
-        let copy = plan_node(alloc, plan, program, node)?;
+        let copy = plan_node(alloc, plan, program, TermPlans::AsNumbered, node)?;
         plan.add(copy)?;
     }
     Ok(())
 }
 
-// A node with the ids of the same numbers, and with its code.
-fn plan_node(
+/// A node with the ids under which its parts stand in a plan, and with its code. A call is of the first template of its name.
+pub fn plan_node(
     alloc: Global,
     plan: &Plan,
     program: &Program,
+    terms: TermPlans,
     node: Node,
 ) -> Result<PlanNode, AllocError>
-    ensures same { IfOk result (λ copy. CopiesNode program.now node copy) }
+    ensures same { IfOk result (λ copy. CopiesNode program.now (stands_under terms.entry) node copy) }
     ensures coded { IfOk result (λ copy. IsCoded (plan_expressions plan.now) copy) }
     ensures called { IfOk result (λ copy. IsTrue (calls_first (plan_expressions plan.now) (plan_headers plan.now) copy)) }
 {
@@ -164,40 +168,43 @@ fn plan_node(
             let named = plan_named(alloc, program, form, name)?;
             Ok(named)
         }
-        Node::Call(name, arguments) => plan_call(alloc, plan, program, name, arguments),
+        Node::Call(name, arguments) => plan_call(alloc, plan, program, terms, name, arguments),
         Node::Joined(join, first, second) => {
-            Ok(PlanNode::Joined(join, plan_id(first), plan_id(second)))
+            Ok(PlanNode::Joined(join, terms.id(first), terms.id(second)))
         }
-        Node::Sided(side, part) => Ok(PlanNode::Sided(side, plan_id(part))),
+        Node::Sided(side, part) => Ok(PlanNode::Sided(side, terms.id(part))),
         Node::Headed(heading, value, part) => {
             let code = expression_code(alloc, exprs, value)?;
-            Ok(PlanNode::Headed(heading, value, code, plan_id(part)))
+            Ok(PlanNode::Headed(heading, value, code, terms.id(part)))
         }
         Node::Transformed(function, part) => {
             let head = function_code(alloc, exprs, function)?;
-            Ok(PlanNode::Transformed(function, head, plan_id(part)))
+            Ok(PlanNode::Transformed(function, head, terms.id(part)))
         }
         Node::Switching(form, source, pattern, body) => {
-            let source = plan_id(source);
-            Ok(PlanNode::Switching(form, source, pattern, plan_id(body)))
+            let source = terms.id(source);
+            Ok(PlanNode::Switching(form, source, pattern, terms.id(body)))
         }
         Node::Keeping(shown, source, observer, name, _, pattern, body) => {
-            let source = plan_id(source);
-            let observer = plan_id(observer);
-            let body = plan_id(body);
+            let source = terms.id(source);
+            let observer = terms.id(observer);
+            let body = terms.id(body);
             Ok(PlanNode::Keeping(shown, source, observer, name, pattern, body))
         }
+        Node::Gathered(members) => plan_gathered(alloc, exprs, program, terms, members),
+        Node::Releasing(node) => plan_releasing(alloc, exprs, program, terms, node),
+        Node::Editing(node) => plan_editing(alloc, exprs, program, terms, node),
     }
 }
 
-/// A form that is a name alone.
-pub fn plan_named(
+// A form that is a name alone.
+fn plan_named(
     alloc: Global,
     program: &Program,
     form: Naming,
     name: NameId,
 ) -> Result<PlanNode, AllocError>
-    ensures same { IfOk result (λ copy. (place : Spot) → CopiesNode program.now (named_node form name place) copy) }
+    ensures same { IfOk result (λ copy. (m : TermIdOf → PlanIdOf) (place : Spot) → CopiesNode program.now m (named_node form name place) copy) }
     ensures coded { IfOk result (λ copy. (x : Exprs) → IsCoded x copy) }
     ensures called { IfOk result (λ copy. (x : Exprs) (headers : List PlanHeader) → IsTrue (calls_first x headers copy)) }
 {
@@ -216,16 +223,17 @@ fn plan_call(
     alloc: Global,
     plan: &Plan,
     program: &Program,
+    terms: TermPlans,
     name: NameId,
     arguments: ArgumentsId,
 ) -> Result<PlanNode, AllocError>
-    ensures same { IfOk result (λ copy. CopiesNode program.now (call_node name arguments) copy) }
+    ensures same { IfOk result (λ copy. CopiesNode program.now (stands_under terms.entry) (call_node name arguments) copy) }
     ensures coded { IfOk result (λ copy. IsCoded (plan_expressions plan.now) copy) }
     ensures called { IfOk result (λ copy. IsTrue (calls_first (plan_expressions plan.now) (plan_headers plan.now) copy)) }
 {
     let exprs = plan.expressions();
     let template = plan.template_named(exprs.name_of(name));
-    let arguments = plan_arguments(alloc, exprs, program, program.arguments(arguments))?;
+    let arguments = plan_arguments(alloc, exprs, program, terms, program.arguments(arguments))?;
     Ok(PlanNode::Call(name, template, arguments))
 }
 
@@ -234,14 +242,15 @@ fn plan_arguments(
     alloc: Global,
     exprs: &Exprs,
     program: &Program,
+    terms: TermPlans,
     arguments: &[Argument],
 ) -> Result<Vec<PlanArgument>, AllocError>
-    ensures same { IfOk result (λ copies. AllZip (CopiesArgument program.now) arguments.now copies.items) }
+    ensures same { IfOk result (λ copies. AllZip (CopiesArgument program.now (stands_under terms.entry)) arguments.now copies.items) }
     ensures coded { IfOk result (λ copies. All (IsCodedArgument exprs.now) copies.items) }
 {
     let mut copies = Vec::new(alloc);
     for argument in arguments {
-        copies.push(plan_argument(alloc, exprs, program, argument)?)?;
+        copies.push(plan_argument(alloc, exprs, program, terms, argument)?)?;
     }
     Ok(copies)
 }
@@ -251,9 +260,10 @@ fn plan_argument(
     alloc: Global,
     exprs: &Exprs,
     program: &Program,
+    terms: TermPlans,
     argument: &Argument,
 ) -> Result<PlanArgument, AllocError>
-    ensures same { IfOk result (λ copy. CopiesArgument program.now argument.now copy) }
+    ensures same { IfOk result (λ copy. CopiesArgument program.now (stands_under terms.entry) argument.now copy) }
     ensures coded { IfOk result (λ copy. IsCodedArgument exprs.now copy) }
 {
     match *argument {
@@ -263,13 +273,17 @@ fn plan_argument(
         }
         Argument::Process(term) => match started(program.node(term)) {
             Some((start, name)) => Ok(PlanArgument::Started(start, name)),
-            None => Ok(PlanArgument::Closed(plan_id(term))),
+            None => Ok(PlanArgument::Closed(terms.id(term))),
         },
+        Argument::Collection(id) => {
+            let members = plan_members(alloc, exprs, program, terms, id)?;
+            Ok(PlanArgument::Collected(members))
+        }
     }
 }
 
-/// Where the process begins that a node is, and its name, where it is a named one.
-pub fn started(node: Node) -> Option<(Start, NameId)>
+// Where the process begins that a node is, and its name, where it is a named one.
+fn started(node: Node) -> Option<(Start, NameId)>
     ensures { result ≡ named_process node }
 {
     match node {
@@ -278,8 +292,8 @@ pub fn started(node: Node) -> Option<(Start, NameId)>
     }
 }
 
-/// A primitive with its code.
-pub fn plan_primitive(
+// A primitive with its code.
+fn plan_primitive(
     alloc: Global,
     exprs: &Exprs,
     primitive: Primitive,

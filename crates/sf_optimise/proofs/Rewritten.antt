@@ -1,11 +1,12 @@
 -- The plans of nodes, by the plans of their parts.
-use Rattle.std.proofs.Common.{◌≡◌, ◌<◌, ◌≤◌, List, [], ◌∷◌, length, slice_index_or, All, false, None, Vec, refl, sym, ◌∙◌, ap, subst, arith, ⊎_elim}
+use Rattle.std.proofs.Common.{◌≡◌, ◌<◌, ◌≤◌, List, [], ◌∷◌, length, slice_index_or, All, true, false, true≢false, None, Vec, refl, sym, ◌∙◌, ap, subst, arith, ⊎_elim}
 use mathlib.Core.Path.{ap₂}
+use Rattle.std.specs.Prelude.{string_bytes}
 use Rattle.std.specs.List.{AllZip}
+use Rattle.std.specs.declared.rc.Rc.{Rc}
 use Rattle.std.specs.declared.alloc.Global.{Global}
 use Rattle.std.proofs.lemmas.List.Elements.{All-head, All-tail}
 use Rattle.sf_expr.specs.declared.exprs.ExprId.{ExprId}
-use Rattle.sf_expr.specs.declared.exprs.FunctionId.{FunctionId}
 use Rattle.sf_expr.specs.declared.exprs.NameId.{NameId}
 use Rattle.sf_expr.specs.declared.exprs.PatternId.{PatternId}
 use Rattle.sf_expr.specs.Patterns.{pattern_of}
@@ -13,7 +14,6 @@ use Rattle.sf_expr.specs.Arena.{function_at, name_at, placed_at, Keeps}
 use Rattle.sf_term.specs.declared.form.Heading.{Heading}
 use Rattle.sf_term.specs.declared.form.Join.{Join}
 use Rattle.sf_term.specs.declared.form.Join.TheVariants.{InSequence}
-use Rattle.sf_term.specs.declared.form.Naming.{Naming}
 use Rattle.sf_term.specs.declared.form.Naming.TheVariants.{Process, Probe}
 use Rattle.sf_term.specs.declared.form.Observation.{Observation}
 use Rattle.sf_term.specs.declared.form.Side.{Side}
@@ -21,34 +21,41 @@ use Rattle.sf_term.specs.declared.form.Switching.{Switching}
 use Rattle.sf_term.specs.declared.node.ArgumentsId.{ArgumentsId}
 use Rattle.sf_term.specs.declared.node.TermId.{TermId}
 use Rattle.sf_term.specs.declared.node.Argument.{Argument}
+use Rattle.sf_term.specs.declared.node.Releasing.{Releasing}
+use Rattle.sf_term.specs.declared.node.Editing.{Editing}
+use Rattle.sf_term.specs.declared.collection.CollectionId.{CollectionId}
+use Rattle.sf_term.specs.declared.collection.CollExpr.{CollExpr}
 use Rattle.sf_term.specs.declared.node.Node.{Node}
 use Rattle.sf_term.specs.declared.node.Node.TheVariants as ast
 use Rattle.sf_term.specs.declared.node.Primitive.{Primitive}
 use Rattle.sf_term.specs.declared.node.Primitive.TheVariants as ast_primitives
 use Rattle.sf_term.specs.declared.program.Program.{Program}
-use Rattle.sf_term.specs.Trees.{whole, Term, primitive, reference, started, call, named_term, Arguments, value_argument, process_argument, joined, sided, headed, transformed, switching, keeping, gathered, releasing, editing, staged}
-use Rattle.sf_term.specs.Arena.{tree, term_number, term_of, expressions_of, arguments_of, arguments_under, term_node_at, ArgumentBelow, HoldsArgument, HoldsTermParts, TermPartsBelow, expression_under, HoldsExpression, function_in, ProgramHoldsFunction, HoldsPatternIn}
+use Rattle.sf_term.specs.Trees.{whole, Term, Collection, used, added as added_of, dropped, kept as kept_of, chosen, primitive, reference, started, call, probe, Arguments, value_argument, process_argument, joined, sided, headed, transformed, switching, keeping, gathered, releasing, editing, staged}
+use Rattle.sf_term.specs.Arena.{tree, term_number, term_of, expressions_of, arguments_of, arguments_under, term_node_at, collection_under, collection_of, CollectionBelow, ArgumentBelow, HoldsMembers, HoldsArgument, HoldsTermParts, TermPartsBelow, expression_under, HoldsExpression, HoldsPatternIn}
 use Rattle.sf_term.proofs.Kept.{node_builds}
 use Rattle.sf_law.specs.declared.node.PlanId.{PlanId}
 use Rattle.sf_law.specs.declared.node.TemplateId.{TemplateId}
 use Rattle.sf_law.specs.declared.node.PlanArgument.{PlanArgument}
 use Rattle.sf_law.specs.declared.node.PlanArgument.TheVariants as plan_values
+use Rattle.sf_law.specs.declared.node.PlanCollection.{PlanCollection}
+use Rattle.sf_law.specs.declared.node.PlanReleasing.{PlanReleasing}
+use Rattle.sf_law.specs.declared.node.PlanEditing.{PlanEditing}
 use Rattle.sf_law.specs.declared.node.PlanNode.{PlanNode}
 use Rattle.sf_law.specs.declared.node.PlanNode.TheVariants as nodes
 use Rattle.sf_law.specs.declared.node.PlanPrimitive.{PlanPrimitive}
 use Rattle.sf_law.specs.declared.plan.Plan.{Plan}
-use Rattle.sf_law.specs.Entries.{primitive_over, closed_before, arguments_end}
-use Rattle.sf_law.specs.Arena.{node_count, plan_tree, plan_expressions, plan_expression_at, plan_arguments, BuildsPlan, builds_primitive, builds_call, builds_switching, builds_keeping, AddsNode}
-use Rattle.sf_law.specs.Copies.{named_process, CopiesPrimitive, CopiesNode}
-use Rattle.sf_law.proofs.Copied.{value_same, function_same, pattern_same, same_primitive, same_term, named_tree}
+use Rattle.sf_law.specs.Entries.{primitive_over, closed_before}
+use Rattle.sf_law.specs.Arena.{node_count, plan_tree, plan_expressions, plan_expression_at, plan_arguments, plan_collection, BuildsPlan, builds_primitive, builds_started, builds_probe, builds_call, builds_transformed, builds_switching, builds_keeping, builds_gathered, builds_releasing, builds_editing, AddsNode}
+use Rattle.sf_law.specs.Copies.{named_process, CopiesPrimitive, CopiesCollection, copies_empty, copies_used, copies_added, copies_dropped, copies_kept, copies_chosen, CopiesReleasing, CopiesEditing, CopiesArgument, copies_value, copies_started, copies_closed, copies_members, CopiesNode, copies_primitive, copies_process, copies_probe, copies_call, copies_joined, copies_sided, copies_headed, copies_transformed, copies_switching, copies_keeping, copies_gathered, copies_releasing, copies_editing}
+use Rattle.sf_law.proofs.Copied.{StandBelow, value_same, function_same, pattern_same, same_primitive, named_tree}
 use Rattle.sf_rewrite.specs.Laws.{Laws, unchanged, in_turn, as_pipeline}
-use Rattle.sf_rewrite.specs.Plans.{is_started, Plans, plans, of_primitive, of_started, of_call, PlansArguments, of_no_arguments, of_value_argument, of_named_argument, of_closed_argument, of_term_argument, of_join, of_side, of_heading, of_transformed, of_switch, of_keeping}
-use Rattle.sf_rewrite.specs.Normal.{IsPlan, plan_primitive, plan_started, plan_call, plan_transformed, plan_switch, plan_keeping, ArePlans, plan_no_arguments, plan_value_argument, plan_closed_argument, plan_term_argument}
-use Rattle.sf_optimise.specs.Making.{GrowsPlan, HoldsTree, IsNormal, MakesPlan}
+use Rattle.sf_rewrite.specs.Plans.{is_started, Plans, plans, of_primitive, of_started, of_call, PlansArguments, of_no_arguments, of_value_argument, of_named_argument, of_closed_argument, of_term_argument, of_collection_argument, PlansCollection, of_without, of_used, of_added, of_dropped, of_kept, of_chosen, of_gathered, of_releasing, of_editing, of_join, of_side, of_heading, of_transformed, of_switch, of_keeping}
+use Rattle.sf_rewrite.specs.Normal.{IsPlan, plan_primitive, plan_started, plan_call, plan_transformed, plan_switch, plan_keeping, ArePlans, plan_no_arguments, plan_value_argument, plan_closed_argument, plan_term_argument, plan_collection_argument, IsPlanned, planned_without, planned_used, planned_added, planned_dropped, planned_kept, planned_chosen, plan_gathered, plan_releasing, plan_editing}
+use Rattle.sf_optimise.specs.Making.{GrowsPlan, IsNormal, MakesPlan}
 use Rattle.std.proofs.lemmas.Bool.{cases_lt}
 use Rattle.sf_arena.specs.Items.{Added}
 use Rattle.sf_arena.proofs.Grown.{added_counted, added_item, item_kept}
-use Rattle.sf_optimise.specs.Optimised.{plan_of, HoldsPlan, HoldsPlans, RewritesArgument, rewrites_value, rewrites_started, rewrites_closed}
+use Rattle.sf_optimise.specs.Optimised.{plan_of, keeps_form, HoldsPlan, HoldsPlans}
 use Rattle.sf_optimise.proofs.Made.{held_new}
 
 pub is_normal : {t : Term} {q : Plan} {a : PlanId} → HoldsPlan t q a → IsNormal q a
@@ -73,16 +80,6 @@ heading_rewritten p q r e {t} {h} {a} {b} kept held P M = record {
   plan = plans (of_heading P.plan) (subst (λ i. Laws (headed h i (plan_tree q a)) (plan_tree r b)) (value_same p q kept e held) M.law);
 }
 
-pub transforming_rewritten : (p : Program) (q r : Plan) (f : FunctionId) {t : Term} {a b : PlanId} → Keeps (expressions_of p) (plan_expressions q) → ProgramHoldsFunction p f → HoldsPlan t q a
-    → HoldsTree (transformed (function_at (plan_expressions q) f) (plan_tree q a)) r b → HoldsPlan (transformed (function_in p f) t) r b
-transforming_rewritten p q r f {t} {a} {b} kept held P H =
-    let is : plan_tree r b ≡ transformed (function_in p f) (plan_tree q a) = H.is ∙ ap (λ g. transformed g (plan_tree q a)) (function_same p q kept f held) in
-    record {
-      held = H.held;
-      normal = subst IsPlan (sym is) (plan_transformed P.normal);
-      plan = subst (Plans (transformed (function_in p f) t)) (sym is) (plans (of_transformed P.plan) unchanged);
-    }
-
 -- ## Nodes that are added as they are
 
 -- a node that was added, of which this is a plan
@@ -92,30 +89,20 @@ added {t} A is P T = record { held = held_new A; normal = subst IsPlan (sym is) 
 primitive_built : {q : Plan} {b : PlanPrimitive} {u : Term} → BuildsPlan q (nodes.Primitive b) u → u ≡ primitive (primitive_over (plan_expressions q) b)
 primitive_built (builds_primitive k) = refl
 
-pub primitive_rewritten : (p : Program) (q r : Plan) (a : Primitive) (b : PlanPrimitive) {c : PlanId} → Keeps (expressions_of p) (plan_expressions q) → HoldsTermParts p (ast.Primitive a) → CopiesPrimitive a b
+primitive_rewritten : (p : Program) (q r : Plan) (a : Primitive) (b : PlanPrimitive) {c : PlanId} → Keeps (expressions_of p) (plan_expressions q) → HoldsTermParts p (ast.Primitive a) → CopiesPrimitive a b
     → AddsNode q r c (nodes.Primitive b) → HoldsPlan (term_of p (ast.Primitive a)) r c
 primitive_rewritten p q r a b kept held copied A =
     let one = primitive (primitive_over (plan_expressions q) b) in
     added A (primitive_built A.builds) plan_primitive (subst (λ t. Plans t one) (same_primitive p q kept a b copied held) (plans of_primitive unchanged))
 
-named_plan : (w : Naming) (x : _) → Plans (named_term w x) (named_term w x) × IsPlan (named_term w x)
-named_plan (Process w) x = (plans of_started unchanged, plan_started)
-named_plan Probe x = (plans of_primitive unchanged, plan_primitive)
-
-pub named_rewritten : (p : Program) (q r : Plan) (w : Naming) (k : NameId) (s : _) (m : PlanNode) {c : PlanId} → Keeps (expressions_of p) (plan_expressions q) → HoldsTermParts p (ast.Named w k s) → CopiesNode p (ast.Named w k s) m
-    → AddsNode q r c m → HoldsPlan (term_of p (ast.Named w k s)) r c
-named_rewritten p q r w k s m {c} kept held copied A =
-    let l = named_plan w (name_at (expressions_of p) k) in
-    added A (same_term p q kept (ast.Named w k s) m (plan_tree r c) 0 copied tt held (λ t h. let no_term : ⊥ = omega (arith, h) in absurd no_term) A.builds) l.1 l.0
-
-pub switching_rewritten : (p : Program) (q r : Plan) (w : Switching) (a b : TermId) (i : PatternId) {f g c : PlanId} → Keeps (expressions_of p) (plan_expressions q) → HoldsPatternIn p i → HoldsPlan (tree p a) q f → HoldsPlan (tree p b) q g
+switching_rewritten : (p : Program) (q r : Plan) (w : Switching) (a b : TermId) (i : PatternId) {f g c : PlanId} → Keeps (expressions_of p) (plan_expressions q) → HoldsPatternIn p i → HoldsPlan (tree p a) q f → HoldsPlan (tree p b) q g
     → AddsNode q r c (nodes.Switching w f i g) → HoldsPlan (term_of p (ast.Switching w a i b)) r c
 switching_rewritten p q r w a b i {f} {g} {c} kept held P Q A = added A (built A.builds ∙ ap (λ x. switching w (plan_tree q f) (pattern_of x) (plan_tree q g)) (pattern_same p q kept i held)) (plan_switch P.normal Q.normal) (plans (of_switch P.plan Q.plan) unchanged)
   where
     built : {u : Term} → BuildsPlan q (nodes.Switching w f i g) u → u ≡ switching w (plan_tree q f) (pattern_of (placed_at (plan_expressions q) i)) (plan_tree q g)
     built builds_switching = refl
 
-pub keeping_rewritten : (p : Program) (q r : Plan) (w : Observation) (a o b : TermId) (k : NameId) (s : _) (i : PatternId) {f h g c : PlanId} → Keeps (expressions_of p) (plan_expressions q) → HoldsTermParts p (ast.Keeping w a o k s i b)
+keeping_rewritten : (p : Program) (q r : Plan) (w : Observation) (a o b : TermId) (k : NameId) (s : _) (i : PatternId) {f h g c : PlanId} → Keeps (expressions_of p) (plan_expressions q) → HoldsTermParts p (ast.Keeping w a o k s i b)
     → HoldsPlan (tree p a) q f → HoldsPlan (tree p o) q h → HoldsPlan (tree p b) q g → AddsNode q r c (nodes.Keeping w f h k i g) → HoldsPlan (term_of p (ast.Keeping w a o k s i b)) r c
 keeping_rewritten p q r w a o b k s i {f} {h} {g} {c} kept held P O Q A =
     added A (built A.builds ∙ ap₂ (λ x y. keeping w (plan_tree q f) (plan_tree q h) x (pattern_of y) (plan_tree q g)) (kept.names k held.2) (pattern_same p q kept i held.3)) (plan_keeping P.normal O.normal Q.normal) (plans (of_keeping P.plan O.plan Q.plan) unchanged)
@@ -123,7 +110,7 @@ keeping_rewritten p q r w a o b k s i {f} {h} {g} {c} kept held P O Q A =
     built : {u : Term} → BuildsPlan q (nodes.Keeping w f h k i g) u → u ≡ keeping w (plan_tree q f) (plan_tree q h) (name_at (plan_expressions q) k) (pattern_of (placed_at (plan_expressions q) i)) (plan_tree q g)
     built builds_keeping = refl
 
--- ## Calls
+-- ## Collections and calls
 
 -- a term that is closed before other arguments
 closed_plans : {t : Term} (u : Term) {vs ws : Arguments} → is_started t ≡ false → Plans t u → IsPlan u → PlansArguments vs ws → ArePlans ws → PlansArguments (process_argument t vs) (closed_before u ws) × ArePlans (closed_before u ws)
@@ -159,46 +146,94 @@ not_started p (ast.Headed g e a) h = refl
 not_started p (ast.Transformed f a) h = refl
 not_started p (ast.Switching w a q b) h = refl
 not_started p (ast.Keeping w a o j s q b) h = refl
+not_started p (ast.Gathered c) h = refl
+not_started p (ast.Releasing n) h = refl
+not_started p (ast.Editing n) h = refl
 
 module _ (p : Program) (q : Plan) (ids : List PlanId) (kept : Keeps (expressions_of p) (plan_expressions q)) (holds : HoldsPlans p q ids) where
-  arguments_rewritten : (vs : List Argument) (ws : List PlanArgument) → AllZip (RewritesArgument p ids) vs ws → All (ArgumentBelow (length ids)) vs → All (HoldsArgument p) vs
+  -- a collection with plans of its terms, in normal form
+  abbrev AreRewritten : Collection → Collection → Type 0
+  AreRewritten i j = PlansCollection i j × IsPlanned j
+
+  collection_rewritten : (c : CollExpr) (d : PlanCollection) → CopiesCollection (plan_of ids) c d → CollectionBelow (length ids) c → HoldsMembers p c → AreRewritten (collection_of p c) (plan_collection q d)
+  collection_rewritten _ _ copies_empty below held = (of_without, planned_without)
+  collection_rewritten _ _ (copies_used {k}) below held = subst (λ x. AreRewritten (used x) (used (name_at (plan_expressions q) k))) (kept.names k held) (of_used, planned_used)
+  collection_rewritten _ _ (copies_added {c} {d} {e} {t} z) below held =
+      let I = collection_rewritten c d z below.0 held.0 in
+      let P = holds t below.1 in
+      subst (λ v. AreRewritten (added_of (collection_of p c) v (tree p t)) (added_of (plan_collection q d) (plan_expression_at q e) (plan_tree q (plan_of ids t)))) (value_same p q kept e held.1) (of_added I.0 P.plan, planned_added I.1 P.normal)
+  collection_rewritten _ _ (copies_dropped {c} {d} {e} z) below held =
+      let I = collection_rewritten c d z below held.0 in
+      subst (λ v. AreRewritten (dropped (collection_of p c) v) (dropped (plan_collection q d) (plan_expression_at q e))) (value_same p q kept e held.1) (of_dropped I.0, planned_dropped I.1)
+  collection_rewritten _ _ (copies_kept {c} {d} {f} z) below held =
+      let I = collection_rewritten c d z below held.0 in
+      subst (λ g. AreRewritten (kept_of (collection_of p c) g) (kept_of (plan_collection q d) (function_at (plan_expressions q) f))) (function_same p q kept f held.1) (of_kept I.0, planned_kept I.1)
+  collection_rewritten _ _ (copies_chosen {c} {d} {g} {h} {e} y z) below held =
+      let I = collection_rewritten c g y below.0 held.1 in
+      let J = collection_rewritten d h z below.1 held.2 in
+      subst (λ v. AreRewritten (chosen v (collection_of p c) (collection_of p d)) (chosen (plan_expression_at q e) (plan_collection q g) (plan_collection q h))) (value_same p q kept e held.0) (of_chosen I.0 J.0, planned_chosen I.1 J.1)
+
+  gathered_rewritten : (r : Plan) (i : CollectionId) (m : Rc PlanCollection Global) {c : PlanId} → HoldsTermParts p (ast.Gathered i) → TermPartsBelow p (ast.Gathered i) (length ids) → CopiesCollection (plan_of ids) (collection_under p i) m.value
+      → AddsNode q r c (nodes.Gathered m) → HoldsPlan (term_of p (ast.Gathered i)) r c
+  gathered_rewritten r i m held below z A =
+      let I = collection_rewritten (collection_under p i) m.value z below held.1 in
+      added A (built A.builds) (plan_gathered I.1) (plans (of_gathered I.0) unchanged)
+    where
+      built : {u : Term} → BuildsPlan q (nodes.Gathered m) u → u ≡ gathered (plan_collection q m.value)
+      built (builds_gathered w) = refl
+
+  releasing_rewritten : (r : Plan) (s : Releasing) (m : PlanReleasing) {c : PlanId} → HoldsTermParts p (ast.Releasing s) → TermPartsBelow p (ast.Releasing s) (length ids) → CopiesReleasing p (plan_of ids) s m
+      → AddsNode q r c (nodes.Releasing m) → HoldsPlan (term_of p (ast.Releasing s)) r c
+  releasing_rewritten r s m held below z A =
+      let I = collection_rewritten (collection_under p s.members) m.members.value z.members below.0 held.0.1 in
+      let O = subst (HoldsPlan (tree p s.observer) q) (sym z.observer) (holds s.observer below.1) in
+      let B = subst (HoldsPlan (tree p s.body) q) (sym z.body) (holds s.body below.2) in
+      let name = ap (λ k. name_at (plan_expressions q) k) z.name ∙ kept.names s.name held.2 in
+      let pattern = ap (λ i. placed_at (plan_expressions q) i) z.pattern ∙ pattern_same p q kept s.pattern held.3 in
+      added A (built A.builds ∙ λ j. releasing (z.shown j) (plan_collection q m.members.value) (plan_tree q m.observer) (name j) (pattern_of (pattern j)) (plan_tree q m.body)) (plan_releasing I.1 O.normal B.normal) (plans (of_releasing I.0 O.plan B.plan) unchanged)
+    where
+      built : {u : Term} → BuildsPlan q (nodes.Releasing m) u → u ≡ releasing m.shown (plan_collection q m.members.value) (plan_tree q m.observer) (name_at (plan_expressions q) m.name) (pattern_of (placed_at (plan_expressions q) m.pattern)) (plan_tree q m.body)
+      built (builds_releasing w) = refl
+
+  editing_rewritten : (r : Plan) (s : Editing) (m : PlanEditing) {c : PlanId} → HoldsTermParts p (ast.Editing s) → TermPartsBelow p (ast.Editing s) (length ids) → CopiesEditing p (plan_of ids) s m
+      → AddsNode q r c (nodes.Editing m) → HoldsPlan (term_of p (ast.Editing s)) r c
+  editing_rewritten r s m held below z A =
+      let I = collection_rewritten (collection_under p s.members) m.members.value z.members below.0 held.0.1 in
+      let J = collection_rewritten (collection_under p s.edit) m.edit.value z.edit below.1 held.3.1 in
+      let name = ap (λ k. name_at (plan_expressions q) k) z.name ∙ kept.names s.name held.1 in
+      let pattern = ap (λ i. placed_at (plan_expressions q) i) z.pattern ∙ pattern_same p q kept s.pattern held.2 in
+      added A (built A.builds ∙ λ j. editing (z.shown j) (plan_collection q m.members.value) (name j) (pattern_of (pattern j)) (plan_collection q m.edit.value)) (plan_editing I.1 J.1) (plans (of_editing I.0 J.0) unchanged)
+    where
+      built : {u : Term} → BuildsPlan q (nodes.Editing m) u → u ≡ editing m.shown (plan_collection q m.members.value) (name_at (plan_expressions q) m.name) (pattern_of (placed_at (plan_expressions q) m.pattern)) (plan_collection q m.edit.value)
+      built (builds_editing w) = refl
+
+  arguments_rewritten : (vs : List Argument) (ws : List PlanArgument) → AllZip (CopiesArgument p (plan_of ids)) vs ws → All (ArgumentBelow p (length ids)) vs → All (HoldsArgument p) vs
       → PlansArguments (arguments_of p vs) (plan_arguments q ws) × ArePlans (plan_arguments q ws)
   arguments_rewritten [] [] z below held = (of_no_arguments, plan_no_arguments)
   arguments_rewritten [] (w ∷ ws) z below held = absurd z
   arguments_rewritten (v ∷ vs) [] z below held = absurd z
   arguments_rewritten (v ∷ vs) (w ∷ ws) z below held =
-      let more = arguments_rewritten vs ws z.1 (All-tail (ArgumentBelow (length ids)) v vs below) (All-tail (HoldsArgument p) v vs held) in
-      one v w z.0 (All-head (ArgumentBelow (length ids)) v vs below) (All-head (HoldsArgument p) v vs held) more.0 more.1
+      let more = arguments_rewritten vs ws z.1 (All-tail (ArgumentBelow p (length ids)) v vs below) (All-tail (HoldsArgument p) v vs held) in
+      one v w z.0 (All-head (ArgumentBelow p (length ids)) v vs below) (All-head (HoldsArgument p) v vs held) more.0 more.1
     where
       Both : Arguments → Arguments → Type 0
       Both us xs = PlansArguments us xs × ArePlans xs
 
-      one : (v : Argument) (w : PlanArgument) → RewritesArgument p ids v w → ArgumentBelow (length ids) v → HoldsArgument p v → PlansArguments (arguments_of p vs) (plan_arguments q ws) → ArePlans (plan_arguments q ws)
+      one : (v : Argument) (w : PlanArgument) → CopiesArgument p (plan_of ids) v w → ArgumentBelow p (length ids) v → HoldsArgument p v → PlansArguments (arguments_of p vs) (plan_arguments q ws) → ArePlans (plan_arguments q ws)
           → Both (arguments_of p (v ∷ vs)) (plan_arguments q (w ∷ ws))
-      one _ _ (rewrites_value {e} {c = d}) b h A B = subst (λ i. Both (value_argument i (arguments_of p vs)) (plan_arguments q (plan_values.Value e d ∷ ws))) (value_same p q kept e h) (of_value_argument A, plan_value_argument B)
-      one _ _ (rewrites_started {a} {w} {k} is) b h A B =
+      one _ _ (copies_value {e} {c = d}) b h A B = subst (λ i. Both (value_argument i (arguments_of p vs)) (plan_arguments q (plan_values.Value e d ∷ ws))) (value_same p q kept e h) (of_value_argument A, plan_value_argument B)
+      one _ _ (copies_started {a} {w} {k} is) b h A B =
           let named = named_tree p a w k is in
           let same : tree p a ≡ reference (started w (name_at (plan_expressions q) k)) = named.0 ∙ ap (λ x. reference (started w x)) (sym (kept.names k named.1)) in
           subst (λ t. Both (process_argument t (arguments_of p vs)) (process_argument (reference (started w (name_at (plan_expressions q) k))) (plan_arguments q ws))) (sym same) (of_named_argument A, plan_term_argument plan_started B)
-      one _ _ (rewrites_closed {a} is) b h A B =
+      one _ _ (copies_closed {a} is) b h A B =
           let P = holds a b in
           let none : is_started (tree p a) ≡ false = ap is_started (node_builds p a (term_node_at p a) refl) ∙ not_started p (term_node_at p a) is in
           closed_plans (plan_tree q (plan_of ids a)) none P.plan P.normal A B
+      one _ _ (copies_members {c} {r} z) b h A B = let I = collection_rewritten (collection_under p c) r.value z b h.1 in (of_collection_argument I.0 A, plan_collection_argument I.1 B)
 
-  -- the terms of arguments are held
-  pub arguments_held : (vs : List Argument) (ws : List PlanArgument) → AllZip (RewritesArgument p ids) vs ws → All (ArgumentBelow (length ids)) vs → arguments_end ws ≤ node_count q
-  arguments_held [] [] z below = omega arith
-  arguments_held [] (w ∷ ws) z below = absurd z
-  arguments_held (v ∷ vs) [] z below = absurd z
-  arguments_held (v ∷ vs) (w ∷ ws) z below = one v w z.0 (All-head (ArgumentBelow (length ids)) v vs below) (arguments_held vs ws z.1 (All-tail (ArgumentBelow (length ids)) v vs below))
-    where
-      one : (v : Argument) (w : PlanArgument) → RewritesArgument p ids v w → ArgumentBelow (length ids) v → arguments_end ws ≤ node_count q → arguments_end (w ∷ ws) ≤ node_count q
-      one _ _ rewrites_value b more = more
-      one _ _ (rewrites_started is) b more = more
-      one _ _ (rewrites_closed {a} is) b more = let here = (holds a b).held in omega (arith, here, more)
-
-  pub call_rewritten : (r : Plan) (k : NameId) (i : ArgumentsId) (g : TemplateId) (v : Vec PlanArgument Global) {c : PlanId} → HoldsTermParts p (ast.Call k i) → TermPartsBelow p (ast.Call k i) (length ids)
-      → AllZip (RewritesArgument p ids) (arguments_under p i) v.items → AddsNode q r c (nodes.Call k g v) → HoldsPlan (term_of p (ast.Call k i)) r c
+  call_rewritten : (r : Plan) (k : NameId) (i : ArgumentsId) (g : TemplateId) (v : Vec PlanArgument Global) {c : PlanId} → HoldsTermParts p (ast.Call k i) → TermPartsBelow p (ast.Call k i) (length ids)
+      → AllZip (CopiesArgument p (plan_of ids)) (arguments_under p i) v.items → AddsNode q r c (nodes.Call k g v) → HoldsPlan (term_of p (ast.Call k i)) r c
   call_rewritten r k i g v held below z A =
       let A' = arguments_rewritten (arguments_under p i) v.items z below held.2 in
       added A (built A.builds ∙ ap (λ x. reference (call x (plan_arguments q v.items))) (kept.names k held.0)) (plan_call A'.1) (plans (of_call A'.0) unchanged)
@@ -206,7 +241,38 @@ module _ (p : Program) (q : Plan) (ids : List PlanId) (kept : Keeps (expressions
       built : {u : Term} → BuildsPlan q (nodes.Call k g v) u → u ≡ reference (call (name_at (plan_expressions q) k) (plan_arguments q v.items))
       built (builds_call is coded) = refl
 
+  -- a node that keeps its form, with the plans of its parts
+  pub form_kept : (r : Plan) (n : Node) (m : PlanNode) {c : PlanId} → keeps_form n ≡ true → HoldsTermParts p n → TermPartsBelow p n (length ids) → CopiesNode p (plan_of ids) n m → AddsNode q r c m → HoldsPlan (term_of p n) r c
+  form_kept r _ _ keeps held below (copies_primitive {q = a} {r = b} z) A = primitive_rewritten p q r a b kept held z A
+  form_kept r _ _ keeps held below (copies_process {w} {k} {s}) A = added A (built A.builds ∙ ap (λ x. reference (started w x)) (kept.names k held)) plan_started (plans of_started unchanged)
+    where
+      built : {u : Term} → BuildsPlan q (nodes.Started w k) u → u ≡ reference (started w (name_at (plan_expressions q) k))
+      built builds_started = refl
+  form_kept r _ _ keeps held below (copies_probe {k} {s} {r = b} is) A = added A (built A.builds ∙ ap (λ x. primitive (probe x)) is) plan_primitive (plans of_primitive unchanged)
+    where
+      built : {u : Term} → BuildsPlan q (nodes.Probe b) u → u ≡ primitive (probe (string_bytes b.value))
+      built builds_probe = refl
+  form_kept r _ _ keeps held below (copies_call {k} {a} {g} {v} z) A = call_rewritten r k a g v held below z A
+  form_kept r _ _ keeps held below copies_joined A = absurd (true≢false (sym keeps))
+  form_kept r _ _ keeps held below copies_sided A = absurd (true≢false (sym keeps))
+  form_kept r _ _ keeps held below copies_headed A = absurd (true≢false (sym keeps))
+  form_kept r _ _ keeps held below (copies_transformed {f} {c = d} {a}) A =
+      let P = holds a below in
+      added A (built A.builds ∙ ap (λ g. transformed g (plan_tree q (plan_of ids a))) (function_same p q kept f held.0)) (plan_transformed P.normal) (plans (of_transformed P.plan) unchanged)
+    where
+      built : {u : Term} → BuildsPlan q (nodes.Transformed f d (plan_of ids a)) u → u ≡ transformed (function_at (plan_expressions q) f) (plan_tree q (plan_of ids a))
+      built (builds_transformed w) = refl
+  form_kept r _ _ keeps held below (copies_switching {w} {a} {b} {q = i}) A = switching_rewritten p q r w a b i kept held.1 (holds a below.0) (holds b below.1) A
+  form_kept r _ _ keeps held below (copies_keeping {w} {a} {o} {b} {k} {s} {q = i}) A = keeping_rewritten p q r w a o b k s i kept held (holds a below.0) (holds o below.1) (holds b below.2) A
+  form_kept r _ _ keeps held below (copies_gathered {c = i} {r = m} z) A = gathered_rewritten r i m held below z A
+  form_kept r _ _ keeps held below (copies_releasing {s} {r = m} z) A = releasing_rewritten r s m held below z A
+  form_kept r _ _ keeps held below (copies_editing {s} {r = m} z) A = editing_rewritten r s m held below z A
+
 -- ## All terms
+
+-- the plans of terms are held
+pub are_held : (p : Program) (q : Plan) (ids : List PlanId) → HoldsPlans p q ids → StandBelow (plan_of ids) (length ids) (node_count q)
+are_held p q ids holds t below = (holds t below).held
 
 pub part_of : (p : Program) (q : Plan) (ids : List PlanId) → HoldsPlans p q ids → (t : TermId) → term_number t < length ids → {a : PlanId} → a ≡ plan_of ids t → HoldsPlan (tree p t) q a
 part_of p q ids holds t below is = subst (HoldsPlan (tree p t) q) (sym is) (holds t below)

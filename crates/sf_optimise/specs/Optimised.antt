@@ -1,25 +1,18 @@
 -- What an optimised plan is of a network.
-use Rattle.std.specs.Prelude.{◌≡◌, ◌<◌, List, length, All, Some, None, slice_index_or}
+use Rattle.std.specs.Prelude.{◌<◌, Bool, true, false, List, length, All, slice_index_or}
 use Rattle.sf_func.specs.Registries.{AnswersByName}
-use Rattle.sf_expr.specs.declared.exprs.ExprId.{ExprId}
-use Rattle.sf_expr.specs.declared.exprs.NameId.{NameId}
-use Rattle.sf_term.specs.declared.form.Start.{Start}
 use Rattle.sf_term.specs.declared.node.TermId.{TermId}
-use Rattle.sf_term.specs.declared.node.Argument.{Argument}
-use Rattle.sf_term.specs.declared.node.Argument.TheVariants as arguments
+use Rattle.sf_term.specs.declared.node.Node.{Node}
+use Rattle.sf_term.specs.declared.node.Node.TheVariants as terms
 use Rattle.sf_term.specs.declared.program.Program.{Program}
 use Rattle.sf_term.specs.Trees.{Term, Template}
-use Rattle.sf_term.specs.Arena.{tree, term_number, term_node_at}
+use Rattle.sf_term.specs.Arena.{tree, term_number}
 use Rattle.sf_mean.specs.Networks.{network_of}
 use Rattle.sf_check.specs.declared.checked.Checked.{Checked}
 use Rattle.sf_check.specs.Accepting.{program_of, checked_main}
-use Rattle.sf_code.specs.declared.open.OpenCode.{OpenCode}
 use Rattle.sf_law.specs.declared.node.PlanId.{PlanId}
-use Rattle.sf_law.specs.declared.node.PlanArgument.{PlanArgument}
-use Rattle.sf_law.specs.declared.node.PlanArgument.TheVariants as plan_arguments
 use Rattle.sf_law.specs.declared.plan.Plan.{Plan}
 use Rattle.sf_law.specs.Arena.{plan_number, node_count, plan_tree, plan_main, plan_templates, network_of_plan}
-use Rattle.sf_law.specs.Copies.{named_process}
 use Rattle.sf_rewrite.specs.Plans.{Plans, PlansNetwork}
 use Rattle.sf_rewrite.specs.Normal.{IsPlan}
 
@@ -37,11 +30,20 @@ plan_of ids t = slice_index_or ids (term_number t) (record { 0 = 0 })
 abbrev pub HoldsPlans : Program → Plan → List PlanId → Type 0
 HoldsPlans p q ids = (t : TermId) → term_number t < length ids → HoldsPlan (tree p t) q (plan_of ids t)
 
--- An argument is rewritten: the same expression, the same named process, or the plan of a term.
-pub data RewritesArgument (p : Program) (ids : List PlanId) : Argument → PlanArgument → Type 0 where
-  rewrites_value : {e : ExprId} {c : OpenCode} → RewritesArgument p ids (arguments.Value e) (plan_arguments.Value e c)
-  rewrites_started : {a : TermId} {w : Start} {k : NameId} → named_process (term_node_at p a) ≡ Some (w, k) → RewritesArgument p ids (arguments.Process a) (plan_arguments.Started w k)
-  rewrites_closed : {a : TermId} → named_process (term_node_at p a) ≡ None → RewritesArgument p ids (arguments.Process a) (plan_arguments.Closed (plan_of ids a))
+-- nodes that keep their form: no law makes others of them
+abbrev pub keeps_form : Node → Bool
+keeps_form (terms.Primitive q) = true
+keeps_form (terms.Named w k s) = true
+keeps_form (terms.Call k a) = true
+keeps_form (terms.Joined j a b) = false
+keeps_form (terms.Sided d a) = false
+keeps_form (terms.Headed h e a) = false
+keeps_form (terms.Transformed f a) = true
+keeps_form (terms.Switching w a q b) = true
+keeps_form (terms.Keeping w a o k s q b) = true
+keeps_form (terms.Gathered c) = true
+keeps_form (terms.Releasing n) = true
+keeps_form (terms.Editing n) = true
 
 -- The plan of an accepted network that laws make of it, whatever its stored functions answer: `main` and each template stand for
 -- plans of their terms, in normal form.

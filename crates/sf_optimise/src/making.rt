@@ -3,8 +3,7 @@ ghost use Rattle.std.specs.Prelude.{◌≡◌, ◌<◌, ◌≤◌, false, IfOk, 
 ghost use Rattle.sf_rewrite.specs.Normal.{IsPlan};
 ghost use Rattle.sf_term.specs.declared.form.Join.TheVariants.{InParallel, FannedOut};
 ghost use Rattle.sf_term.specs.declared.form.Side.TheVariants.{First};
-ghost use Rattle.sf_expr.specs.Arena.{function_at};
-ghost use Rattle.sf_term.specs.Trees.{joined, sided, headed as headed_term, transformed as transformed_term, staged, whole};
+ghost use Rattle.sf_term.specs.Trees.{joined, sided, headed as headed_term, staged, whole};
 ghost use Rattle.sf_rewrite.specs.Laws.{arr};
 ghost use Rattle.sf_law.specs.Arena.{plan_number, node_count, plan_tree, plan_expressions, plan_expression_at, trees_at};
 ghost use Rattle.sf_term.specs.Trees.{primitive as primitive_term};
@@ -12,8 +11,8 @@ ghost use Rattle.sf_law.specs.Entries.{chain_over, pipeline, primitive_over, IsC
 ghost use Rattle.sf_optimise.specs.Lists.{is_identity_term, AreStages};
 ghost use Rattle.sf_optimise.specs.Making.{GrowsPlan, HoldsTree, IsNormal, MakesPlan, ChainIn, ChainsIn, IsConstant};
 
-use sf_code::{expression_code, function_code};
-use sf_expr::{ExprId, Exprs, FunctionId};
+use sf_code::expression_code;
+use sf_expr::{ExprId, Exprs};
 use sf_law::{Plan, PlanChain, PlanId, PlanNode, PlanPrimitive};
 use sf_term::{Bare, Heading, Join, Side, WithValue};
 use std::alloc::{AllocError, Global};
@@ -86,21 +85,6 @@ pub(crate) fn headed(
 {
     let code = expression_code(alloc, plan.expressions(), value)?;
     plan.add(PlanNode::Headed(heading, value, code, part))
-}
-
-/// A term with a function at its head.
-pub(crate) fn transformed(
-    alloc: Global,
-    plan: &mut Plan,
-    function: FunctionId,
-    part: PlanId,
-) -> Result<PlanId, AllocError>
-    requires { plan_number part < node_count plan.old }
-    ensures ok { IfOk result (λ a. HoldsTree (transformed_term (function_at (plan_expressions plan.old) function) (plan_tree plan.old part)) plan.new a) }
-    ensures grows { GrowsPlan plan.old plan.new }
-{
-    let code = function_code(alloc, plan.expressions(), function)?;
-    plan.add(PlanNode::Transformed(function, code, part))
 }
 
 /// The functions of a term, where it is `arr`.

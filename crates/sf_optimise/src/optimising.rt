@@ -1,27 +1,19 @@
 //! The optimised plan of a network: each term is made anew, from the innermost outwards, of the plans of its parts.
-ghost use Rattle.std.specs.Prelude.{◌≡◌, ◌<◌, ◌≤◌, All, IfOk, length};
+ghost use Rattle.std.specs.Prelude.{◌≡◌, ◌<◌, ◌≤◌, true, IfOk, length};
 ghost use Rattle.sf_rewrite.specs.Laws.{identity};
-ghost use Rattle.std.specs.List.{AllZip};
 ghost use Rattle.sf_expr.specs.Arena.{Keeps};
 ghost use Rattle.sf_term.specs.Trees.{joined as joined_term, headed as headed_term};
-ghost use Rattle.sf_term.specs.Arena.{term_count, term_number, expressions_of, term_of, tree, arguments_under, ArgumentBelow, TermPartsBelow, HoldsTermParts};
-ghost use Rattle.sf_term.specs.declared.node.Node.TheVariants.{Call as call_node};
-ghost use Rattle.sf_rewrite.specs.Plans.{Plans};
-ghost use Rattle.sf_rewrite.specs.Normal.{IsPlan};
-ghost use Rattle.sf_law.specs.Arena.{plan_number, node_count, plan_tree, plan_expressions, plan_expression_at};
-ghost use Rattle.sf_law.specs.Entries.{IsCodedArgument};
+ghost use Rattle.sf_term.specs.Arena.{term_count, term_number, expressions_of, term_of, tree, TermPartsBelow, HoldsTermParts};
+ghost use Rattle.sf_law.specs.Arena.{plan_tree, plan_expressions, plan_expression_at};
 ghost use Rattle.sf_optimise.specs.Making.{GrowsPlan, IsNormal, MakesPlan};
-ghost use Rattle.sf_optimise.specs.Optimised.{plan_of as id_of, HoldsPlan, HoldsPlans, RewritesArgument, IsOptimisedPlan};
+ghost use Rattle.sf_optimise.specs.Optimised.{plan_of as id_of, keeps_form, HoldsPlan, HoldsPlans, IsOptimisedPlan};
 
-use crate::making::{fanned_out, headed, in_parallel, on_a_side, transformed};
+use crate::making::{fanned_out, headed, in_parallel, on_a_side};
 use crate::sequence::{in_loop, in_sequence};
 use sf_check::Checked;
-use sf_code::expression_code;
-use sf_expr::{ExprId, Exprs, NameId};
-use sf_law::{
-    Plan, PlanArgument, PlanId, PlanNode, empty_plan, plan_named, plan_primitive, started,
-};
-use sf_term::{Argument, ArgumentsId, Heading, Join, Node, Program, TermId};
+use sf_expr::ExprId;
+use sf_law::{Plan, PlanId, TermPlans, empty_plan, plan_node};
+use sf_term::{Heading, Join, Node, Program, TermId};
 use std::alloc::{AllocError, Global};
 
 /// The plan of an accepted network that laws make of it: it means what the network means, and costs no more.
@@ -84,15 +76,6 @@ fn rewritten(
     ensures grows { GrowsPlan plan.old plan.new }
 {
     match node {
-        Node::Primitive(primitive) => {
-            let copy = plan_primitive(alloc, plan.expressions(), primitive)?;
-            plan.add(PlanNode::Primitive(copy))
-        }
-        Node::Named(form, name, _) => {
-            let copy = plan_named(alloc, program, form, name)?;
-            plan.add(copy)
-        }
-        Node::Call(name, arguments) => call(alloc, plan, plans, program, name, arguments),
         Node::Joined(join, first, second) => {
             joined(
                 alloc,
@@ -106,21 +89,38 @@ fn rewritten(
         Node::Headed(heading, value, part) => {
             with_head(alloc, plan, heading, value, plan_of(plans, part))
         }
-        Node::Transformed(function, part) => {
-            transformed(alloc, plan, function, plan_of(plans, part))
+        Node::Primitive(_) | Node::Named(_, _, _) | Node::Call(_, _) => {
+            of_its_form(alloc, plan, plans, program, node)
         }
-        Node::Switching(form, source, pattern, body) => {
-            let source = plan_of(plans, source);
-            let body = plan_of(plans, body);
-            plan.add(PlanNode::Switching(form, source, pattern, body))
+        Node::Transformed(_, _) | Node::Switching(_, _, _, _) => {
+            of_its_form(alloc, plan, plans, program, node)
         }
-        Node::Keeping(shown, source, observer, name, _, pattern, body) => {
-            let source = plan_of(plans, source);
-            let observer = plan_of(plans, observer);
-            let body = plan_of(plans, body);
-            plan.add(PlanNode::Keeping(shown, source, observer, name, pattern, body))
+        Node::Keeping(_, _, _, _, _, _, _) => of_its_form(alloc, plan, plans, program, node),
+        Node::Gathered(_) | Node::Releasing(_) | Node::Editing(_) => {
+            of_its_form(alloc, plan, plans, program, node)
         }
     }
+}
+
+// The plan of a node that keeps its form: the same node, of the plans of its parts.
+fn of_its_form(
+    alloc: Global,
+    plan: &mut Plan,
+    plans: &[PlanId],
+    program: &Program,
+    node: Node,
+) -> Result<PlanId, AllocError>
+    requires keeps { keeps_form node ≡ true }
+    requires kept { Keeps (expressions_of program.now) (plan_expressions plan.old) }
+    requires held { HoldsTermParts program.now node }
+    requires below { TermPartsBelow program.now node (length plans.now) }
+    requires plans { HoldsPlans program.now plan.old plans.now }
+    ensures ok { IfOk result (λ a. HoldsPlan (term_of program.now node) plan.new a) }
+    ensures grows { GrowsPlan plan.old plan.new }
+{
+    let terms = TermPlans::Listed(plans);
+    let copy = plan_node(alloc, plan, program, terms, node)?;
+    plan.add(copy)
 }
 
 // The plan of a term.
@@ -168,76 +168,5 @@ fn with_head(
         Heading::Initialized | Heading::Replaced | Heading::Followed => {
             headed(alloc, plan, heading, value, part)
         }
-    }
-}
-
-// A call of the first template of a name, on arguments with the plans of their terms.
-fn call(
-    alloc: Global,
-    plan: &mut Plan,
-    plans: &[PlanId],
-    program: &Program,
-    name: NameId,
-    arguments: ArgumentsId,
-) -> Result<PlanId, AllocError>
-    requires kept { Keeps (expressions_of program.now) (plan_expressions plan.old) }
-    requires held { HoldsTermParts program.now (call_node name arguments) }
-    requires below { TermPartsBelow program.now (call_node name arguments) (length plans.now) }
-    requires plans { HoldsPlans program.now plan.old plans.now }
-    ensures ok { IfOk result (λ a. HoldsPlan (term_of program.now (call_node name arguments)) plan.new a) }
-    ensures grows { GrowsPlan plan.old plan.new }
-{
-    let exprs = plan.expressions();
-    let template = plan.template_named(exprs.name_of(name));
-    let rewritten = rewritten_arguments(
-        alloc,
-        exprs,
-        plans,
-        program,
-        program.arguments(arguments),
-    )?;
-    plan.add(PlanNode::Call(name, template, rewritten))
-}
-
-// The arguments of a call, in order, with the plans of their terms.
-fn rewritten_arguments(
-    alloc: Global,
-    exprs: &Exprs,
-    plans: &[PlanId],
-    program: &Program,
-    arguments: &[Argument],
-) -> Result<Vec<PlanArgument>, AllocError>
-    requires { All (ArgumentBelow (length plans.now)) arguments.now }
-    ensures same { IfOk result (λ copies. AllZip (RewritesArgument program.now plans.now) arguments.now copies.items) }
-    ensures coded { IfOk result (λ copies. All (IsCodedArgument exprs.now) copies.items) }
-{
-    let mut copies = Vec::new(alloc);
-    for argument in arguments {
-        copies.push(rewritten_argument(alloc, exprs, plans, program, argument)?)?;
-    }
-    Ok(copies)
-}
-
-// An argument, with its code or with the plan of its term. A named process stays as it is.
-fn rewritten_argument(
-    alloc: Global,
-    exprs: &Exprs,
-    plans: &[PlanId],
-    program: &Program,
-    argument: &Argument,
-) -> Result<PlanArgument, AllocError>
-    requires { ArgumentBelow (length plans.now) argument.now }
-    ensures same { IfOk result (λ copy. RewritesArgument program.now plans.now argument.now copy) }
-    ensures coded { IfOk result (λ copy. IsCodedArgument exprs.now copy) }
-{
-    match *argument {
-        Argument::Value(value) => {
-            let code = expression_code(alloc, exprs, value)?;
-            Ok(PlanArgument::Value(value, code))
-        }
-        Argument::Process(term) => match started(program.node(term)) {
-            Some((start, name)) => Ok(PlanArgument::Started(start, name)),
-            None => Ok(PlanArgument::Closed(plan_of(plans, term))),
-        },
     }
 }

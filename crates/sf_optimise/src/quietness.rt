@@ -31,6 +31,7 @@ pub fn quiet(program: &Program, id: TermId) -> bool
         Node::Named(Naming::Probe, _, _) | Node::Named(Naming::Process(_), _, _) => false,
         Node::Call(_, _) | Node::Switching(_, _, _, _) => false,
         Node::Keeping(_, _, _, _, _, _, _) => false,
+        Node::Gathered(_) | Node::Releasing(_) | Node::Editing(_) => false,
     }
 }
 

@@ -50,8 +50,12 @@ keeps_trees_self p = record {
   meanings = λ f h. refl;
   holds_patterns = λ q h. h;
   placed = λ q h. refl;
+  holds_names = λ n h. h;
+  names = λ n h. refl;
   holds_arguments = λ a h. h;
   arguments = λ a h. refl;
+  holds_collections = λ c h. h;
+  collections = λ c h. refl;
 }
 
 pub keeps_self : (p : Program) → KeepsProgram p p

@@ -68,7 +68,7 @@ impl<'a> Cursor<'a> {
     }
 
     /// The type of a table's keys, of which the version writes what it writes.
-    fn keys(&mut self, version: Version) -> Result<KeyType, Stop>
+    pub fn keys(&mut self, version: Version) -> Result<KeyType, Stop>
         ensures reads { ReadsAs key_kind_of result self.new (parse_keys version (ahead self.old)) }
         ensures behind { IfOk result (λ k. BehindSome (spots_ahead self.old) (spots_ahead self.new)) }
     {

@@ -2,25 +2,27 @@
 use Rattle.std.proofs.Common.{◌≡◌, ℕ, pos, Bool, true, false, List, [], ◌∷◌, ◌++◌, map, refl}
 use Rattle.std.specs.List.{All}
 use Rattle.std.proofs.lemmas.List.Elements.{All-nil, All-cons, All-head, All-tail}
-use Rattle.sf_value.specs.Values.{Name, int_keys, text_keys, Kind, unit_kind, bool_kind, int_kind, text_kind, pair_kind, event_kind, table_kind}
+use Rattle.sf_value.specs.Values.{Name, KeyKind, int_keys, text_keys, Kind, unit_kind, bool_kind, int_kind, text_kind, pair_kind, event_kind, table_kind}
 use Rattle.sf_expr.specs.Expressions.{Literal, unit_literal, truth_literal, int_literal, text_literal, none_literal, Expression, variable, literal, paired, applied, operation, conditional, mapped, folded, called, Function, function}
 use Rattle.sf_term.specs.Parameters.{NameKind, value as value_kind, process as process_kind, collection as collection_kind}
-use Rattle.sf_term.specs.Trees.{Primitive, bare, probe, never, with_value, timed, selected, arrow, accumulated, fused, Term, primitive, reference, joined, sided, headed, transformed, switching, keeping, gathered, releasing, editing, staged, Reference, started, call, Arguments, no_arguments, value_argument, process_argument, collection_argument, closed_argument, Template, Templates}
+use Rattle.sf_term.specs.Trees.{Primitive, bare, probe, never, with_value, timed, selected, arrow, accumulated, fused, Term, primitive, reference, joined, sided, headed, transformed, switching, keeping, gathered, releasing, editing, staged, Collection, without_members, used, added, dropped, kept, chosen, Reference, started, call, Arguments, no_arguments, value_argument, process_argument, collection_argument, closed_argument, Template, Templates}
 use Rattle.sf_lex.specs.declared.word.Keyword.{Keyword}
 use Rattle.sf_lex.specs.declared.word.Keyword.TheVariants as words
+use Rattle.sf_lex.specs.declared.symbol.Symbol.{Symbol}
 use Rattle.sf_lex.specs.declared.symbol.Symbol.TheVariants as symbols
 use Rattle.sf_lex.specs.Tokens.{Tok, keyword, number, symbol}
 use Rattle.sf_decimal.specs.Decimals.{is_narrow}
 use Rattle.sf_grammar.specs.declared.ty.Version.{Version}
 use Rattle.sf_grammar.specs.declared.ty.Version.TheVariants as versions
-use Rattle.sf_grammar.specs.Spelling.{spell, in_brackets, spell_operand, spell_operands, spell_choice, spell_mapping, spell_mapped_so, spell_further, spell_listed, spell_type, spell_pattern, spell_literal, spell_expression, spell_function, spell_value, spell_term, spell_reference, spell_arguments, spell_name_kind, spell_parameter, spell_template, spell_templates, takes_brackets, stands_between, maps_in_brackets, stands_initially, operator_token, value_word}
+use Rattle.sf_grammar.specs.Spelling.{spell, in_brackets, spell_operand, spell_operands, spell_choice, spell_mapping, spell_mapped_so, spell_further, spell_listed, spell_type, spell_pattern, spell_literal, spell_expression, spell_function, spell_value, spell_term, spell_collection, spell_reference, spell_arguments, spell_key_kind, spell_name_kind, spell_parameter, spell_template, spell_templates, takes_brackets, stands_between, maps_in_brackets, stands_initially, operator_token, value_word}
 use Rattle.sf_print.specs.Laws.{CanStand}
 
--- the second are the first, but for keywords that are left out
+-- the second are the first, but for keywords and symbols that are left out
 data Shortens : List Tok → List Tok → Type 0 where
   none : Shortens [] []
   keeps : {t : Tok} {xs ys : List Tok} → Shortens xs ys → Shortens (t ∷ xs) (t ∷ ys)
   leaves : {k : Keyword} {xs ys : List Tok} → Shortens xs ys → Shortens (keyword k ∷ xs) ys
+  passes : {w : Symbol} {xs ys : List Tok} → Shortens xs ys → Shortens (symbol w ∷ xs) ys
 
 same : (xs : List Tok) → Shortens xs xs
 same [] = none
@@ -31,18 +33,21 @@ then : (a b c d : List Tok) → Shortens a b → Shortens c d → Shortens (a ++
 then a b c d none s = s
 then a b c d (keeps {xs = xs} {ys = ys} r) s = keeps (then xs ys c d r s)
 then a b c d (leaves {xs = xs} r) s = leaves (then xs b c d r s)
+then a b c d (passes {xs = xs} r) s = passes (then xs b c d r s)
 
 -- the tokens that are left can stand in texts
 shorter_stands : (a b : List Tok) → Shortens a b → All CanStand a → All CanStand b
 shorter_stands a b none h = All-nil CanStand
 shorter_stands a b (keeps {t = t} {xs = xs} {ys = ys} r) h = All-cons CanStand t ys (All-head CanStand t xs h) (shorter_stands xs ys r (All-tail CanStand t xs h))
 shorter_stands a b (leaves {k = k} {xs = xs} r) h = shorter_stands xs b r (All-tail CanStand (keyword k) xs h)
+shorter_stands a b (passes {w = w} {xs = xs} r) h = shorter_stands xs b r (All-tail CanStand (symbol w) xs h)
 
--- and so can the others, which are keywords
+-- and so can the others, which are keywords and symbols
 longer_stands : (a b : List Tok) → Shortens a b → All CanStand b → All CanStand a
 longer_stands a b none h = All-nil CanStand
 longer_stands a b (keeps {t = t} {xs = xs} {ys = ys} r) h = All-cons CanStand t xs (All-head CanStand t ys h) (longer_stands xs ys r (All-tail CanStand t ys h))
 longer_stands a b (leaves {k = k} {xs = xs} r) h = All-cons CanStand (keyword k) xs tt (longer_stands xs b r h)
+longer_stands a b (passes {w = w} {xs = xs} r) h = All-cons CanStand (symbol w) xs tt (longer_stands xs b r h)
 
 brackets : (a b c d : List Tok) (t : Tok) → Shortens a b → Shortens c d → Shortens (in_brackets a t c) (in_brackets b t d)
 brackets a b c d t r s = keeps (then a b _ _ r (keeps (then c d _ _ s (same _))))
@@ -122,10 +127,19 @@ mutual
   term_shorter (transformed h f) = keeps (brackets _ _ _ _ _ (function_shorter h) (term_shorter f))
   term_shorter (switching w f p g) = keeps (brackets _ _ _ _ _ (term_shorter f) (mapping (spell_pattern p) _ _ (term_shorter g)))
   term_shorter (keeping w f g k p u) = keeps (brackets _ _ _ _ _ (term_shorter f) (then _ _ _ _ (term_shorter g) (keeps (keeps (keeps (mapping (spell_pattern p) _ _ (term_shorter u)))))))
-  term_shorter (gathered i) = none
-  term_shorter (releasing w i q k p u) = none
-  term_shorter (editing w i k p u) = none
+  term_shorter (gathered i) = keeps (collection_shorter i)
+  term_shorter (releasing w i q k p u) = keeps (brackets _ _ _ _ _ (collection_shorter i) (then _ _ _ _ (term_shorter q) (keeps (keeps (keeps (mapping (spell_pattern p) _ _ (term_shorter u)))))))
+  term_shorter (editing w i k p u) = keeps (brackets _ _ _ _ _ (collection_shorter i) (keeps (keeps (mapping (spell_pattern p) _ _ (collection_shorter u)))))
   term_shorter (staged x f g) = none
+
+  collection_shorter : (i : Collection) → Shortens (spell_collection versions.Two i) (spell_collection versions.One i)
+  collection_shorter (without_members int_keys t) = keeps (leaves (type_shorter t))
+  collection_shorter (without_members text_keys t) = keeps (leaves (type_shorter t))
+  collection_shorter (used x) = same _
+  collection_shorter (added i e t) = keeps (brackets _ _ _ _ _ (collection_shorter i) (then _ _ _ _ (expression_shorter e) (keeps (term_shorter t))))
+  collection_shorter (dropped i e) = keeps (brackets _ _ _ _ _ (collection_shorter i) (expression_shorter e))
+  collection_shorter (kept i f) = keeps (brackets _ _ _ _ _ (collection_shorter i) (function_shorter f))
+  collection_shorter (chosen e i j) = choice _ _ _ _ _ _ (expression_shorter e) (collection_shorter i) (collection_shorter j)
 
   reference_shorter : (r : Reference) → Shortens (spell_reference versions.Two r) (spell_reference versions.One r)
   reference_shorter (started w k) = same _
@@ -135,19 +149,23 @@ mutual
   arguments_shorter no_arguments = same _
   arguments_shorter (value_argument e vs) = then _ _ _ _ (expression_shorter e) (further_shorter vs)
   arguments_shorter (process_argument t vs) = keeps (then _ _ _ _ (term_shorter t) (further_shorter vs))
-  arguments_shorter (collection_argument i vs) = further_shorter vs
+  arguments_shorter (collection_argument i vs) = keeps (then _ _ _ _ (collection_shorter i) (further_shorter vs))
   arguments_shorter (closed_argument t vs) = further_shorter vs
 
   further_shorter : (vs : Arguments) → Shortens (spell_further (spell_arguments versions.Two vs)) (spell_further (spell_arguments versions.One vs))
   further_shorter no_arguments = same _
   further_shorter (value_argument e vs) = keeps (then _ _ _ _ (expression_shorter e) (further_shorter vs))
   further_shorter (process_argument t vs) = keeps (keeps (then _ _ _ _ (term_shorter t) (further_shorter vs)))
-  further_shorter (collection_argument i vs) = keeps (further_shorter vs)
+  further_shorter (collection_argument i vs) = keeps (keeps (then _ _ _ _ (collection_shorter i) (further_shorter vs)))
   further_shorter (closed_argument t vs) = keeps (further_shorter vs)
+
+key_kind_shorter : (k : KeyKind) → Shortens (spell_key_kind versions.Two k) (spell_key_kind versions.One k)
+key_kind_shorter int_keys = leaves (passes none)
+key_kind_shorter text_keys = leaves (passes none)
 
 name_kind_shorter : (k : NameKind) → Shortens (spell_name_kind versions.Two k) (spell_name_kind versions.One k)
 name_kind_shorter (value_kind t) = type_shorter t
-name_kind_shorter (collection_kind k t u) = none
+name_kind_shorter (collection_kind k t u) = keeps (then _ _ _ _ (key_kind_shorter k) (then _ _ _ _ (type_shorter t) (keeps (then _ _ _ _ (type_shorter u) (same _)))))
 name_kind_shorter (process_kind t u) = then _ _ _ _ (type_shorter t) (keeps (type_shorter u))
 
 parameter_shorter : (q : Name × NameKind) → Shortens (spell_parameter versions.Two q) (spell_parameter versions.One q)

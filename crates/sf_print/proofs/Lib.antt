@@ -1,4 +1,5 @@
 pub mod Putting
+pub mod Within
 pub mod Listing
 pub mod Written
 pub mod Needing

@@ -7,11 +7,11 @@ use Rattle.sf_expr.specs.Expressions.{Literal, unit_literal, truth_literal, int_
 use Rattle.sf_term.specs.declared.form.Start.{Start}
 use Rattle.sf_term.specs.declared.form.Start.TheVariants as starts
 use Rattle.sf_term.specs.Parameters.{NameKind, value as value_kind, process as process_kind, collection as collection_kind}
-use Rattle.sf_term.specs.Trees.{Primitive, bare, probe, never, with_value, timed, selected, arrow, accumulated, fused, Term, primitive, reference, joined, sided, headed, transformed, switching, keeping, gathered, releasing, editing, staged, Reference, started, call, Arguments, no_arguments, value_argument, process_argument, collection_argument, closed_argument, Template, Templates}
+use Rattle.sf_term.specs.Trees.{Primitive, bare, probe, never, with_value, timed, selected, arrow, accumulated, fused, Term, primitive, reference, joined, sided, headed, transformed, switching, keeping, gathered, releasing, editing, staged, Collection, without_members, used, added, dropped, kept, chosen, Reference, started, call, Arguments, no_arguments, value_argument, process_argument, collection_argument, closed_argument, Template, Templates}
 use Rattle.sf_grammar.specs.declared.ty.Version.{Version}
 use Rattle.sf_grammar.specs.declared.ty.Version.TheVariants as versions
-use Rattle.sf_grammar.specs.Spelling.{WritesKeys, WritesType, IsWrittenType, WritesExpression, WritesFunction, WritesStart, WritesTerm, WritesReference, WritesArguments, WritesNameKind, HasWrittenTypes, IsWithinLimits}
-use Rattle.sf_print.specs.Versions.{are_texts, type_needs_two, literal_needs_two, expression_needs_two, function_needs_two, start_needs_two, primitive_needs_two, term_needs_two, reference_needs_two, arguments_need_two, name_kind_needs_two, parameter_needs_two, template_needs_two, network_needs_two, version_of}
+use Rattle.sf_grammar.specs.Spelling.{WritesKeys, WritesType, IsWrittenType, WritesExpression, WritesFunction, WritesStart, WritesTerm, WritesCollection, WritesReference, WritesArguments, WritesNameKind, HasWrittenTypes, IsWithinLimits}
+use Rattle.sf_print.specs.Versions.{are_texts, type_needs_two, literal_needs_two, expression_needs_two, function_needs_two, start_needs_two, primitive_needs_two, term_needs_two, collection_needs_two, reference_needs_two, arguments_need_two, name_kind_needs_two, parameter_needs_two, template_needs_two, network_needs_two, version_of}
 
 -- a version has what needs version 2, or it isn't needed
 abbrev Serves : Version → Bool → Type 0
@@ -110,10 +110,32 @@ mutual
       let one = parts w (term_needs_two f) (term_needs_two g || term_needs_two u) s in
       let two = parts w (term_needs_two g) (term_needs_two u) one.1 in
       (term_moves v w d f h.0 one.0, term_moves v w d g h.1 two.0, term_moves v w d u h.2 two.1)
-  term_moves v w (suc d) (gathered i) h s = h
-  term_moves v w (suc d) (releasing b i q k p u) h s = h
-  term_moves v w (suc d) (editing b i k p u) h s = h
+  term_moves v w (suc d) (gathered i) h s = collection_moves v w d i h s
+  term_moves v w (suc d) (releasing b i q k p u) h s =
+      let one = parts w (collection_needs_two i) (term_needs_two q || term_needs_two u) s in
+      let two = parts w (term_needs_two q) (term_needs_two u) one.1 in
+      (collection_moves v w d i h.0 one.0, term_moves v w d q h.1 two.0, term_moves v w d u h.2 two.1)
+  term_moves v w (suc d) (editing b i k p u) h s =
+      let both = parts w (collection_needs_two i) (collection_needs_two u) s in (collection_moves v w d i h.0 both.0, collection_moves v w d u h.1 both.1)
   term_moves v w (suc d) (staged x f g) h s = tt
+
+  collection_moves : (v w : Version) (d : ℕ) (i : Collection) → WritesCollection v d i → Serves w (collection_needs_two i) → WritesCollection w d i
+  collection_moves v w zero i h s = tt
+  collection_moves v w (suc d) (without_members k t) h s =
+      let both = parts w (are_texts k) (type_needs_two t) s in (keys_move v w k h.0 both.0, written_moves v w d t h.1 both.1)
+  collection_moves v w (suc d) (used x) h s = tt
+  collection_moves v w (suc d) (added i e t) h s =
+      let one = parts w (collection_needs_two i) (expression_needs_two e || term_needs_two t) s in
+      let two = parts w (expression_needs_two e) (term_needs_two t) one.1 in
+      (collection_moves v w d i h.0 one.0, expression_moves v w d e h.1 two.0, term_moves v w d t h.2 two.1)
+  collection_moves v w (suc d) (dropped i e) h s =
+      let both = parts w (collection_needs_two i) (expression_needs_two e) s in (collection_moves v w d i h.0 both.0, expression_moves v w d e h.1 both.1)
+  collection_moves v w (suc d) (kept i f) h s =
+      let both = parts w (collection_needs_two i) (function_needs_two f) s in (collection_moves v w d i h.0 both.0, function_moves v w d f h.1 both.1)
+  collection_moves v w (suc d) (chosen e i j) h s =
+      let one = parts w (expression_needs_two e) (collection_needs_two i || collection_needs_two j) s in
+      let two = parts w (collection_needs_two i) (collection_needs_two j) one.1 in
+      (expression_moves v w d e h.0 one.0, collection_moves v w d i h.1 two.0, collection_moves v w d j h.2 two.1)
 
   reference_moves : (v w : Version) (d : ℕ) (r : Reference) → WritesReference v d r → Serves w (reference_needs_two r) → WritesReference w d r
   reference_moves v w d (started b k) h s = start_moves v w b h s
@@ -125,12 +147,16 @@ mutual
       let both = parts w (expression_needs_two e) (arguments_need_two vs) s in (expression_moves v w d e h.0 both.0, arguments_move v w d vs h.1 both.1)
   arguments_move v w d (process_argument t vs) h s =
       let both = parts w (term_needs_two t) (arguments_need_two vs) s in (term_moves v w d t h.0 both.0, arguments_move v w d vs h.1 both.1)
-  arguments_move v w d (collection_argument i vs) h s = h
+  arguments_move v w d (collection_argument i vs) h s =
+      let both = parts w (collection_needs_two i) (arguments_need_two vs) s in (collection_moves v w d i h.0 both.0, arguments_move v w d vs h.1 both.1)
   arguments_move v w d (closed_argument t vs) h s = arguments_move v w d vs h s
 
 name_kind_moves : (v w : Version) (k : NameKind) → WritesNameKind v k → Serves w (name_kind_needs_two k) → WritesNameKind w k
 name_kind_moves v w (value_kind t) h s = written_moves v w 64 t h s
-name_kind_moves v w (collection_kind k t u) h s = h
+name_kind_moves v w (collection_kind k t u) h s =
+    let one = parts w (are_texts k) (type_needs_two t || type_needs_two u) s in
+    let two = parts w (type_needs_two t) (type_needs_two u) one.1 in
+    (keys_move v w k h.0 one.0, written_moves v w 64 t h.1 two.0, written_moves v w 64 u h.2 two.1)
 name_kind_moves v w (process_kind t u) h s =
     let both = parts w (type_needs_two t) (type_needs_two u) s in (written_moves v w 64 t h.0 both.0, written_moves v w 64 u h.1 both.1)
 

@@ -55,6 +55,7 @@ pub arguments_map : (v : Version) (p : Program) (vs : List Argument) → spell_a
 arguments_map v p [] = refl
 arguments_map v p (arguments.Value e ∷ vs) = ap (λ xs. spell_argument v p (arguments.Value e) ∷ xs) (arguments_map v p vs)
 arguments_map v p (arguments.Process t ∷ vs) = ap (λ xs. spell_argument v p (arguments.Process t) ∷ xs) (arguments_map v p vs)
+arguments_map v p (arguments.Collection c ∷ vs) = ap (λ xs. spell_argument v p (arguments.Collection c) ∷ xs) (arguments_map v p vs)
 
 -- the first part, further ones and the closing bracket are appended
 pub listed_end : {A : Type 0} (f : A → List Tok) (xs : List A) (z : A) (old here new : Front) → 0 < length xs

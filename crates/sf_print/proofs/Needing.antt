@@ -25,6 +25,7 @@ pub arguments_any : (p : Program) (vs : List Argument) → arguments_need_two (a
 arguments_any p [] = refl
 arguments_any p (arguments.Value e ∷ vs) = ap (λ b. argument_needs_two p (arguments.Value e) || b) (arguments_any p vs)
 arguments_any p (arguments.Process t ∷ vs) = ap (λ b. argument_needs_two p (arguments.Process t) || b) (arguments_any p vs)
+arguments_any p (arguments.Collection c ∷ vs) = ap (λ b. argument_needs_two p (arguments.Collection c) || b) (arguments_any p vs)
 
 -- parameters without their places likewise
 pub parameters_need : (qs : List PlacedParameter) → list_any parameter_needs_two (parameters_of qs) ≡ parameters_need_two qs

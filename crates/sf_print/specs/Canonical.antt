@@ -9,9 +9,11 @@ use Rattle.sf_lex.specs.Tokens.{Tok, keyword, name, number, text, symbol}
 use Rattle.sf_term.specs.Trees.{Templates}
 use Rattle.sf_grammar.specs.declared.head.Head.{Head}
 use Rattle.sf_grammar.specs.declared.head.Head.TheVariants as heads
+use Rattle.sf_grammar.specs.declared.head.CollectionHead.{CollectionHead}
+use Rattle.sf_grammar.specs.declared.head.CollectionHead.TheVariants as collection_heads
 use Rattle.sf_grammar.specs.declared.head.ExpressionHead.{ExpressionHead}
 use Rattle.sf_grammar.specs.declared.head.ExpressionHead.TheVariants as expression_heads
-use Rattle.sf_grammar.specs.Reading.{head_of, expression_head}
+use Rattle.sf_grammar.specs.Reading.{head_of, collection_head, expression_head}
 use Rattle.sf_grammar.specs.Spelling.{spell}
 use Rattle.sf_print.specs.Versions.{version_of}
 
@@ -31,7 +33,16 @@ has_brackets (Some heads.Transformed) = true
 has_brackets (Some (heads.Switching w)) = true
 has_brackets (Some (heads.Keeping w)) = true
 has_brackets (Some heads.Call) = true
+has_brackets (Some (heads.Releasing w)) = true
+has_brackets (Some (heads.Editing w)) = true
 has_brackets h = false
+
+-- the same of a collection
+abbrev pub collection_has_brackets : Option CollectionHead → Bool
+collection_has_brackets (Some collection_heads.Added) = true
+collection_has_brackets (Some collection_heads.Dropped) = true
+collection_has_brackets (Some collection_heads.Kept) = true
+collection_has_brackets h = false
 
 -- the same of an expression
 abbrev pub expression_has_brackets : Option ExpressionHead → Bool
@@ -43,7 +54,7 @@ expression_has_brackets h = false
 
 -- a name, or the first token of a form whose brackets stand directly behind it
 unfoldable pub has_own_brackets : Tok → Bool
-has_own_brackets (keyword k) = has_brackets (head_of (keyword k)) || expression_has_brackets (expression_head k)
+has_own_brackets (keyword k) = has_brackets (head_of (keyword k)) || (collection_has_brackets (collection_head (keyword k)) || expression_has_brackets (expression_head k))
 has_own_brackets t = has_brackets (head_of t)
 
 -- an opening bracket

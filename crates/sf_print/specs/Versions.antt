@@ -6,7 +6,7 @@ use Rattle.sf_expr.specs.Expressions.{Literal, unit_literal, truth_literal, int_
 use Rattle.sf_term.specs.declared.form.Start.{Start}
 use Rattle.sf_term.specs.declared.form.Start.TheVariants as starts
 use Rattle.sf_term.specs.Parameters.{PlacedParameter, NameKind, value as value_kind, process as process_kind, collection as collection_kind}
-use Rattle.sf_term.specs.Trees.{Primitive, bare, probe, never, with_value, timed, selected, arrow, accumulated, fused, Term, primitive, reference, joined, sided, headed, transformed, switching, keeping, gathered, releasing, editing, staged, Reference, started, call, Arguments, no_arguments, value_argument, process_argument, collection_argument, closed_argument, Template, Templates}
+use Rattle.sf_term.specs.Trees.{Primitive, bare, probe, never, with_value, timed, selected, arrow, accumulated, fused, Term, primitive, reference, joined, sided, headed, transformed, switching, keeping, gathered, releasing, editing, staged, Collection, without_members, used, added, dropped, kept, chosen, Reference, started, call, Arguments, no_arguments, value_argument, process_argument, collection_argument, closed_argument, Template, Templates}
 use Rattle.sf_grammar.specs.declared.ty.Version.{Version}
 use Rattle.sf_grammar.specs.declared.ty.Version.TheVariants as versions
 
@@ -72,10 +72,18 @@ abbrev mutual
   term_needs_two (transformed h f) = function_needs_two h || term_needs_two f
   term_needs_two (switching w f p g) = term_needs_two f || term_needs_two g
   term_needs_two (keeping w f g k p u) = term_needs_two f || (term_needs_two g || term_needs_two u)
-  term_needs_two (gathered i) = false
-  term_needs_two (releasing w i q k p u) = false
-  term_needs_two (editing w i k p u) = false
+  term_needs_two (gathered i) = collection_needs_two i
+  term_needs_two (releasing w i q k p u) = collection_needs_two i || (term_needs_two q || term_needs_two u)
+  term_needs_two (editing w i k p u) = collection_needs_two i || collection_needs_two u
   term_needs_two (staged x f g) = false
+
+  pub collection_needs_two : Collection → Bool
+  collection_needs_two (without_members k t) = are_texts k || type_needs_two t
+  collection_needs_two (used x) = false
+  collection_needs_two (added i e t) = collection_needs_two i || (expression_needs_two e || term_needs_two t)
+  collection_needs_two (dropped i e) = collection_needs_two i || expression_needs_two e
+  collection_needs_two (kept i f) = collection_needs_two i || function_needs_two f
+  collection_needs_two (chosen e i j) = expression_needs_two e || (collection_needs_two i || collection_needs_two j)
 
   pub reference_needs_two : Reference → Bool
   reference_needs_two (started w k) = start_needs_two w
@@ -85,13 +93,13 @@ abbrev mutual
   arguments_need_two no_arguments = false
   arguments_need_two (value_argument e vs) = expression_needs_two e || arguments_need_two vs
   arguments_need_two (process_argument t vs) = term_needs_two t || arguments_need_two vs
-  arguments_need_two (collection_argument i vs) = arguments_need_two vs
+  arguments_need_two (collection_argument i vs) = collection_needs_two i || arguments_need_two vs
   arguments_need_two (closed_argument t vs) = arguments_need_two vs
 
 abbrev pub name_kind_needs_two : NameKind → Bool
 name_kind_needs_two (value_kind t) = type_needs_two t
 name_kind_needs_two (process_kind t u) = type_needs_two t || type_needs_two u
-name_kind_needs_two (collection_kind k t u) = false
+name_kind_needs_two (collection_kind k t u) = are_texts k || (type_needs_two t || type_needs_two u)
 
 abbrev pub parameter_needs_two : Name × NameKind → Bool
 parameter_needs_two q = name_kind_needs_two q.1

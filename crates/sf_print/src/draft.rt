@@ -2,14 +2,14 @@
 ghost use Rattle.std.specs.Prelude.{◌≡◌, ◌++◌, [], OnOk, string_bytes};
 ghost use Rattle.sf_lex.specs.Tokens.{keyword as word_token, name as name_token, number as number_token, text as text_token, symbol as symbol_token};
 ghost use Rattle.sf_expr.specs.Constants.{text_in};
-ghost use Rattle.sf_print.specs.Canonical.{has_own_brackets, has_brackets, expression_has_brackets, closes, is_round, ends_line, opens};
+ghost use Rattle.sf_print.specs.Canonical.{has_own_brackets, has_brackets, collection_has_brackets, expression_has_brackets, closes, is_round, ends_line, opens};
 ghost use Rattle.sf_print.specs.Drafts.{is_text, append_token, as_last, is_apart, is_spaced, space};
 ghost use Rattle.sf_print.specs.Signs.{sign_token};
 ghost use Rattle.sf_print.specs.declared.draft.Last.TheVariants as lasts;
 
 use crate::words::Sign;
 use sf_decimal::write_integer;
-use sf_grammar::{ExpressionHead, Head, expression_head, head_of};
+use sf_grammar::{CollectionHead, ExpressionHead, Head, collection_head, expression_head, head_of};
 use sf_lex::{Keyword, Symbol, Token};
 use sf_spelling::write_value;
 use sf_value::{Form, Value};
@@ -213,8 +213,20 @@ fn has_brackets(head: Option<Head>) -> bool
             | Head::Transformed
             | Head::Switching(_)
             | Head::Keeping(_)
+            | Head::Releasing(_)
+            | Head::Editing(_)
             | Head::Call,
         ) => true,
+        _ => false,
+    }
+}
+
+/// Whether the parts of a collection stand in brackets directly behind its first token.
+fn collection_has_brackets(head: Option<CollectionHead>) -> bool
+    ensures { result ≡ collection_has_brackets head }
+{
+    match head {
+        Some(CollectionHead::Added | CollectionHead::Dropped | CollectionHead::Kept) => true,
         _ => false,
     }
 }
@@ -239,8 +251,10 @@ fn expression_has_brackets(head: Option<ExpressionHead>) -> bool
 fn last_of_keyword(word: Keyword) -> Last
     ensures { result ≡ as_last (word_token word) }
 {
-    let in_term = has_brackets(head_of(&Token::Keyword(word)));
-    if in_term || expression_has_brackets(expression_head(word)) {
+    let token = Token::Keyword(word);
+    let in_term = has_brackets(head_of(&token));
+    let in_collection = collection_has_brackets(collection_head(&token));
+    if in_term || in_collection || expression_has_brackets(expression_head(word)) {
         Last::Head
     } else {
         Last::Other

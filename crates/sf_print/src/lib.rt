@@ -12,3 +12,5 @@ mod words;
 
 pub use laws::{canonical_text_is_read, one_canonical_text};
 pub use network::write_network;
+pub use types::type_text;
+pub use versions::type_needs_two;

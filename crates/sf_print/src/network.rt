@@ -9,7 +9,7 @@ ghost use Rattle.sf_print.specs.Drafts.{append_tokens};
 
 use crate::draft::Draft;
 use crate::terms::write_term;
-use crate::types::write_type;
+use crate::types::{write_key_kind, write_type};
 use crate::versions::network_needs_two;
 use sf_grammar::Version;
 use sf_lex::{Keyword, Symbol};
@@ -27,6 +27,14 @@ fn write_form(form: &ParameterForm, version: Version, draft: &mut Draft) -> Resu
             write_type(from, version, draft)?;
             draft.symbol(Symbol::Leads)?;
             write_type(to, version, draft)
+        }
+        ParameterForm::Collection(keys, from, to) => {
+            draft.symbol(Symbol::OpenBracket)?;
+            write_key_kind(*keys, version, draft)?;
+            write_type(from, version, draft)?;
+            draft.symbol(Symbol::Leads)?;
+            write_type(to, version, draft)?;
+            draft.symbol(Symbol::CloseBracket)
         }
     }
 }

@@ -1,29 +1,33 @@
 //! Terms as they are written.
-ghost use Rattle.std.specs.Prelude.{◌≡◌, OnOk, All};
+ghost use Rattle.std.specs.Prelude.{◌≡◌, ◌<◌, OnOk, All};
 ghost use Rattle.sf_expr.specs.Arena.{name_at, literal_at};
 ghost use Rattle.sf_expr.specs.Patterns.{pattern_of};
 ghost use Rattle.sf_term.specs.declared.node.Node.TheVariants as nodes;
 ghost use Rattle.sf_term.specs.Entries.{absent_payload};
-ghost use Rattle.sf_term.specs.Trees.{primitive as primitive_of, never as never_of, named_term, joined as joined_of, sided as sided_of, headed as headed_of, transformed as transformed_of, switching as switching_of, keeping as keeping_of, reference as reference_of, call as call_of};
-ghost use Rattle.sf_term.specs.Arena.{tree, term_of, term_number, expressions_of, expression_under, function_in, pattern_under, arguments_of, ArgumentBelow};
-ghost use Rattle.sf_grammar.specs.Spelling.{spell_term, spell_mapping, spell_pattern, spell_value, spell_expression, spell_function, spell_listed, spell_further, spell_arguments, stands_initially, value_word, naming_token};
+ghost use Rattle.sf_term.specs.Trees.{primitive as primitive_of, never as never_of, named_term, joined as joined_of, sided as sided_of, headed as headed_of, transformed as transformed_of, switching as switching_of, keeping as keeping_of, reference as reference_of, call as call_of, without_members, added as added_of, dropped as dropped_of, kept as kept_of, chosen as chosen_of};
+ghost use Rattle.sf_value.specs.Values.{int_keys, unit_kind};
+ghost use Rattle.sf_value.specs.KindView.{key_kind_of};
+ghost use Rattle.sf_term.specs.Arena.{tree, term_of, term_number, expressions_of, expression_under, function_in, pattern_under, arguments_of, collection_under, collection_of, collection_at};
+ghost use Rattle.sf_grammar.specs.Spelling.{spell_term, spell_mapping, spell_pattern, spell_value, spell_expression, spell_function, spell_listed, spell_further, spell_arguments, spell_collection, stands_initially, value_word, naming_token};
 ghost use Rattle.sf_print.specs.Drafts.{append_token, append_tokens};
-ghost use Rattle.sf_print.specs.Arguments.{spell_argument};
+ghost use Rattle.sf_print.specs.Arguments.{spell_argument, IsWithin, ArgumentWithin, PartsWithin};
 
 use crate::draft::Draft;
 use crate::expressions::{write_expression, write_function, write_pattern};
-use crate::types::write_type;
+use crate::types::{write_keys, write_type};
 use crate::words::{
-    accumulation_word, bare_word, heading_sign, join_symbol, keeping_word, selection_word,
-    side_word, stands_initially, switching_word, timing_word, value_word,
+    accumulation_word, bare_word, editing_word, heading_sign, join_symbol, keeping_word,
+    releasing_word, selection_word, side_word, stands_initially, switching_word, timing_word,
+    value_word,
 };
 use sf_expr::{Constant, ConstantForm, ExprId, FunctionId, NameId, PatternId};
 use sf_grammar::Version;
 use sf_lex::{Keyword, Symbol};
 use sf_term::{
-    Argument, Heading, Join, Naming, Node, Observation, Primitive, Program, Start, Switching,
-    TermId, WithValue,
+    Argument, CollExpr, CollectionId, Editing, Heading, Join, Naming, Node, Observation, Primitive,
+    Program, Releasing, Start, Switching, TermId, WithValue,
 };
+use sf_value::{KeyType, Ty};
 use std::alloc::AllocError;
 
 /// Appends the expression at an id.
@@ -174,6 +178,9 @@ pub(crate) fn write_term(
             let arguments = program.arguments(arguments);
             write_call(program, version, id, name, arguments, draft)
         }
+        Node::Gathered(members) => write_gathered(program, version, id, members, draft),
+        Node::Releasing(form) => write_releasing(program, version, id, form, draft),
+        Node::Editing(form) => write_editing(program, version, id, form, draft),
         Node::Joined(join, first, second) => {
             write_joined(program, version, join, first, second, draft)
         }
@@ -332,6 +339,261 @@ fn write_keeping(
     draft.symbol(Symbol::Close)
 }
 
+/// Appends `empty` and its types.
+#[tactic(auto, using(crate::proofs::Putting::tokens_apart))]
+fn write_empty(
+    keys: KeyType,
+    values: &Ty,
+    version: Version,
+    draft: &mut Draft,
+) -> Result<(), AllocError>
+    ensures { OnOk result (draft.new ≡ append_tokens draft.old (spell_collection version (without_members (key_kind_of keys) values.now))) }
+{
+    draft.keyword(Keyword::Empty)?;
+    write_keys(keys, version, draft)?;
+    write_type(values, version, draft)
+}
+
+/// Appends what a collection is that its program does not hold.
+#[tactic(auto, using(crate::proofs::Putting::tokens_apart))]
+fn write_absent(version: Version, draft: &mut Draft) -> Result<(), AllocError>
+    ensures { OnOk result (draft.new ≡ append_tokens draft.old (spell_collection version (without_members int_keys unit_kind))) }
+{
+    draft.keyword(Keyword::Empty)?;
+    write_keys(KeyType::Int, version, draft)?;
+    draft.keyword(Keyword::Unit)
+}
+
+/// Appends the members of a collection.
+#[cycle(term)]
+#[tactic(auto, using(crate::proofs::Putting::tokens_apart))]
+fn write_gathered(
+    program: &Program,
+    version: Version,
+    id: TermId,
+    members: CollectionId,
+    draft: &mut Draft,
+) -> Result<(), AllocError>
+    requires { PartsWithin program.now id (nodes.Gathered members) }
+    ensures { OnOk result (draft.new ≡ append_tokens draft.old (spell_term version (term_of program.now (nodes.Gathered members)))) }
+{
+    draft.keyword(Keyword::ParB)?;
+    write_members(program, version, id, members, draft)
+}
+
+/// Appends members that give way to a term.
+#[cycle(term)]
+#[tactic(auto, using(crate::proofs::Putting::tokens_apart))]
+fn write_releasing(
+    program: &Program,
+    version: Version,
+    id: TermId,
+    form: Releasing,
+    draft: &mut Draft,
+) -> Result<(), AllocError>
+    requires { PartsWithin program.now id (nodes.Releasing form) }
+    ensures { OnOk result (draft.new ≡ append_tokens draft.old (spell_term version (term_of program.now (nodes.Releasing form)))) }
+{
+    draft.keyword(releasing_word(form.shown))?;
+    draft.symbol(Symbol::Open)?;
+    write_members(program, version, id, form.members, draft)?;
+    draft.symbol(Symbol::Comma)?;
+    write_term(program, version, form.observer, draft)?;
+    draft.symbol(Symbol::Comma)?;
+    draft.name(program.expressions().name_of(form.name))?;
+    draft.symbol(Symbol::Comma)?;
+    write_body(program, version, form.pattern, form.body, draft)?;
+    draft.symbol(Symbol::Close)
+}
+
+/// Appends members that are edited.
+#[cycle(term)]
+#[tactic(auto, using(crate::proofs::Putting::tokens_apart))]
+fn write_editing(
+    program: &Program,
+    version: Version,
+    id: TermId,
+    form: Editing,
+    draft: &mut Draft,
+) -> Result<(), AllocError>
+    requires { PartsWithin program.now id (nodes.Editing form) }
+    ensures { OnOk result (draft.new ≡ append_tokens draft.old (spell_term version (term_of program.now (nodes.Editing form)))) }
+{
+    draft.keyword(editing_word(form.shown))?;
+    draft.symbol(Symbol::Open)?;
+    write_members(program, version, id, form.members, draft)?;
+    draft.symbol(Symbol::Comma)?;
+    draft.name(program.expressions().name_of(form.name))?;
+    draft.symbol(Symbol::Comma)?;
+    write_edit(program, version, id, form.pattern, form.edit, draft)?;
+    draft.symbol(Symbol::Close)
+}
+
+/// Appends a pattern and the collection that it binds names for.
+#[cycle(term)]
+#[tactic(auto, using(crate::proofs::Putting::tokens_apart), unfolding(sf_term::specs::Arena::pattern_under, sf_term::specs::Arena::expressions_of))]
+fn write_edit(
+    program: &Program,
+    version: Version,
+    form: TermId,
+    pattern: PatternId,
+    edit: CollectionId,
+    draft: &mut Draft,
+) -> Result<(), AllocError>
+    requires { IsWithin program.now form (collection_under program.now edit) }
+    ensures { OnOk result (draft.new ≡ append_tokens draft.old (spell_mapping (spell_pattern (pattern_of (pattern_under program.now pattern))) (spell_collection version (collection_at program.now edit)))) }
+{
+    write_pattern(program.expressions().placed(pattern), draft)?;
+    draft.symbol(Symbol::MapsTo)?;
+    write_members(program, version, form, edit, draft)
+}
+
+/// Appends the collection at an id, which stands in a form.
+#[cycle(term)]
+fn write_members(
+    program: &Program,
+    version: Version,
+    form: TermId,
+    members: CollectionId,
+    draft: &mut Draft,
+) -> Result<(), AllocError>
+    requires { IsWithin program.now form (collection_under program.now members) }
+    ensures { OnOk result (draft.new ≡ append_tokens draft.old (spell_collection version (collection_at program.now members))) }
+{
+    match program.collection(members) {
+        Some(collection) => write_collection(program, version, form, collection, draft),
+        None => write_absent(version, draft),
+    }
+}
+
+/// Appends a collection that stands in a form.
+#[cycle(term)]
+#[tactic(auto, using(crate::proofs::Putting::tokens_apart))]
+fn write_collection(
+    program: &Program,
+    version: Version,
+    form: TermId,
+    collection: &CollExpr,
+    draft: &mut Draft,
+) -> Result<(), AllocError>
+    requires { IsWithin program.now form collection.now }
+    ensures { OnOk result (draft.new ≡ append_tokens draft.old (spell_collection version (collection_of program.now collection.now))) }
+{
+    match collection {
+        CollExpr::Empty(keys, values, _) => write_empty(*keys, values, version, draft),
+        CollExpr::Used(name, _, _) => {
+            draft.keyword(Keyword::Use)?;
+            draft.name(program.expressions().name_of(*name))
+        }
+        CollExpr::Added(members, key, term, _) => {
+            write_added(program, version, form, members, *key, *term, draft)
+        }
+        CollExpr::Dropped(members, key, _) => {
+            write_dropped(program, version, form, members, *key, draft)
+        }
+        CollExpr::Kept(members, function, _) => {
+            write_kept(program, version, form, members, *function, draft)
+        }
+        CollExpr::Chosen(condition, first, second, _) => {
+            write_chosen(program, version, form, *condition, first, second, draft)
+        }
+    }
+}
+
+/// Appends a collection with a term under a key.
+#[cycle(term)]
+#[tactic(auto, using(crate::proofs::Putting::tokens_apart))]
+fn write_added(
+    program: &Program,
+    version: Version,
+    form: TermId,
+    members: &CollExpr,
+    key: ExprId,
+    term: TermId,
+    draft: &mut Draft,
+) -> Result<(), AllocError>
+    requires members_within { IsWithin program.now form members.now }
+    requires term_before { term_number term < term_number form }
+    ensures { OnOk result (draft.new ≡ append_tokens draft.old (spell_collection version (added_of (collection_of program.now members.now) (expression_under program.now key) (tree program.now term)))) }
+{
+    draft.keyword(Keyword::Add)?;
+    draft.symbol(Symbol::Open)?;
+    write_collection(program, version, form, members, draft)?;
+    draft.symbol(Symbol::Comma)?;
+    write_value(program, version, key, draft)?;
+    draft.symbol(Symbol::Comma)?;
+    write_term(program, version, term, draft)?;
+    draft.symbol(Symbol::Close)
+}
+
+/// Appends a collection without what stands under a key.
+#[cycle(term)]
+#[tactic(auto, using(crate::proofs::Putting::tokens_apart))]
+fn write_dropped(
+    program: &Program,
+    version: Version,
+    form: TermId,
+    members: &CollExpr,
+    key: ExprId,
+    draft: &mut Draft,
+) -> Result<(), AllocError>
+    requires { IsWithin program.now form members.now }
+    ensures { OnOk result (draft.new ≡ append_tokens draft.old (spell_collection version (dropped_of (collection_of program.now members.now) (expression_under program.now key)))) }
+{
+    draft.keyword(Keyword::Drop)?;
+    draft.symbol(Symbol::Open)?;
+    write_collection(program, version, form, members, draft)?;
+    draft.symbol(Symbol::Comma)?;
+    write_value(program, version, key, draft)?;
+    draft.symbol(Symbol::Close)
+}
+
+/// Appends the members of a collection whose keys a function keeps.
+#[cycle(term)]
+#[tactic(auto, using(crate::proofs::Putting::tokens_apart))]
+fn write_kept(
+    program: &Program,
+    version: Version,
+    form: TermId,
+    members: &CollExpr,
+    function: FunctionId,
+    draft: &mut Draft,
+) -> Result<(), AllocError>
+    requires { IsWithin program.now form members.now }
+    ensures { OnOk result (draft.new ≡ append_tokens draft.old (spell_collection version (kept_of (collection_of program.now members.now) (function_in program.now function)))) }
+{
+    draft.keyword(Keyword::Keep)?;
+    draft.symbol(Symbol::Open)?;
+    write_collection(program, version, form, members, draft)?;
+    draft.symbol(Symbol::Comma)?;
+    write_mapped(program, version, function, draft)?;
+    draft.symbol(Symbol::Close)
+}
+
+/// Appends two collections of which a condition chooses one.
+#[cycle(term)]
+#[tactic(auto, using(crate::proofs::Putting::tokens_apart))]
+fn write_chosen(
+    program: &Program,
+    version: Version,
+    form: TermId,
+    condition: ExprId,
+    first: &CollExpr,
+    second: &CollExpr,
+    draft: &mut Draft,
+) -> Result<(), AllocError>
+    requires first_within { IsWithin program.now form first.now }
+    requires second_within { IsWithin program.now form second.now }
+    ensures { OnOk result (draft.new ≡ append_tokens draft.old (spell_collection version (chosen_of (expression_under program.now condition) (collection_of program.now first.now) (collection_of program.now second.now)))) }
+{
+    draft.keyword(Keyword::If)?;
+    write_value(program, version, condition, draft)?;
+    draft.keyword(Keyword::Then)?;
+    write_collection(program, version, form, first, draft)?;
+    draft.keyword(Keyword::Else)?;
+    write_collection(program, version, form, second, draft)
+}
+
 /// Appends a call of a template.
 #[cycle(term)]
 #[tactic(auto, using(crate::proofs::Putting::tokens_apart))]
@@ -343,7 +605,7 @@ fn write_call(
     arguments: &[Argument],
     draft: &mut Draft,
 ) -> Result<(), AllocError>
-    requires { All (ArgumentBelow (term_number call)) arguments.now }
+    requires { All (ArgumentWithin program.now call) arguments.now }
     ensures { OnOk result (draft.new ≡ append_tokens draft.old (spell_term version (reference_of (call_of (name_at (expressions_of program.now) name) (arguments_of program.now arguments.now))))) }
 {
     draft.name(program.expressions().name_of(name))?;
@@ -367,7 +629,7 @@ fn write_further(
     arguments: &[Argument],
     draft: &mut Draft,
 ) -> Result<(), AllocError>
-    requires { All (ArgumentBelow (term_number call)) arguments.now }
+    requires { All (ArgumentWithin program.now call) arguments.now }
     ensures { OnOk result (draft.new ≡ append_tokens draft.old (spell_further (spell_arguments version (arguments_of program.now arguments.now)))) }
 {
     for argument in arguments {
@@ -387,7 +649,7 @@ fn write_argument(
     argument: Argument,
     draft: &mut Draft,
 ) -> Result<(), AllocError>
-    requires { ArgumentBelow (term_number call) argument }
+    requires { ArgumentWithin program.now call argument }
     ensures { OnOk result (draft.new ≡ append_tokens draft.old (spell_argument version program.now argument)) }
 {
     match argument {
@@ -395,6 +657,10 @@ fn write_argument(
         Argument::Process(term) => {
             draft.keyword(Keyword::SignalFunction)?;
             write_term(program, version, term, draft)
+        }
+        Argument::Collection(members) => {
+            draft.keyword(Keyword::Collection)?;
+            write_members(program, version, call, members, draft)
         }
     }
 }

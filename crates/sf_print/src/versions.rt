@@ -3,18 +3,20 @@ ghost use Rattle.std.specs.Prelude.{◌≡◌, All};
 ghost use Rattle.sf_expr.specs.Arena.{expression};
 ghost use Rattle.sf_term.specs.declared.node.Node.TheVariants as nodes;
 ghost use Rattle.sf_term.specs.ParameterView.{kind_of_form};
-ghost use Rattle.sf_term.specs.Arena.{tree, term_of, term_number, expression_under, function_in, templates_of, template_in, arguments_of, ArgumentBelow};
-ghost use Rattle.sf_print.specs.Versions.{type_needs_two, literal_needs_two, expression_needs_two, function_needs_two, term_needs_two, arguments_need_two, name_kind_needs_two, template_needs_two, network_needs_two, parameters_need_two};
-ghost use Rattle.sf_print.specs.Arguments.{argument_needs_two};
+ghost use Rattle.sf_term.specs.Arena.{tree, term_of, expression_under, function_in, templates_of, template_in, arguments_of, collection_under, collection_of, collection_at};
+ghost use Rattle.sf_value.specs.KindView.{key_kind_of};
+ghost use Rattle.sf_print.specs.Versions.{are_texts, type_needs_two, literal_needs_two, expression_needs_two, function_needs_two, term_needs_two, collection_needs_two, arguments_need_two, name_kind_needs_two, template_needs_two, network_needs_two, parameters_need_two};
+ghost use Rattle.sf_print.specs.Arguments.{argument_needs_two, IsWithin, ArgumentWithin, PartsWithin};
 
 use sf_expr::{Constant, ConstantForm, ExprId, ExprNode, Exprs, FunctionId};
 use sf_term::{
-    Argument, Naming, Node, Parameter, ParameterForm, Primitive, Program, Start, Template, TermId,
+    Argument, CollExpr, CollectionId, Naming, Node, Parameter, ParameterForm, Primitive, Program,
+    Releasing, Start, Template, TermId,
 };
 use sf_value::{KeyType, Ty, TyForm};
 
-/// Whether a table in a type has Text keys.
-fn type_needs_two(ty: &Ty) -> bool
+/// Whether a table in a type has Text keys, which texts of version 2 alone write.
+pub fn type_needs_two(ty: &Ty) -> bool
     ensures { result ≡ type_needs_two ty.now }
 {
     match ty.form() {
@@ -23,6 +25,16 @@ fn type_needs_two(ty: &Ty) -> bool
         TyForm::Event(payload) => type_needs_two(payload),
         TyForm::Table(KeyType::Text, _) => true,
         TyForm::Table(KeyType::Int, values) => type_needs_two(values),
+    }
+}
+
+/// Whether keys are texts.
+fn are_texts(keys: KeyType) -> bool
+    ensures { result ≡ are_texts (key_kind_of keys) }
+{
+    match keys {
+        KeyType::Int => false,
+        KeyType::Text => true,
     }
 }
 
@@ -133,13 +145,69 @@ fn term_needs_two(program: &Program, id: TermId) -> bool
                 || term_needs_two(program, observer)
                 || term_needs_two(program, body)
         }
+        Node::Gathered(members) => members_need_two(program, id, members),
+        Node::Releasing(form) => releasing_needs_two(program, id, form),
+        Node::Editing(form) => {
+            members_need_two(program, id, form.members) || members_need_two(program, id, form.edit)
+        }
+    }
+}
+
+/// The same of members that give way to a term.
+#[cycle(needs)]
+fn releasing_needs_two(program: &Program, id: TermId, form: Releasing) -> bool
+    requires { PartsWithin program.now id (nodes.Releasing form) }
+    ensures { result ≡ term_needs_two (term_of program.now (nodes.Releasing form)) }
+{
+    members_need_two(program, id, form.members)
+        || term_needs_two(program, form.observer)
+        || term_needs_two(program, form.body)
+}
+
+/// The same of the collection at an id, which stands in a form.
+#[cycle(needs)]
+fn members_need_two(program: &Program, form: TermId, members: CollectionId) -> bool
+    requires { IsWithin program.now form (collection_under program.now members) }
+    ensures { result ≡ collection_needs_two (collection_at program.now members) }
+{
+    match program.collection(members) {
+        Some(collection) => collection_needs_two(program, form, collection),
+        None => false,
+    }
+}
+
+/// The same of a collection that stands in a form.
+#[cycle(needs)]
+fn collection_needs_two(program: &Program, form: TermId, collection: &CollExpr) -> bool
+    requires { IsWithin program.now form collection.now }
+    ensures { result ≡ collection_needs_two (collection_of program.now collection.now) }
+{
+    match collection {
+        CollExpr::Empty(keys, values, _) => are_texts(*keys) || type_needs_two(values),
+        CollExpr::Used(_, _, _) => false,
+        CollExpr::Added(members, key, term, _) => {
+            collection_needs_two(program, form, members)
+                || value_needs_two(program, *key)
+                || term_needs_two(program, *term)
+        }
+        CollExpr::Dropped(members, key, _) => {
+            collection_needs_two(program, form, members) || value_needs_two(program, *key)
+        }
+        CollExpr::Kept(members, function, _) => {
+            collection_needs_two(program, form, members) || function_needs_two(program, *function)
+        }
+        CollExpr::Chosen(condition, first, second, _) => {
+            value_needs_two(program, *condition)
+                || collection_needs_two(program, form, first)
+                || collection_needs_two(program, form, second)
+        }
     }
 }
 
 /// The same of the arguments of a call.
 #[cycle(needs)]
 fn arguments_need_two(program: &Program, call: TermId, arguments: &[Argument]) -> bool
-    requires { All (ArgumentBelow (term_number call)) arguments.now }
+    requires { All (ArgumentWithin program.now call) arguments.now }
     ensures { result ≡ arguments_need_two (arguments_of program.now arguments.now) }
 {
     for argument in arguments {
@@ -153,12 +221,13 @@ fn arguments_need_two(program: &Program, call: TermId, arguments: &[Argument]) -
 /// The same of an argument of a call.
 #[cycle(needs)]
 fn argument_needs_two(program: &Program, call: TermId, argument: Argument) -> bool
-    requires { ArgumentBelow (term_number call) argument }
+    requires { ArgumentWithin program.now call argument }
     ensures { result ≡ argument_needs_two program.now argument }
 {
     match argument {
         Argument::Value(value) => value_needs_two(program, value),
         Argument::Process(term) => term_needs_two(program, term),
+        Argument::Collection(members) => members_need_two(program, call, members),
     }
 }
 
@@ -169,6 +238,9 @@ fn form_needs_two(form: &ParameterForm) -> bool
     match form {
         ParameterForm::Value(ty) => type_needs_two(ty),
         ParameterForm::Process(from, to) => type_needs_two(from) || type_needs_two(to),
+        ParameterForm::Collection(keys, from, to) => {
+            are_texts(*keys) || type_needs_two(from) || type_needs_two(to)
+        }
     }
 }
 

@@ -1,7 +1,7 @@
 //! The words and symbols of forms.
 ghost use Rattle.std.specs.Prelude.{◌≡◌};
 ghost use Rattle.sf_print.specs.Signs.{sign_token};
-ghost use Rattle.sf_grammar.specs.Spelling.{bare_word, value_word, stands_initially, timing_word, selection_word, accumulation_word, join_symbol, side_word, heading_token, switching_word, keeping_word, unary_word, takes_brackets, operator_token, stands_between, mapping_word, folding_word};
+ghost use Rattle.sf_grammar.specs.Spelling.{bare_word, value_word, stands_initially, timing_word, selection_word, accumulation_word, join_symbol, side_word, heading_token, switching_word, keeping_word, releasing_word, editing_word, unary_word, takes_brackets, operator_token, stands_between, mapping_word, folding_word};
 
 use sf_expr::{Arithmetic, Comparison, Equality, Folding, Logic, Mapping, Merge, Operator, Unary};
 use sf_lex::{Keyword, Symbol};
@@ -153,6 +153,26 @@ pub(crate) fn keeping_word(observation: Observation) -> Keyword
     match observation {
         Observation::Immediate => Keyword::KSwitch,
         Observation::Delayed => Keyword::DkSwitch,
+    }
+}
+
+/// The word of members that give way to a term.
+pub(crate) fn releasing_word(observation: Observation) -> Keyword
+    ensures { result ≡ releasing_word observation }
+{
+    match observation {
+        Observation::Immediate => Keyword::PSwitchB,
+        Observation::Delayed => Keyword::DpSwitchB,
+    }
+}
+
+/// The word of members that are edited.
+pub(crate) fn editing_word(observation: Observation) -> Keyword
+    ensures { result ≡ editing_word observation }
+{
+    match observation {
+        Observation::Immediate => Keyword::RpSwitchB,
+        Observation::Delayed => Keyword::DrpSwitchB,
     }
 }
 

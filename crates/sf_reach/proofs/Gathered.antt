@@ -10,6 +10,7 @@ use Rattle.std.proofs.lemmas.Bool.{cases_lt}
 use Rattle.std.proofs.lemmas.Option.{slice_get_within, same_Some}
 use Rattle.sf_value.specs.Values.{Name}
 use Rattle.sf_refusal.specs.declared.spot.Spot.{Spot}
+use Rattle.sf_expr.specs.declared.exprs.ExprId.{ExprId}
 use Rattle.sf_expr.specs.declared.exprs.NameId.{NameId}
 use Rattle.sf_expr.specs.Arena.{name_at}
 use Rattle.sf_term.specs.declared.node.TermId.{TermId}
@@ -18,35 +19,58 @@ use Rattle.sf_term.specs.declared.node.Argument.{Argument}
 use Rattle.sf_term.specs.declared.node.Argument.TheVariants as arguments
 use Rattle.sf_term.specs.declared.node.Node.{Node}
 use Rattle.sf_term.specs.declared.node.Node.TheVariants as nodes
+use Rattle.sf_term.specs.declared.collection.CollectionId.{CollectionId}
 use Rattle.sf_term.specs.declared.program.Program.{Program}
 use Rattle.sf_term.specs.Headers.{Header}
-use Rattle.sf_term.specs.Arena.{headers_of, term_node_at, term_spot_at, expressions_of, arguments_under}
+use Rattle.sf_term.specs.Arena.{headers_of, term_node_at, term_spot_at, expressions_of, arguments_under, collection_under}
 use Rattle.sf_reach.specs.declared.graph.Call.{Call}
 use Rattle.sf_reach.specs.Names.{names_of_set, program_names}
-use Rattle.sf_reach.specs.Order.{PlacedCall, CallsInOrder, calls_there, FormCalls, in_call, ArgumentCalls, in_none}
-use Rattle.sf_reach.specs.Graphs.{Graph, calls_at, found_call, found_calls, AddsCalls, AddsArgumentCalls, IsGraphOf, StaysWithin}
+use Rattle.sf_reach.specs.Order.{PlacedCall, CallsInOrder, calls_there, FormCalls, in_call, MemberCalls, ArgumentCalls, in_none}
+use Rattle.sf_reach.specs.Graphs.{Graph, calls_at, found_call, found_calls, AddsCalls, AddsMemberCalls, AddsArgumentCalls, IsGraphOf, StaysWithin}
 use Rattle.sf_reach.proofs.Lists.{In, in_place, found_of}
 use Rattle.sf_reach.proofs.Named.{place_in, named_within}
 use Rattle.sf_reach.proofs.Bridged.{found_place}
-use Rattle.sf_reach.proofs.Ordered.{value_more, process_more}
+use Rattle.sf_reach.proofs.Ordered.{value_more, process_more, collection_more}
 
 -- calls that are found behind others
 found_behind : (ns : List Name) (old mid new : List Call) (cs ds : List PlacedCall) → mid ≡ old ++ found_calls ns cs → new ≡ mid ++ found_calls ns ds → new ≡ old ++ found_calls ns (cs ++ ds)
 found_behind ns old mid new cs ds e k =
     k ∙ ap (λ mid. mid ++ found_calls ns ds) e ∙ append_assoc old (found_calls ns cs) (found_calls ns ds) ∙ ap (λ rest. old ++ rest) (sym (filter_map-append (found_call ns) cs ds))
 
+-- calls that have a property are put behind others
+abbrev pub Adds : Program → (List PlacedCall → Type 0) → (old new : List Call) → Type 0
+Adds p P old new = (cs : List PlacedCall) × P cs × (new ≡ old ++ found_calls (program_names p) cs)
+
+module _ (p : Program) (P Q R : List PlacedCall → Type 0) where
+  pub adds_into : (old new : List Call) → ((cs : List PlacedCall) → P cs → R cs) → Adds p P old new → Adds p R old new
+  adds_into old new form h = (h.0, form h.0 h.1, h.2)
+
+  pub adds_both : (old mid new : List Call) → ((cs ds : List PlacedCall) → P cs → Q ds → R (cs ++ ds)) → Adds p P old mid → Adds p Q mid new → Adds p R old new
+  adds_both old mid new form h k = (h.0 ++ k.0, form h.0 k.0 h.1 k.1, found_behind (program_names p) old mid new h.0 k.0 h.2 k.2)
+
+-- no calls are put behind others
+pub adds_nothing : (p : Program) (P : List PlacedCall → Type 0) (old : List Call) → P [] → Adds p P old old
+adds_nothing p P old h = ([], h, sym (append-nil old))
+
 module _ (p : Program) (t : TermId) (n : Node) (is : n ≡ term_node_at p t) where
   pub of_form : {cs : List PlacedCall} → FormCalls p (term_spot_at p t) n cs → CallsInOrder p t cs
   of_form {cs} h = calls_there (subst (λ n. FormCalls p (term_spot_at p t) n cs) is h)
 
   pub adds_none : (old : List Call) → FormCalls p (term_spot_at p t) n [] → AddsCalls p t old old
-  adds_none old h = ([], of_form h, sym (append-nil old))
+  adds_none old h = adds_nothing p (CallsInOrder p t) old (of_form h)
 
   pub adds_one : (old new : List Call) (f : TermId) → ((cs : List PlacedCall) → CallsInOrder p f cs → FormCalls p (term_spot_at p t) n cs) → AddsCalls p f old new → AddsCalls p t old new
-  adds_one old new f form h = (h.0, of_form (form h.0 h.1), h.2)
+  adds_one old new f form h = adds_into p (CallsInOrder p f) (CallsInOrder p f) (CallsInOrder p t) old new (λ cs h. of_form (form cs h)) h
 
   pub adds_two : (old mid new : List Call) (f g : TermId) → ((cs ds : List PlacedCall) → CallsInOrder p f cs → CallsInOrder p g ds → FormCalls p (term_spot_at p t) n (cs ++ ds)) → AddsCalls p f old mid → AddsCalls p g mid new → AddsCalls p t old new
-  adds_two old mid new f g form h k = (h.0 ++ k.0, of_form (form h.0 k.0 h.1 k.1), found_behind (program_names p) old mid new h.0 k.0 h.2 k.2)
+  adds_two old mid new f g form h k = adds_both p (CallsInOrder p f) (CallsInOrder p g) (CallsInOrder p t) old mid new (λ cs ds h k. of_form (form cs ds h k)) h k
+
+  pub adds_members : (old new : List Call) (c : CollectionId) → ((cs : List PlacedCall) → MemberCalls p (collection_under p c) cs → FormCalls p (term_spot_at p t) n cs) → AddsMemberCalls p (collection_under p c) old new → AddsCalls p t old new
+  adds_members old new c form h = adds_into p (MemberCalls p (collection_under p c)) (CallsInOrder p t) (CallsInOrder p t) old new (λ cs h. of_form (form cs h)) h
+
+  pub adds_members_and : (old mid new : List Call) (c : CollectionId) (g : TermId) → ((cs ds : List PlacedCall) → MemberCalls p (collection_under p c) cs → CallsInOrder p g ds → FormCalls p (term_spot_at p t) n (cs ++ ds))
+      → AddsMemberCalls p (collection_under p c) old mid → AddsCalls p g mid new → AddsCalls p t old new
+  adds_members_and old mid new c g form h k = adds_both p (MemberCalls p (collection_under p c)) (CallsInOrder p g) (CallsInOrder p t) old mid new (λ cs ds h k. of_form (form cs ds h k)) h k
 
 -- the name of a call is found by its place
 pub name_found : {Y S : Type 0} (p : Program) (set : IndexSet (String Y) S) (x : Name) (o : Option ℕ) → names_of_set set ≡ program_names p → o ≡ index_of_by (λ k. bytes_eq x (string_bytes k)) set → position (bytes_eq x) (program_names p) ≡ o
@@ -79,13 +103,18 @@ pub no_argument : (p : Program) (old : List Call) → AddsArgumentCalls p [] old
 no_argument p old = ([], in_none, sym (append-nil old))
 
 module _ (p : Program) (vs : List Argument) (i : ℕ) (h : i < length vs) (d : Argument) where
-  pub adds_value : (old new after : List Call) → after ≡ new → (v : Argument) → get_or vs i d ≡ v → ((t : TermId) → ¬ (v ≡ arguments.Process t)) → AddsArgumentCalls p (take i vs) old new → AddsArgumentCalls p (take (i + 1) vs) old after
-  adds_value old new after same v is other k =
-      (k.0, subst (λ vs. ArgumentCalls p vs k.0) (ap (λ v. take i vs ++ v ∷ []) (sym is) ∙ sym (take_more vs i d h)) (value_more v other k.1), same ∙ k.2)
+  -- those before an argument, with that argument
+  with_argument : {cs : List PlacedCall} (v : Argument) → get_or vs i d ≡ v → ArgumentCalls p (take i vs ++ v ∷ []) cs → ArgumentCalls p (take (i + 1) vs) cs
+  with_argument {cs} v is = subst (λ vs. ArgumentCalls p vs cs) (ap (λ v. take i vs ++ v ∷ []) (sym is) ∙ sym (take_more vs i d h))
 
-  pub adds_process : (old mid new after : List Call) → after ≡ new → (t : TermId) → get_or vs i d ≡ arguments.Process t → AddsArgumentCalls p (take i vs) old mid → AddsCalls p t mid new → AddsArgumentCalls p (take (i + 1) vs) old after
-  adds_process old mid new after same t is k own =
-      (k.0 ++ own.0, subst (λ vs. ArgumentCalls p vs (k.0 ++ own.0)) (ap (λ v. take i vs ++ v ∷ []) (sym is) ∙ sym (take_more vs i d h)) (process_more k.1 own.1), same ∙ found_behind (program_names p) old mid new k.0 own.0 k.2 own.2)
+  pub adds_value : (old new : List Call) (e : ExprId) → get_or vs i d ≡ arguments.Value e → AddsArgumentCalls p (take i vs) old new → AddsArgumentCalls p (take (i + 1) vs) old new
+  adds_value old new e is k = (k.0, with_argument (arguments.Value e) is (value_more e k.1), k.2)
+
+  pub adds_process : (old mid new : List Call) (t : TermId) → get_or vs i d ≡ arguments.Process t → AddsArgumentCalls p (take i vs) old mid → AddsCalls p t mid new → AddsArgumentCalls p (take (i + 1) vs) old new
+  adds_process old mid new t is k own = (k.0 ++ own.0, with_argument (arguments.Process t) is (process_more k.1 own.1), found_behind (program_names p) old mid new k.0 own.0 k.2 own.2)
+
+  pub adds_collection : (old mid new : List Call) (c : CollectionId) → get_or vs i d ≡ arguments.Collection c → AddsArgumentCalls p (take i vs) old mid → AddsMemberCalls p (collection_under p c) mid new → AddsArgumentCalls p (take (i + 1) vs) old new
+  adds_collection old mid new c is k own = (k.0 ++ own.0, with_argument (arguments.Collection c) is (collection_more c k.1 own.1), found_behind (program_names p) old mid new k.0 own.0 k.2 own.2)
 
 -- ## Graphs
 

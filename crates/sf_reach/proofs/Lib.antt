@@ -1,5 +1,6 @@
 pub mod Lists
 pub mod Named
+pub mod Shallow
 pub mod Ordered
 pub mod Deciding
 pub mod Led

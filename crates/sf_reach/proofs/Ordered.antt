@@ -5,6 +5,7 @@ use Rattle.std.proofs.lemmas.List.{append_assoc, append-nil}
 use Rattle.std.proofs.lemmas.List.Elements.{All-nil, All-cons, All-append}
 use Rattle.sf_value.specs.Values.{Name}
 use Rattle.sf_refusal.specs.declared.spot.Spot.{Spot}
+use Rattle.sf_expr.specs.declared.exprs.ExprId.{ExprId}
 use Rattle.sf_expr.specs.Arena.{name_at}
 use Rattle.sf_term.specs.declared.form.Naming.{Naming}
 use Rattle.sf_term.specs.declared.form.Naming.TheVariants.{Process, Probe}
@@ -16,11 +17,14 @@ use Rattle.sf_term.specs.declared.node.Primitive.{Primitive}
 use Rattle.sf_term.specs.declared.node.Primitive.TheVariants as primitives
 use Rattle.sf_term.specs.declared.node.Node.{Node}
 use Rattle.sf_term.specs.declared.node.Node.TheVariants as nodes
+use Rattle.sf_term.specs.declared.collection.CollectionId.{CollectionId}
+use Rattle.sf_term.specs.declared.collection.CollExpr.{CollExpr}
+use Rattle.sf_term.specs.declared.collection.CollExpr.TheVariants as collections
 use Rattle.sf_term.specs.declared.program.Program.{Program}
-use Rattle.sf_term.specs.Arena.{term_number, tree, term_node_at, term_spot_at, term_entry_of, term_of, arguments_of, arguments_under, expressions_of, TermPartsBelow, ArgumentBelow}
+use Rattle.sf_term.specs.Arena.{term_number, tree, term_node_at, term_spot_at, term_entry_of, term_of, arguments_of, arguments_under, collection_of, collection_at, collection_under, expressions_of, TermPartsBelow, ArgumentBelow, CollectionBelow}
 use Rattle.sf_term.proofs.Kept.{node_builds, parts_below}
-use Rattle.sf_mean.specs.Calls.{Calls, calls_it, calls_within, left_calls, right_calls, side_calls, headed_calls, transformed_calls, switch_calls, source_calls, observer_calls, ArgumentsCall, process_calls, past_value_calls, past_process_calls}
-use Rattle.sf_reach.specs.Order.{PlacedCall, CallsInOrder, calls_there, FormCalls, in_primitive, in_named, in_call, in_joined, in_sided, in_headed, in_transformed, in_switching, in_keeping, ArgumentCalls, in_none, past_value, in_process}
+use Rattle.sf_mean.specs.Calls.{Calls, calls_it, calls_within, left_calls, right_calls, side_calls, headed_calls, transformed_calls, switch_calls, source_calls, observer_calls, gathered_calls, members_call, their_observer_calls, editing_calls, CollectionCalls, added_calls, past_added_calls, past_dropped_calls, past_kept_calls, one_calls, other_calls, ArgumentsCall, process_calls, collection_calls, past_value_calls, past_process_calls, past_collection_calls}
+use Rattle.sf_reach.specs.Order.{PlacedCall, CallsInOrder, calls_there, FormCalls, in_primitive, in_named, in_call, in_joined, in_sided, in_headed, in_transformed, in_switching, in_keeping, in_gathered, in_releasing, in_editing, MemberCalls, in_empty, in_used, in_added, in_dropped, in_kept, in_chosen, ArgumentCalls, in_none, past_value, in_process, in_collection}
 use Rattle.sf_reach.proofs.Lists.{In, first, later, in_left, in_right}
 
 -- ## They are the same however they are found
@@ -39,11 +43,23 @@ mutual
   form_once (in_transformed h) (in_transformed k) = calls_once h k
   form_once (in_switching h) (in_switching k) = calls_once h k
   form_once (in_keeping h k) (in_keeping i j) = ap₂ (λ cs ds. cs ++ ds) (calls_once h i) (calls_once k j)
+  form_once (in_gathered h) (in_gathered k) = members_once h k
+  form_once (in_releasing h k) (in_releasing i j) = ap₂ (λ cs ds. cs ++ ds) (members_once h i) (calls_once k j)
+  form_once (in_editing h) (in_editing k) = members_once h k
+
+  members_once : {p : Program} {c : CollExpr} {cs ds : List PlacedCall} → MemberCalls p c cs → MemberCalls p c ds → cs ≡ ds
+  members_once in_empty in_empty = refl
+  members_once in_used in_used = refl
+  members_once (in_added h k) (in_added i j) = ap₂ (λ cs ds. cs ++ ds) (members_once h i) (calls_once k j)
+  members_once (in_dropped h) (in_dropped k) = members_once h k
+  members_once (in_kept h) (in_kept k) = members_once h k
+  members_once (in_chosen h k) (in_chosen i j) = ap₂ (λ cs ds. cs ++ ds) (members_once h i) (members_once k j)
 
   arguments_once : {p : Program} {vs : List Argument} {cs ds : List PlacedCall} → ArgumentCalls p vs cs → ArgumentCalls p vs ds → cs ≡ ds
   arguments_once in_none in_none = refl
   arguments_once (past_value h) (past_value k) = arguments_once h k
   arguments_once (in_process h k) (in_process i j) = ap₂ (λ cs ds. cs ++ ds) (calls_once h i) (arguments_once k j)
+  arguments_once (in_collection h k) (in_collection i j) = ap₂ (λ cs ds. cs ++ ds) (members_once h i) (arguments_once k j)
 
 -- ## Each is a call of its term
 
@@ -87,6 +103,23 @@ mutual
   form_sound {p} (in_keeping {n = n} {w = w} {f = f} {o = o} {u = u} {k = k} {q = q} {cs = cs} {ds = ds} h i) =
       let T : Name → Type 0 = Calls (term_of p (nodes.Keeping w f o k n q u)) in
       both T cs ds (each_into (Calls (tree p f)) T (λ x c. source_calls c) cs (calls_sound h)) (each_into (Calls (tree p o)) T (λ x c. observer_calls c) ds (calls_sound i))
+  form_sound {p} (in_gathered {c = c} {cs = cs} h) = each_into (CollectionCalls (collection_at p c)) (Calls (term_of p (nodes.Gathered c))) (λ x k. gathered_calls k) cs (members_sound h)
+  form_sound {p} (in_releasing {r = r} {cs = cs} {ds = ds} h i) =
+      let T : Name → Type 0 = Calls (term_of p (nodes.Releasing r)) in
+      both T cs ds (each_into (CollectionCalls (collection_at p r.members)) T (λ x k. members_call k) cs (members_sound h)) (each_into (Calls (tree p r.observer)) T (λ x k. their_observer_calls k) ds (calls_sound i))
+  form_sound {p} (in_editing {r = r} {cs = cs} h) = each_into (CollectionCalls (collection_at p r.members)) (Calls (term_of p (nodes.Editing r))) (λ x k. editing_calls k) cs (members_sound h)
+
+  members_sound : {p : Program} {c : CollExpr} {cs : List PlacedCall} → MemberCalls p c cs → Each (CollectionCalls (collection_of p c)) cs
+  members_sound {p} (in_empty {k = k} {t = t} {s = s}) = none_called (CollectionCalls (collection_of p (collections.Empty k t s)))
+  members_sound {p} (in_used {k = k} {r = r} {s = s}) = none_called (CollectionCalls (collection_of p (collections.Used k r s)))
+  members_sound {p} (in_added {a = a} {c = c} {e = e} {t = t} {s = s} {cs = cs} {ds = ds} h k) =
+      let T : Name → Type 0 = CollectionCalls (collection_of p (collections.Added' a c e t s)) in
+      both T cs ds (each_into (CollectionCalls (collection_of p c)) T (λ x k. past_added_calls k) cs (members_sound h)) (each_into (Calls (tree p t)) T (λ x k. added_calls k) ds (calls_sound k))
+  members_sound {p} (in_dropped {a = a} {c = c} {e = e} {s = s} {cs = cs} h) = each_into (CollectionCalls (collection_of p c)) (CollectionCalls (collection_of p (collections.Dropped' a c e s))) (λ x k. past_dropped_calls k) cs (members_sound h)
+  members_sound {p} (in_kept {a = a} {c = c} {f = f} {s = s} {cs = cs} h) = each_into (CollectionCalls (collection_of p c)) (CollectionCalls (collection_of p (collections.Kept' a c f s))) (λ x k. past_kept_calls k) cs (members_sound h)
+  members_sound {p} (in_chosen {a = a} {b = b} {e = e} {c = c} {d = d} {s = s} {cs = cs} {ds = ds} h k) =
+      let T : Name → Type 0 = CollectionCalls (collection_of p (collections.Chosen' e a c b d s)) in
+      both T cs ds (each_into (CollectionCalls (collection_of p c)) T (λ x k. one_calls k) cs (members_sound h)) (each_into (CollectionCalls (collection_of p d)) T (λ x k. other_calls k) ds (members_sound k))
 
   arguments_sound : {p : Program} {vs : List Argument} {cs : List PlacedCall} → ArgumentCalls p vs cs → Each (ArgumentsCall (arguments_of p vs)) cs
   arguments_sound {p} in_none = none_called (ArgumentsCall (arguments_of p []))
@@ -94,6 +127,9 @@ mutual
   arguments_sound {p} (in_process {t = t} {vs = vs} {cs = cs} {ds = ds} h k) =
       let T : Name → Type 0 = ArgumentsCall (arguments_of p (arguments.Process t ∷ vs)) in
       both T cs ds (each_into (Calls (tree p t)) T (λ x c. process_calls c) cs (calls_sound h)) (each_into (ArgumentsCall (arguments_of p vs)) T (λ x c. past_process_calls c) ds (arguments_sound k))
+  arguments_sound {p} (in_collection {c = c} {vs = vs} {cs = cs} {ds = ds} h k) =
+      let T : Name → Type 0 = ArgumentsCall (arguments_of p (arguments.Collection c ∷ vs)) in
+      both T cs ds (each_into (CollectionCalls (collection_at p c)) T (λ x k. collection_calls k) cs (members_sound h)) (each_into (ArgumentsCall (arguments_of p vs)) T (λ x k. past_collection_calls k) ds (arguments_sound k))
 
 -- ## Each call of the term is among them
 
@@ -137,12 +173,28 @@ mutual
   form_complete (in_switching h) (switch_calls c) = calls_complete h c
   form_complete (in_keeping {ds = ds} h k) (source_calls c) = has_left ds (calls_complete h c)
   form_complete (in_keeping {cs = cs} h k) (observer_calls c) = has_right cs (calls_complete k c)
+  form_complete (in_gathered h) (gathered_calls c) = members_complete h c
+  form_complete (in_releasing {ds = ds} h k) (members_call c) = has_left ds (members_complete h c)
+  form_complete (in_releasing {cs = cs} h k) (their_observer_calls c) = has_right cs (calls_complete k c)
+  form_complete (in_editing h) (editing_calls c) = members_complete h c
+
+  members_complete : {p : Program} {c : CollExpr} {cs : List PlacedCall} {x : Name} → MemberCalls p c cs → CollectionCalls (collection_of p c) x → HasCall x cs
+  members_complete in_empty c = elim c [ ]
+  members_complete in_used c = elim c [ ]
+  members_complete (in_added {cs = cs} h k) (added_calls c) = has_right cs (calls_complete k c)
+  members_complete (in_added {ds = ds} h k) (past_added_calls c) = has_left ds (members_complete h c)
+  members_complete (in_dropped h) (past_dropped_calls c) = members_complete h c
+  members_complete (in_kept h) (past_kept_calls c) = members_complete h c
+  members_complete (in_chosen {ds = ds} h k) (one_calls c) = has_left ds (members_complete h c)
+  members_complete (in_chosen {cs = cs} h k) (other_calls c) = has_right cs (members_complete k c)
 
   arguments_complete : {p : Program} {vs : List Argument} {cs : List PlacedCall} {x : Name} → ArgumentCalls p vs cs → ArgumentsCall (arguments_of p vs) x → HasCall x cs
   arguments_complete in_none c = elim c [ ]
   arguments_complete (past_value h) (past_value_calls c) = arguments_complete h c
   arguments_complete (in_process {ds = ds} h k) (process_calls c) = has_left ds (calls_complete h c)
   arguments_complete (in_process {cs = cs} h k) (past_process_calls c) = has_right cs (arguments_complete k c)
+  arguments_complete (in_collection {ds = ds} h k) (collection_calls c) = has_left ds (members_complete h c)
+  arguments_complete (in_collection {cs = cs} h k) (past_collection_calls c) = has_right cs (arguments_complete k c)
 
 -- ## They are there
 
@@ -153,7 +205,15 @@ node_below p t = parts_below p t
 abbrev Listed : Program → TermId → Type 0
 Listed p t = (cs : List PlacedCall) × CallsInOrder p t cs
 
-arguments_listed : (p : Program) (n : ℕ) → ((t : TermId) → term_number t < n → Listed p t) → (vs : List Argument) → All (ArgumentBelow n) vs → (cs : List PlacedCall) × ArgumentCalls p vs cs
+members_listed : (p : Program) (n : ℕ) → ((t : TermId) → term_number t < n → Listed p t) → (c : CollExpr) → CollectionBelow n c → (cs : List PlacedCall) × MemberCalls p c cs
+members_listed p n part (collections.Empty k t s) b = ([], in_empty)
+members_listed p n part (collections.Used k r s) b = ([], in_used)
+members_listed p n part (collections.Added' a c e t s) b = let l = members_listed p n part c b.0 in let r = part t b.1 in (l.0 ++ r.0, in_added l.1 r.1)
+members_listed p n part (collections.Dropped' a c e s) b = let l = members_listed p n part c b in (l.0, in_dropped l.1)
+members_listed p n part (collections.Kept' a c f s) b = let l = members_listed p n part c b in (l.0, in_kept l.1)
+members_listed p n part (collections.Chosen' e a c r d s) b = let l = members_listed p n part c b.0 in let m = members_listed p n part d b.1 in (l.0 ++ m.0, in_chosen l.1 m.1)
+
+arguments_listed : (p : Program) (n : ℕ) → ((t : TermId) → term_number t < n → Listed p t) → (vs : List Argument) → All (ArgumentBelow p n) vs → (cs : List PlacedCall) × ArgumentCalls p vs cs
 arguments_listed p n part [] h = ([], in_none)
 arguments_listed p n part (arguments.Value e ∷ vs) h =
     let rest = arguments_listed p n part vs (λ k d l. h (suc k) d (omega arith)) in
@@ -162,6 +222,10 @@ arguments_listed p n part (arguments.Process t ∷ vs) h =
     let rest = arguments_listed p n part vs (λ k d l. h (suc k) d (omega arith)) in
     let own = part t (h zero (arguments.Process t) (omega arith)) in
     (own.0 ++ rest.0, in_process own.1 rest.1)
+arguments_listed p n part (arguments.Collection c ∷ vs) h =
+    let rest = arguments_listed p n part vs (λ k d l. h (suc k) d (omega arith)) in
+    let own = members_listed p n part (collection_under p c) (h zero (arguments.Collection c) (omega arith)) in
+    (own.0 ++ rest.0, in_collection own.1 rest.1)
 
 listed_within : (p : Program) (fuel : ℕ) (t : TermId) → term_number t < fuel → Listed p t
 listed_within p zero t h = absurd (omega arith)
@@ -179,20 +243,32 @@ listed_within p (suc fuel) t h =
     by (nodes.Transformed g f) b part = let l = part f b in (l.0, in_transformed l.1)
     by (nodes.Switching w f q u) b part = let l = part f b.0 in (l.0, in_switching l.1)
     by (nodes.Keeping w f o k n q u) b part = let l = part f b.0 in let r = part o b.1 in (l.0 ++ r.0, in_keeping l.1 r.1)
+    by (nodes.Gathered c) b part = let l = members_listed p (term_number t) part (collection_under p c) b in (l.0, in_gathered l.1)
+    by (nodes.Releasing n) b part = let l = members_listed p (term_number t) part (collection_under p n.members) b.0 in let r = part n.observer b.1 in (l.0 ++ r.0, in_releasing l.1 r.1)
+    by (nodes.Editing n) b part = let l = members_listed p (term_number t) part (collection_under p n.members) b.0 in (l.0, in_editing l.1)
 
 pub calls_listed : (p : Program) (t : TermId) → (cs : List PlacedCall) × CallsInOrder p t cs
 calls_listed p t = listed_within p (suc (term_number t)) t (omega arith)
 
 -- ## One argument more
 
-pub value_more : {p : Program} {vs : List Argument} {cs : List PlacedCall} (v : Argument) → ((t : TermId) → ¬ (v ≡ arguments.Process t)) → ArgumentCalls p vs cs → ArgumentCalls p (vs ++ v ∷ []) cs
-value_more (arguments.Value e) other in_none = past_value in_none
-value_more (arguments.Process t) other in_none = absurd (other t refl)
-value_more v other (past_value h) = past_value (value_more v other h)
-value_more v other (in_process h k) = in_process h (value_more v other k)
+pub value_more : {p : Program} {vs : List Argument} {cs : List PlacedCall} (e : ExprId) → ArgumentCalls p vs cs → ArgumentCalls p (vs ++ arguments.Value e ∷ []) cs
+value_more e in_none = past_value in_none
+value_more e (past_value h) = past_value (value_more e h)
+value_more e (in_process h k) = in_process h (value_more e k)
+value_more e (in_collection h k) = in_collection h (value_more e k)
+
+-- behind arguments, the calls of one more argument come last
+argument_more : {p : Program} (v : Argument) (es : List PlacedCall) → ArgumentCalls p (v ∷ []) es → {vs : List Argument} {cs : List PlacedCall} → ArgumentCalls p vs cs → ArgumentCalls p (vs ++ v ∷ []) (cs ++ es)
+argument_more v es last in_none = last
+argument_more v es last (past_value h) = past_value (argument_more v es last h)
+argument_more {p} v es last (in_process {t = t} {vs = vs} {cs = cs} {ds = ds} h k) =
+    subst (ArgumentCalls p (arguments.Process t ∷ (vs ++ v ∷ []))) (sym (append_assoc cs ds es)) (in_process h (argument_more v es last k))
+argument_more {p} v es last (in_collection {c = c} {vs = vs} {cs = cs} {ds = ds} h k) =
+    subst (ArgumentCalls p (arguments.Collection c ∷ (vs ++ v ∷ []))) (sym (append_assoc cs ds es)) (in_collection h (argument_more v es last k))
 
 pub process_more : {p : Program} {vs : List Argument} {cs ds : List PlacedCall} {t : TermId} → ArgumentCalls p vs cs → CallsInOrder p t ds → ArgumentCalls p (vs ++ arguments.Process t ∷ []) (cs ++ ds)
-process_more {p} {ds = ds} {t = t} in_none i = subst (ArgumentCalls p (arguments.Process t ∷ [])) (append-nil ds) (in_process i in_none)
-process_more (past_value h) i = past_value (process_more h i)
-process_more {p} {ds = es} {t = u} (in_process {t = t} {vs = vs} {cs = cs} {ds = ds} h k) i =
-    subst (ArgumentCalls p (arguments.Process t ∷ (vs ++ arguments.Process u ∷ []))) (sym (append_assoc cs ds es)) (in_process h (process_more k i))
+process_more {p} {ds = ds} {t = t} h i = argument_more (arguments.Process t) ds (subst (ArgumentCalls p (arguments.Process t ∷ [])) (append-nil ds) (in_process i in_none)) h
+
+pub collection_more : {p : Program} {vs : List Argument} {cs ds : List PlacedCall} (c : CollectionId) → ArgumentCalls p vs cs → MemberCalls p (collection_under p c) ds → ArgumentCalls p (vs ++ arguments.Collection c ∷ []) (cs ++ ds)
+collection_more {p} {ds = ds} c h i = argument_more (arguments.Collection c) ds (subst (ArgumentCalls p (arguments.Collection c ∷ [])) (append-nil ds) (in_collection i in_none)) h

@@ -4,12 +4,13 @@ use Rattle.std.specs.List.{IsAmong}
 use Rattle.sf_value.specs.Values.{Name}
 use Rattle.sf_term.specs.declared.node.TermId.{TermId}
 use Rattle.sf_term.specs.declared.node.Argument.{Argument}
+use Rattle.sf_term.specs.declared.collection.CollExpr.{CollExpr}
 use Rattle.sf_term.specs.declared.program.Program.{Program}
 use Rattle.sf_term.specs.Headers.{Header}
 use Rattle.sf_term.specs.Arena.{headers_of}
 use Rattle.sf_reach.specs.declared.graph.Call.{Call}
 use Rattle.sf_reach.specs.Names.{program_names}
-use Rattle.sf_reach.specs.Order.{PlacedCall, CallsInOrder, ArgumentCalls}
+use Rattle.sf_reach.specs.Order.{PlacedCall, CallsInOrder, MemberCalls, ArgumentCalls}
 
 -- the calls in each template
 abbrev pub Graph : Type 0
@@ -30,6 +31,10 @@ found_calls ns cs = filter_map (found_call ns) cs
 -- the calls in a term are put behind others
 abbrev pub AddsCalls : Program → TermId → (old new : List Call) → Type 0
 AddsCalls p t old new = (cs : List PlacedCall) × CallsInOrder p t cs × (new ≡ old ++ found_calls (program_names p) cs)
+
+-- those in a collection are
+abbrev pub AddsMemberCalls : Program → CollExpr → (old new : List Call) → Type 0
+AddsMemberCalls p c old new = (cs : List PlacedCall) × MemberCalls p c cs × (new ≡ old ++ found_calls (program_names p) cs)
 
 -- those in arguments are
 abbrev pub AddsArgumentCalls : Program → List Argument → (old new : List Call) → Type 0

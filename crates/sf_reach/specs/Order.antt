@@ -1,6 +1,7 @@
 -- The calls of programs, in the order of the text.
 use Rattle.std.specs.Prelude.{List, [], ◌∷◌, ◌++◌}
-use Rattle.sf_value.specs.Values.{Name}
+use Rattle.sf_value.specs.Values.{Name, Kind}
+use Rattle.sf_value.specs.declared.ty.KeyType.{KeyType}
 use Rattle.sf_refusal.specs.declared.spot.Spot.{Spot}
 use Rattle.sf_expr.specs.declared.exprs.ExprId.{ExprId}
 use Rattle.sf_expr.specs.declared.exprs.FunctionId.{FunctionId}
@@ -18,10 +19,15 @@ use Rattle.sf_term.specs.declared.node.ArgumentsId.{ArgumentsId}
 use Rattle.sf_term.specs.declared.node.Argument.{Argument}
 use Rattle.sf_term.specs.declared.node.Argument.TheVariants as arguments
 use Rattle.sf_term.specs.declared.node.Primitive.{Primitive}
+use Rattle.sf_term.specs.declared.node.Releasing.{Releasing}
+use Rattle.sf_term.specs.declared.node.Editing.{Editing}
 use Rattle.sf_term.specs.declared.node.Node.{Node}
 use Rattle.sf_term.specs.declared.node.Node.TheVariants as nodes
+use Rattle.sf_term.specs.declared.collection.CollectionId.{CollectionId}
+use Rattle.sf_term.specs.declared.collection.CollExpr.{CollExpr}
+use Rattle.sf_term.specs.declared.collection.CollExpr.TheVariants as collections
 use Rattle.sf_term.specs.declared.program.Program.{Program}
-use Rattle.sf_term.specs.Arena.{term_node_at, term_spot_at, expressions_of, arguments_under}
+use Rattle.sf_term.specs.Arena.{term_node_at, term_spot_at, expressions_of, arguments_under, collection_under}
 
 -- A call: the name of the template that is called, and where that name stands in the text.
 pub record PlacedCall : Type 0 where
@@ -29,8 +35,8 @@ pub record PlacedCall : Type 0 where
   pub spot : Spot
 
 mutual
-  -- The calls in the term at an id, outside the bodies of switches, in the order of the text: a call's own name comes before the
-  -- calls in its arguments.
+  -- The calls in the term at an id, outside the bodies of switches and outside edits, in the order of the text: a call's own name
+  -- comes before the calls in its arguments.
   pub data CallsInOrder (p : Program) : TermId → List PlacedCall → Type 0 where
     calls_there : {t : TermId} {cs : List PlacedCall} → FormCalls p (term_spot_at p t) (term_node_at p t) cs → CallsInOrder p t cs
 
@@ -47,9 +53,22 @@ mutual
     in_switching : {s : Spot} {w : Switching} {f u : TermId} {q : PatternId} {cs : List PlacedCall} → CallsInOrder p f cs → FormCalls p s (nodes.Switching w f q u) cs
     in_keeping : {s n : Spot} {w : Observation} {f o u : TermId} {k : NameId} {q : PatternId} {cs ds : List PlacedCall}
         → CallsInOrder p f cs → CallsInOrder p o ds → FormCalls p s (nodes.Keeping w f o k n q u) (cs ++ ds)
+    in_gathered : {s : Spot} {c : CollectionId} {cs : List PlacedCall} → MemberCalls p (collection_under p c) cs → FormCalls p s (nodes.Gathered c) cs
+    in_releasing : {s : Spot} {r : Releasing} {cs ds : List PlacedCall} → MemberCalls p (collection_under p r.members) cs → CallsInOrder p r.observer ds → FormCalls p s (nodes.Releasing r) (cs ++ ds)
+    in_editing : {s : Spot} {r : Editing} {cs : List PlacedCall} → MemberCalls p (collection_under p r.members) cs → FormCalls p s (nodes.Editing r) cs
+
+  -- the same in a collection
+  pub data MemberCalls (p : Program) : CollExpr → List PlacedCall → Type 0 where
+    in_empty : {k : KeyType} {t : Kind} {s : Spot} → MemberCalls p (collections.Empty k t s) []
+    in_used : {k : NameId} {r s : Spot} → MemberCalls p (collections.Used k r s) []
+    in_added : {a : _} {c : CollExpr} {e : ExprId} {t : TermId} {s : Spot} {cs ds : List PlacedCall} → MemberCalls p c cs → CallsInOrder p t ds → MemberCalls p (collections.Added' a c e t s) (cs ++ ds)
+    in_dropped : {a : _} {c : CollExpr} {e : ExprId} {s : Spot} {cs : List PlacedCall} → MemberCalls p c cs → MemberCalls p (collections.Dropped' a c e s) cs
+    in_kept : {a : _} {c : CollExpr} {f : FunctionId} {s : Spot} {cs : List PlacedCall} → MemberCalls p c cs → MemberCalls p (collections.Kept' a c f s) cs
+    in_chosen : {a b : _} {e : ExprId} {c d : CollExpr} {s : Spot} {cs ds : List PlacedCall} → MemberCalls p c cs → MemberCalls p d ds → MemberCalls p (collections.Chosen' e a c b d s) (cs ++ ds)
 
   -- the same in arguments
   pub data ArgumentCalls (p : Program) : List Argument → List PlacedCall → Type 0 where
     in_none : ArgumentCalls p [] []
     past_value : {e : ExprId} {vs : List Argument} {cs : List PlacedCall} → ArgumentCalls p vs cs → ArgumentCalls p (arguments.Value e ∷ vs) cs
     in_process : {t : TermId} {vs : List Argument} {cs ds : List PlacedCall} → CallsInOrder p t cs → ArgumentCalls p vs ds → ArgumentCalls p (arguments.Process t ∷ vs) (cs ++ ds)
+    in_collection : {c : CollectionId} {vs : List Argument} {cs ds : List PlacedCall} → MemberCalls p (collection_under p c) cs → ArgumentCalls p vs ds → ArgumentCalls p (arguments.Collection c ∷ vs) (cs ++ ds)

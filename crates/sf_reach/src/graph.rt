@@ -1,12 +1,13 @@
 //! The calls in templates.
-ghost use Rattle.std.specs.Prelude.{◌≡◌, IfOk, OnOk, All};
-ghost use Rattle.sf_term.specs.Arena.{ArgumentBelow, term_number};
+ghost use Rattle.std.specs.Prelude.{◌≡◌, ◌≤◌, IfOk, OnOk, All};
+ghost use Rattle.sf_term.specs.Trees.{collection_depth, arguments_depth};
+ghost use Rattle.sf_term.specs.Arena.{ArgumentBelow, CollectionBelow, arguments_of, collection_of, collection_under, term_number};
 ghost use Rattle.sf_reach.specs.Names.{names_of_set, program_names};
-ghost use Rattle.sf_reach.specs.Graphs.{AddsCalls, AddsArgumentCalls, IsGraphOf, StaysWithin};
+ghost use Rattle.sf_reach.specs.Graphs.{AddsCalls, AddsMemberCalls, AddsArgumentCalls, IsGraphOf, StaysWithin};
 
 use indexmap::IndexSet;
 use sf_refusal::Spot;
-use sf_term::{Argument, Node, Program, TermId};
+use sf_term::{Argument, CollExpr, CollectionId, Node, Program, TermId};
 use std::alloc::{AllocError, Global};
 use std::marker::Model;
 
@@ -70,6 +71,62 @@ fn gather(
             gather(program, names, first, calls)?;
             gather(program, names, second, calls)
         }
+        Node::Gathered(members) => gather_at(program, names, term, members, calls),
+        Node::Editing(form) => gather_at(program, names, term, form.members, calls),
+        Node::Releasing(form) => {
+            gather_at(program, names, term, form.members, calls)?;
+            gather(program, names, form.observer, calls)
+        }
+    }
+}
+
+/// Puts the calls in the collection at an id, which a form has, behind others.
+#[cycle(gathering)]
+fn gather_at(
+    program: &Program,
+    names: &IndexSet<String>,
+    form: TermId,
+    members: CollectionId,
+    calls: &mut Vec<Call>,
+) -> Result<(), AllocError>
+    requires names { names_of_set names.now ≡ program_names program.now }
+    requires below { CollectionBelow (term_number form) (collection_under program.now members) }
+    requires shallow { collection_depth (collection_of program.now (collection_under program.now members)) ≤ 64 }
+    ensures { OnOk result (AddsMemberCalls program.now (collection_under program.now members) calls.old.items calls.new.items) }
+{
+    match program.collection(members) {
+        Some(collection) => gather_members(program, names, form, collection, calls),
+        None => Ok(()),
+    }
+}
+
+/// Puts the calls in a collection, which a form has, behind others.
+#[cycle(gathering)]
+fn gather_members(
+    program: &Program,
+    names: &IndexSet<String>,
+    form: TermId,
+    collection: &CollExpr,
+    calls: &mut Vec<Call>,
+) -> Result<(), AllocError>
+    requires names { names_of_set names.now ≡ program_names program.now }
+    requires below { CollectionBelow (term_number form) collection.now }
+    requires shallow { collection_depth (collection_of program.now collection.now) ≤ 64 }
+    ensures { OnOk result (AddsMemberCalls program.now collection.now calls.old.items calls.new.items) }
+{
+    match collection {
+        CollExpr::Empty(_, _, _) => Ok(()),
+        CollExpr::Used(_, _, _) => Ok(()),
+        CollExpr::Added(members, _, term, _) => {
+            gather_members(program, names, form, members, calls)?;
+            gather(program, names, *term, calls)
+        }
+        CollExpr::Dropped(members, _, _) => gather_members(program, names, form, members, calls),
+        CollExpr::Kept(members, _, _) => gather_members(program, names, form, members, calls),
+        CollExpr::Chosen(_, first, second, _) => {
+            gather_members(program, names, form, first, calls)?;
+            gather_members(program, names, form, second, calls)
+        }
     }
 }
 
@@ -83,12 +140,15 @@ fn gather_arguments(
     calls: &mut Vec<Call>,
 ) -> Result<(), AllocError>
     requires names { names_of_set names.now ≡ program_names program.now }
-    requires below { All (ArgumentBelow (term_number call)) arguments.now }
+    requires below { All (ArgumentBelow program.now (term_number call)) arguments.now }
+    requires shallow { arguments_depth (arguments_of program.now arguments.now) ≤ 64 }
     ensures { OnOk result (AddsArgumentCalls program.now arguments.now calls.old.items calls.new.items) }
 {
     for argument in arguments {
-        if let Argument::Process(term) = argument {
-            gather(program, names, *term, calls)?;
+        match argument {
+            Argument::Value(_) => {}
+            Argument::Process(term) => gather(program, names, *term, calls)?,
+            Argument::Collection(members) => gather_at(program, names, call, *members, calls)?,
         }
     }
     Ok(())

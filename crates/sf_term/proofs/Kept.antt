@@ -1,6 +1,6 @@
 -- What builders keep of a program.
 use Rattle.std.specs.Prelude.{slice_index_or}
-use Rattle.std.proofs.Common.{◌≡◌, ◌↔◌, ℕ, zero, suc, max, ◌<◌, ◌≤◌, List, [], ◌∷◌, ◌++◌, length, get_or, map, Bool, true, false, cond, Result, Ok, Err, IfOk, OnOk, OnErr, refl, sym, ◌∙◌, ap, subst, arith, ◌⊎◌, inl, inr, All}
+use Rattle.std.proofs.Common.{◌≡◌, ◌↔◌, ℕ, zero, suc, ◌^◌, ◌-◌, max, min, ◌<◌, ◌≤◌, List, [], ◌∷◌, ◌++◌, length, get_or, map, Bool, true, false, cond, Result, Ok, Err, IfOk, OnOk, OnErr, refl, sym, ◌∙◌, ap, subst, arith, ◌⊎◌, inl, inr, All}
 use mathlib.Core.Path.{ap₂}
 use Rattle.std.proofs.lemmas.List.{map-append, get_or_past}
 use Rattle.std.proofs.lemmas.List.Elements.{All-nil, All-cons, All-head, All-tail, All-weaker}
@@ -21,7 +21,7 @@ use Rattle.sf_expr.specs.declared.exprs.ExprNode.{ExprNode}
 use Rattle.sf_expr.specs.declared.exprs.Exprs.{Exprs}
 use Rattle.sf_expr.specs.Patterns.{PlacedPattern, pattern_of}
 use Rattle.sf_expr.specs.Expressions.{Literal, Expression}
-use Rattle.sf_expr.specs.Arena.{expression, name_at, HoldsName, next_name, count_of, pattern_count, Holds, HoldsFunction as HoldsFunctionIn, function_at, pattern_at as pattern_at_in, body_at as body_at_in, node_at as value_node_at, spot_at as value_spot_at, Keeps as KeepsExpressions, Adds as AddsToExpressions, AddsName, AddsConstant, HoldsPattern, placed_at, next_pattern, AddsPattern, expression_of, AddsFunction as AddsFunctionIn, IsUnchanged as ExpressionsUnchanged}
+use Rattle.sf_expr.specs.Arena.{expression, name_at, HoldsName, next_name, count_of, function_count, name_count, pattern_count, Holds, HoldsFunction as HoldsFunctionIn, function_at, pattern_at as pattern_at_in, body_at as body_at_in, node_at as value_node_at, spot_at as value_spot_at, Keeps as KeepsExpressions, Adds as AddsToExpressions, AddsName, AddsConstant, HoldsPattern, placed_at, next_pattern, AddsPattern, expression_of, AddsFunction as AddsFunctionIn, IsUnchanged as ExpressionsUnchanged}
 use Rattle.sf_expr.proofs.Entered.{below_holds, holds_below, below_function, function_below, name_below, below_name, constant_below, below_constant, pattern_below, below_pattern, few_expressions, adds_keeps as expressions_kept, unchanged_keeps as unchanged_expressions_kept, keeps_trans as expressions_kept_trans}
 use Rattle.sf_term.specs.declared.refusal.BuildRefusal.{BuildRefusal}
 use Rattle.sf_term.specs.declared.refusal.BuildRefusal.TheVariants.{TooDeep}
@@ -30,6 +30,9 @@ use Rattle.sf_term.specs.declared.node.ArgumentsId.{ArgumentsId}
 use Rattle.sf_term.specs.declared.node.Argument.{Argument}
 use Rattle.sf_term.specs.declared.node.Argument.TheVariants as arguments
 use Rattle.sf_term.specs.declared.node.Primitive.TheVariants as primitives
+use Rattle.sf_term.specs.declared.collection.CollectionId.{CollectionId}
+use Rattle.sf_term.specs.declared.collection.CollExpr.{CollExpr}
+use Rattle.sf_term.specs.declared.collection.CollExpr.TheVariants as collections
 use Rattle.sf_term.specs.declared.node.Node.{Node}
 use Rattle.sf_term.specs.declared.node.Node.TheVariants as nodes
 use Rattle.sf_term.specs.declared.program.Program.{Program}
@@ -38,43 +41,62 @@ use Rattle.sf_term.specs.declared.form.Switching.{Switching}
 use Rattle.sf_term.specs.declared.form.Naming.{Naming}
 use Rattle.sf_term.specs.declared.form.Naming.TheVariants.{Process, Probe}
 use Rattle.sf_term.specs.Parameters.{parameters_of}
-use Rattle.sf_term.specs.Trees.{named_term, Term, reference, call, value_argument, process_argument, switching, keeping, Template, term_depth}
+use Rattle.sf_term.specs.Trees as forms
+use Rattle.sf_term.specs.Trees.{named_term, Term, reference, call, value_argument, process_argument, collection_argument, switching, keeping, gathered, releasing, editing, Template, term_depth}
 use Rattle.sf_term.specs.Headers.{Header, bodies_end}
-use Rattle.sf_term.specs.Entries.{arguments_over, terms_end, expressions_end, identity_term, term_over, needs_terms, identity_entry, term_entry, term_made, terms_made, term_entered}
-use Rattle.sf_term.specs.Arena.{term_number, expressions_of, base_of, HoldsArguments, HoldsArgument, ArgumentBelow, arguments_under, arguments_of, next_arguments, term_count, expression_count, HoldsTerm, HoldsExpression, ProgramHoldsFunction, HoldsPatternIn, function_pattern_at, function_body_at, pattern_under, function_in, tree, expression_under, term_entry_of, term_node_at, expression_node_at, term_spot_at, expression_spot_at, term_of, headers_of, template_in, TermPartsBelow, HoldsTermParts, KeepsTrees, KeepsProgram, AddsTerm, AddsExpression, AddsProgramFunction, AddsTemplate, IsSameProgram}
-use Rattle.sf_term.proofs.Entered.{term-built, term-same, NeedsAreThere, MoreArguments, arguments_copied}
+use Rattle.sf_term.specs.Entries.{StoredLists, absent_collection, collections_in, collection_listed, stored_over, stored_terms, stored_expressions, stored_functions, stored_names, collections_end, arguments_over, terms_end, expressions_end, identity_term, term_over, needs_terms, identity_entry, term_entry, term_made, terms_made, term_entered}
+use Rattle.sf_term.specs.Arena.{term_number, expressions_of, base_of, lists_of, HoldsCollection, HoldsMembers, HoldsWhole, collection_under, collection_of, collection_at, CollectionBelow, HoldsArguments, HoldsArgument, ArgumentBelow, arguments_under, arguments_of, next_arguments, term_count, expression_count, HoldsTerm, HoldsExpression, ProgramHoldsFunction, HoldsPatternIn, function_pattern_at, function_body_at, pattern_under, function_in, tree, expression_under, term_entry_of, term_node_at, expression_node_at, term_spot_at, expression_spot_at, term_of, headers_of, template_in, TermPartsBelow, HoldsTermParts, KeepsTrees, KeepsProgram, AddsTerm, AddsExpression, AddsProgramFunction, AddsTemplate, IsSameProgram}
+use Rattle.sf_term.proofs.Entered.{term-built, term-same, NeedsAreThere, MoreLists, lists_copied}
+
+-- what a collection needs is there where what it names is held
+pub members_end : (p : Program) (c : CollExpr) → HoldsMembers p c
+    → (stored_terms c ≤ length (entries_of p.terms)) × (stored_expressions c ≤ count_of p.expressions) × (stored_functions c ≤ function_count p.expressions) × (stored_names c ≤ name_count p.expressions)
+unfolding expressions_of HoldsTerm HoldsExpression ProgramHoldsFunction
+members_end p (collections.Empty k t s) h = (omega arith, omega arith, omega arith, omega arith)
+members_end p (collections.Used k r s) h = (omega arith, omega arith, omega arith, omega (arith, name_below p.expressions k h))
+members_end p (collections.Added' a c e t s) h = let k = members_end p c h.0 in (omega (arith, k.0, h.2), omega (arith, k.1, holds_below p.expressions e h.1), k.2, k.3)
+members_end p (collections.Dropped' a c e s) h = let k = members_end p c h.0 in (k.0, omega (arith, k.1, holds_below p.expressions e h.1), k.2, k.3)
+members_end p (collections.Kept' a c f s) h = let k = members_end p c h.0 in (k.0, k.1, omega (arith, k.2, function_below p.expressions f h.1), k.3)
+members_end p (collections.Chosen' e a c b d s) h =
+    let k = members_end p c h.1 in
+    let l = members_end p d h.2 in
+    (omega (arith, k.0, l.0), omega (arith, k.1, l.1, holds_below p.expressions e h.0), omega (arith, k.2, l.2), omega (arith, k.3, l.3))
 
 -- what arguments need is there where they are held
-arguments_end : (p : Program) (vs : List Argument) → All (HoldsArgument p) vs → (terms_end vs ≤ length (entries_of p.terms)) × (expressions_end vs ≤ count_of p.expressions)
-unfolding HoldsTerm HoldsExpression
-arguments_end p [] h = (omega arith, omega arith)
+arguments_end : (p : Program) (vs : List Argument) → All (HoldsArgument p) vs → (terms_end (base_of p) vs ≤ length (entries_of p.terms)) × (expressions_end vs ≤ count_of p.expressions) × (collections_end vs ≤ length (collections_in p.collections.items))
+unfolding HoldsTerm HoldsExpression HoldsCollection collection_under
+arguments_end p [] h = (omega arith, omega arith, omega arith)
 arguments_end p (arguments.Value e ∷ vs) h =
     let k = arguments_end p vs (All-tail (HoldsArgument p) _ vs h) in
-    (k.0, omega (arith, k.1, holds_below p.expressions e (All-head (HoldsArgument p) _ vs h)))
+    (k.0, omega (arith, k.1, holds_below p.expressions e (All-head (HoldsArgument p) _ vs h)), k.2)
 arguments_end p (arguments.Process t ∷ vs) h =
     let k = arguments_end p vs (All-tail (HoldsArgument p) _ vs h) in
     let held : t.0 < length (entries_of p.terms) = All-head (HoldsArgument p) _ vs h in
-    (omega (arith, k.0), k.1)
+    (omega (arith, k.0), k.1, k.2)
+arguments_end p (arguments.Collection c ∷ vs) h =
+    let k = arguments_end p vs (All-tail (HoldsArgument p) _ vs h) in
+    let held : HoldsWhole p c = All-head (HoldsArgument p) _ vs h in
+    (omega (arith, k.0, (members_end p (collection_under p c) held.1).0), k.1, omega (arith, k.2, held.0))
 
 -- what a node needs is there where its parts are held
 pub parts_needed : (p : Program) (n : Node) → HoldsTermParts p n → NeedsAreThere (base_of p) (entries_of p.terms) n
-unfolding expressions_of HoldsTerm HoldsExpression ProgramHoldsFunction HoldsPatternIn HoldsArguments arguments_under
-parts_needed p (nodes.Primitive (primitives.Bare k)) h = record { terms = omega arith; expressions = omega arith; functions = omega arith; patterns = omega arith; names = omega arith; constants = omega arith; arguments = omega arith }
-parts_needed p (nodes.Primitive (primitives.Never n)) h = record { terms = omega arith; expressions = omega arith; functions = omega arith; patterns = omega arith; names = omega arith; constants = omega (arith, constant_below p.expressions n h); arguments = omega arith }
-parts_needed p (nodes.Primitive (primitives.WithValue k e)) h = record { terms = omega arith; expressions = omega (arith, holds_below p.expressions e h); functions = omega arith; patterns = omega arith; names = omega arith; constants = omega arith; arguments = omega arith }
-parts_needed p (nodes.Primitive (primitives.Timed k q e)) h = record { terms = omega arith; expressions = omega (arith, holds_below p.expressions e h); functions = omega arith; patterns = omega arith; names = omega arith; constants = omega arith; arguments = omega arith }
-parts_needed p (nodes.Primitive (primitives.Selected k n)) h = record { terms = omega arith; expressions = omega arith; functions = omega arith; patterns = omega arith; names = omega arith; constants = omega arith; arguments = omega arith }
-parts_needed p (nodes.Primitive (primitives.Arrow f)) h = record { terms = omega arith; expressions = omega arith; functions = omega (arith, function_below p.expressions f h); patterns = omega arith; names = omega arith; constants = omega arith; arguments = omega arith }
-parts_needed p (nodes.Primitive (primitives.Accumulated k e f)) h = record { terms = omega arith; expressions = omega (arith, holds_below p.expressions e h.0); functions = omega (arith, function_below p.expressions f h.1); patterns = omega arith; names = omega arith; constants = omega arith; arguments = omega arith }
-parts_needed p (nodes.Named w k s) h = record { terms = omega arith; expressions = omega arith; functions = omega arith; patterns = omega arith; names = omega (arith, name_below p.expressions k h); constants = omega arith; arguments = omega arith }
+unfolding expressions_of HoldsTerm HoldsExpression ProgramHoldsFunction HoldsPatternIn HoldsArguments arguments_under HoldsCollection collection_under
+parts_needed p (nodes.Primitive (primitives.Bare k)) h = record { terms = omega arith; expressions = omega arith; functions = omega arith; patterns = omega arith; names = omega arith; constants = omega arith; arguments = omega arith; collections = omega arith }
+parts_needed p (nodes.Primitive (primitives.Never n)) h = record { terms = omega arith; expressions = omega arith; functions = omega arith; patterns = omega arith; names = omega arith; constants = omega (arith, constant_below p.expressions n h); arguments = omega arith; collections = omega arith }
+parts_needed p (nodes.Primitive (primitives.WithValue k e)) h = record { terms = omega arith; expressions = omega (arith, holds_below p.expressions e h); functions = omega arith; patterns = omega arith; names = omega arith; constants = omega arith; arguments = omega arith; collections = omega arith }
+parts_needed p (nodes.Primitive (primitives.Timed k q e)) h = record { terms = omega arith; expressions = omega (arith, holds_below p.expressions e h); functions = omega arith; patterns = omega arith; names = omega arith; constants = omega arith; arguments = omega arith; collections = omega arith }
+parts_needed p (nodes.Primitive (primitives.Selected k n)) h = record { terms = omega arith; expressions = omega arith; functions = omega arith; patterns = omega arith; names = omega arith; constants = omega arith; arguments = omega arith; collections = omega arith }
+parts_needed p (nodes.Primitive (primitives.Arrow f)) h = record { terms = omega arith; expressions = omega arith; functions = omega (arith, function_below p.expressions f h); patterns = omega arith; names = omega arith; constants = omega arith; arguments = omega arith; collections = omega arith }
+parts_needed p (nodes.Primitive (primitives.Accumulated k e f)) h = record { terms = omega arith; expressions = omega (arith, holds_below p.expressions e h.0); functions = omega (arith, function_below p.expressions f h.1); patterns = omega arith; names = omega arith; constants = omega arith; arguments = omega arith; collections = omega arith }
+parts_needed p (nodes.Named w k s) h = record { terms = omega arith; expressions = omega arith; functions = omega arith; patterns = omega arith; names = omega (arith, name_below p.expressions k h); constants = omega arith; arguments = omega arith; collections = omega arith }
 parts_needed p (nodes.Call k a) h =
     let within = arguments_end p (arguments_under p a) h.2 in
-    record { terms = within.0; expressions = within.1; functions = omega arith; patterns = omega arith; names = omega (arith, name_below p.expressions k h.0); constants = omega arith; arguments = omega (arith, h.1) }
-parts_needed p (nodes.Joined j a b) h = record { terms = omega arith; expressions = omega arith; functions = omega arith; patterns = omega arith; names = omega arith; constants = omega arith; arguments = omega arith }
-parts_needed p (nodes.Sided d a) h = record { terms = omega arith; expressions = omega arith; functions = omega arith; patterns = omega arith; names = omega arith; constants = omega arith; arguments = omega arith }
-parts_needed p (nodes.Headed q e a) h = record { terms = omega arith; expressions = omega (arith, holds_below p.expressions e h.0); functions = omega arith; patterns = omega arith; names = omega arith; constants = omega arith; arguments = omega arith }
-parts_needed p (nodes.Transformed f a) h = record { terms = omega arith; expressions = omega arith; functions = omega (arith, function_below p.expressions f h.0); patterns = omega arith; names = omega arith; constants = omega arith; arguments = omega arith }
-parts_needed p (nodes.Switching w a q b) h = record { terms = omega (arith, h.0, h.2); expressions = omega arith; functions = omega arith; patterns = omega (arith, pattern_below p.expressions q h.1); names = omega arith; constants = omega arith; arguments = omega arith }
+    record { terms = within.0; expressions = within.1; functions = omega arith; patterns = omega arith; names = omega (arith, name_below p.expressions k h.0); constants = omega arith; arguments = omega (arith, h.1); collections = within.2 }
+parts_needed p (nodes.Joined j a b) h = record { terms = omega arith; expressions = omega arith; functions = omega arith; patterns = omega arith; names = omega arith; constants = omega arith; arguments = omega arith; collections = omega arith }
+parts_needed p (nodes.Sided d a) h = record { terms = omega arith; expressions = omega arith; functions = omega arith; patterns = omega arith; names = omega arith; constants = omega arith; arguments = omega arith; collections = omega arith }
+parts_needed p (nodes.Headed q e a) h = record { terms = omega arith; expressions = omega (arith, holds_below p.expressions e h.0); functions = omega arith; patterns = omega arith; names = omega arith; constants = omega arith; arguments = omega arith; collections = omega arith }
+parts_needed p (nodes.Transformed f a) h = record { terms = omega arith; expressions = omega arith; functions = omega (arith, function_below p.expressions f h.0); patterns = omega arith; names = omega arith; constants = omega arith; arguments = omega arith; collections = omega arith }
+parts_needed p (nodes.Switching w a q b) h = record { terms = omega (arith, h.0, h.2); expressions = omega arith; functions = omega arith; patterns = omega (arith, pattern_below p.expressions q h.1); names = omega arith; constants = omega arith; arguments = omega arith; collections = omega arith }
 parts_needed p (nodes.Keeping w a o k s q b) h = record {
   terms = omega (arith, h.0, h.1, h.4);
   expressions = omega arith;
@@ -83,6 +105,28 @@ parts_needed p (nodes.Keeping w a o k s q b) h = record {
   names = omega (arith, name_below p.expressions k h.2);
   constants = omega arith;
   arguments = omega arith;
+  collections = omega arith;
+}
+parts_needed p (nodes.Gathered c) h = record { terms = (members_end p (collection_under p c) h.1).0; expressions = omega arith; functions = omega arith; patterns = omega arith; names = omega arith; constants = omega arith; arguments = omega arith; collections = omega (arith, h.0) }
+parts_needed p (nodes.Releasing n) h = record {
+  terms = omega (arith, (members_end p (collection_under p n.members) h.0.1).0, h.1, h.4);
+  expressions = omega arith;
+  functions = omega arith;
+  patterns = omega (arith, pattern_below p.expressions n.pattern h.3);
+  names = omega (arith, name_below p.expressions n.name h.2);
+  constants = omega arith;
+  arguments = omega arith;
+  collections = omega (arith, h.0.0);
+}
+parts_needed p (nodes.Editing n) h = record {
+  terms = omega (arith, (members_end p (collection_under p n.members) h.0.1).0, (members_end p (collection_under p n.edit) h.3.1).0);
+  expressions = omega arith;
+  functions = omega arith;
+  patterns = omega (arith, pattern_below p.expressions n.pattern h.2);
+  names = omega (arith, name_below p.expressions n.name h.1);
+  constants = omega arith;
+  arguments = omega arith;
+  collections = omega (arith, h.0.0, h.3.0);
 }
 
 -- a form that is a name alone has no depth of its own
@@ -90,16 +134,27 @@ pub named_depth : (w : Naming) (k : Name) → term_depth (named_term w k) ≡ 1
 named_depth (Process w) k = refl
 named_depth Probe k = refl
 
+-- a collection is made over the terms before it
+collection-made : (p : Program) (c : CollExpr) → collection_of p c ≡ stored_over p.expressions (terms_made (base_of p) (entries_of p.terms)) c
+unfolding expressions_of tree expression_under function_pattern_at function_body_at tree_at
+collection-made p (collections.Empty k t s) = refl
+collection-made p (collections.Used k r s) = refl
+collection-made p (collections.Added' a c e t s) = ap (λ i. forms.added i (expression p.expressions e) (tree p t)) (collection-made p c)
+collection-made p (collections.Dropped' a c e s) = ap (λ i. forms.dropped i (expression p.expressions e)) (collection-made p c)
+collection-made p (collections.Kept' a c f s) = ap (λ i. forms.kept i (function_at p.expressions f)) (collection-made p c)
+collection-made p (collections.Chosen' e a c b d s) = ap₂ (λ i j. forms.chosen (expression p.expressions e) i j) (collection-made p c) (collection-made p d)
+
 -- arguments are made over the terms before them
-arguments-made : (p : Program) (vs : List Argument) → arguments_of p vs ≡ arguments_over p.expressions (terms_made (base_of p) (entries_of p.terms)) vs
-unfolding expressions_of tree expression_under tree_at
+arguments-made : (p : Program) (vs : List Argument) → arguments_of p vs ≡ arguments_over (base_of p) (terms_made (base_of p) (entries_of p.terms)) vs
+unfolding expressions_of tree expression_under tree_at collection_under
 arguments-made p [] = refl
 arguments-made p (arguments.Value e ∷ vs) = ap (value_argument (expression p.expressions e)) (arguments-made p vs)
 arguments-made p (arguments.Process t ∷ vs) = ap (process_argument (tree p t)) (arguments-made p vs)
+arguments-made p (arguments.Collection c ∷ vs) = ap₂ collection_argument (collection-made p (collection_under p c)) (arguments-made p vs)
 
 -- a node stands for the term that is made over the terms before it
 pub node-made : (p : Program) (n : Node) → term_of p n ≡ term_over (base_of p) (terms_made (base_of p) (entries_of p.terms)) n
-unfolding expressions_of tree expression_under function_pattern_at function_body_at pattern_under arguments_under tree_at
+unfolding expressions_of tree expression_under function_pattern_at function_body_at pattern_under arguments_under collection_under tree_at
 node-made p (nodes.Primitive (primitives.Bare k)) = refl
 node-made p (nodes.Primitive (primitives.Never n)) = refl
 node-made p (nodes.Primitive (primitives.WithValue k e)) = refl
@@ -115,6 +170,10 @@ node-made p (nodes.Headed h e a) = refl
 node-made p (nodes.Transformed f a) = refl
 node-made p (nodes.Switching w a q b) = refl
 node-made p (nodes.Keeping w a o k s q b) = refl
+node-made p (nodes.Gathered c) = ap gathered (collection-made p (collection_under p c))
+node-made p (nodes.Releasing n) = ap (λ i. releasing n.shown i (tree p n.observer) (name_at p.expressions n.name) (pattern_of (pattern_under p n.pattern)) (tree p n.body)) (collection-made p (collection_under p n.members))
+node-made p (nodes.Editing n) =
+    ap₂ (λ i j. editing n.shown i (name_at p.expressions n.name) (pattern_of (pattern_under p n.pattern)) j) (collection-made p (collection_under p n.members)) (collection-made p (collection_under p n.edit))
 
 -- a node stands for the term at its id
 pub builds : (p : Program) (t : TermId) → tree p t ≡ term_of p (term_entry_of p t).node
@@ -126,27 +185,41 @@ pub node_builds : (p : Program) (t : TermId) (n : Node) → term_node_at p t ≡
 unfolding term_node_at term_entry_of
 node_builds p t n e = builds p t ∙ ap (λ n. term_of p n) e
 
+-- a collection stands before what it is below
+members_below : (m : ℕ) (c : CollExpr) → stored_terms c ≤ m → CollectionBelow m c
+members_below m (collections.Empty k t s) h = tt
+members_below m (collections.Used k r s) h = tt
+members_below m (collections.Added' a c e t s) h = (members_below m c (omega arith), omega arith)
+members_below m (collections.Dropped' a c e s) h = members_below m c h
+members_below m (collections.Kept' a c f s) h = members_below m c h
+members_below m (collections.Chosen' e a c b d s) h = (members_below m c (omega arith), members_below m d (omega arith))
+
 -- arguments stand before what they are below
-arguments_below : (m : ℕ) (vs : List Argument) → terms_end vs ≤ m → All (ArgumentBelow m) vs
-arguments_below m [] h = All-nil (ArgumentBelow m)
-arguments_below m (arguments.Value e ∷ vs) h = All-cons (ArgumentBelow m) _ vs tt (arguments_below m vs h)
-arguments_below m (arguments.Process t ∷ vs) h = All-cons (ArgumentBelow m) _ vs (omega arith) (arguments_below m vs (omega arith))
+arguments_below : (p : Program) (m : ℕ) (vs : List Argument) → terms_end (base_of p) vs ≤ m → All (ArgumentBelow p m) vs
+unfolding collection_under
+arguments_below p m [] h = All-nil (ArgumentBelow p m)
+arguments_below p m (arguments.Value e ∷ vs) h = All-cons (ArgumentBelow p m) _ vs tt (arguments_below p m vs h)
+arguments_below p m (arguments.Process t ∷ vs) h = All-cons (ArgumentBelow p m) _ vs (omega arith) (arguments_below p m vs (omega arith))
+arguments_below p m (arguments.Collection c ∷ vs) h = All-cons (ArgumentBelow p m) _ vs (members_below m (collection_under p c) (omega arith)) (arguments_below p m vs (omega arith))
 
 -- the parts of a node stand before it
 pub parts_below : (p : Program) (t : TermId) → TermPartsBelow p (term_entry_of p t).node (term_number t)
-unfolding term_entry_of arguments_under
+unfolding term_entry_of arguments_under collection_under
 parts_below p t = of_node (term_entry (entries_of p.terms) t.0).node (p.arena.in_order t.0)
   where
     of_node : (n : Node) → needs_terms (base_of p) n ≤ t.0 → TermPartsBelow p n t.0
     of_node (nodes.Primitive q) h = tt
     of_node (nodes.Named w k s) h = tt
-    of_node (nodes.Call k a) h = arguments_below t.0 (arguments_under p a) h
+    of_node (nodes.Call k a) h = arguments_below p t.0 (arguments_under p a) h
     of_node (nodes.Joined j a b) h = (omega arith, omega arith)
     of_node (nodes.Sided d a) h = omega arith
     of_node (nodes.Headed q e a) h = omega arith
     of_node (nodes.Transformed f a) h = omega arith
     of_node (nodes.Switching w a q b) h = (omega arith, omega arith)
     of_node (nodes.Keeping w a o k s q b) h = (omega arith, omega arith, omega arith)
+    of_node (nodes.Gathered c) h = members_below t.0 (collection_under p c) h
+    of_node (nodes.Releasing n) h = (members_below t.0 (collection_under p n.members) (omega arith), omega arith, omega arith)
+    of_node (nodes.Editing n) h = (members_below t.0 (collection_under p n.members) (omega arith), members_below t.0 (collection_under p n.edit) (omega arith))
 
 -- the templates are the same where the trees are
 templates-same : (old new : Program) (hs : List Header) → bodies_end hs ≤ length (entries_of old.terms) → KeepsTrees old new → map (template_in new) hs ≡ map (template_in old) hs
@@ -164,13 +237,13 @@ keeps_of old new k e = record {
   spots = ap (λ hs. map (λ (h : Header). h.spot) hs) e;
 }
 
--- the same expressions and the same arguments
-same_base : (old new : Program) → new.expressions ≡ old.expressions → new.arguments.items ≡ old.arguments.items → base_of new ≡ base_of old
-same_base old new e f = ap₂ (λ (x : Exprs) (vs : List (List Argument)). record { expressions = x; arguments = vs }) e f
+-- the same expressions, arguments and collections
+same_base : (old new : Program) → new.expressions ≡ old.expressions → lists_of new ≡ lists_of old → base_of new ≡ base_of old
+same_base old new e f = ap₂ (λ (x : Exprs) (ls : StoredLists). record { expressions = x; lists = ls }) e f
 
 -- the trees stay where an entry is added
-added_keeps : (old new : Program) (entry : Entry Node) (n : ℕ) → new.expressions ≡ old.expressions → new.arguments.items ≡ old.arguments.items → Added (entries_of old.terms) (entries_of new.terms) entry n → KeepsTrees old new
-unfolding HoldsTerm HoldsExpression ProgramHoldsFunction HoldsPatternIn HoldsArguments tree term_node_at term_spot_at expression_under expression_node_at expression_spot_at function_pattern_at function_body_at pattern_under arguments_under
+added_keeps : (old new : Program) (entry : Entry Node) (n : ℕ) → new.expressions ≡ old.expressions → lists_of new ≡ lists_of old → Added (entries_of old.terms) (entries_of new.terms) entry n → KeepsTrees old new
+unfolding HoldsTerm HoldsExpression ProgramHoldsFunction HoldsPatternIn HoldsArguments HoldsCollection expressions_of tree term_node_at term_spot_at expression_under expression_node_at expression_spot_at function_pattern_at function_body_at pattern_under arguments_under collection_under
 added_keeps old new entry n same lists added = record {
   terms = λ t h. omega (arith, added_counted _ _ _ _ added);
   nodes = λ t h. ap (λ (e : Entry Node). e.node) (other t h);
@@ -186,15 +259,19 @@ added_keeps old new entry n same lists added = record {
   meanings = λ f h. ap (λ x. function_at x f) same;
   holds_patterns = λ q h. subst (λ x. HoldsPattern x q) (sym same) h;
   placed = λ q h. ap (λ x. placed_at x q) same;
-  holds_arguments = λ a h. omega (arith, ap (λ (vs : List (List Argument)). length vs) lists);
-  arguments = λ a h. ap (λ (vs : List (List Argument)). slice_index_or vs a.0 []) lists;
+  holds_names = λ i h. subst (λ x. HoldsName x i) (sym same) h;
+  names = λ i h. ap (λ x. name_at x i) same;
+  holds_arguments = λ a h. omega (arith, ap (λ (ls : StoredLists). length ls.arguments) lists);
+  arguments = λ a h. ap (λ (ls : StoredLists). slice_index_or ls.arguments a.0 []) lists;
+  holds_collections = λ c h. omega (arith, ap (λ (ls : StoredLists). length ls.collections) lists);
+  collections = λ c h. ap (λ (ls : StoredLists). slice_index_or ls.collections c.0 absent_collection) lists;
 }
   where
     other : (t : TermId) → HoldsTerm old t → term_entry (entries_of new.terms) t.0 ≡ term_entry (entries_of old.terms) t.0
     other t h = item_kept _ _ _ _ added t.0 identity_entry h
 
 -- an entry that is added adds its term
-pub adds_added : (old new : Program) (n : Node) (d : ℕ) (s : Spot) (id : TermId) → new.expressions ≡ old.expressions → new.arguments.items ≡ old.arguments.items → Added (entries_of old.terms) (entries_of new.terms) (record { node = n; depth = d; spot = s }) id.0 → headers_of new ≡ headers_of old → d ≡ term_depth (term_of old n) → AddsTerm old new id n (term_of old n) s
+pub adds_added : (old new : Program) (n : Node) (d : ℕ) (s : Spot) (id : TermId) → new.expressions ≡ old.expressions → lists_of new ≡ lists_of old → Added (entries_of old.terms) (entries_of new.terms) (record { node = n; depth = d; spot = s }) id.0 → headers_of new ≡ headers_of old → d ≡ min (term_depth (term_of old n)) (2 ^ 32 - 1) → AddsTerm old new id n (term_of old n) s
 unfolding HoldsTerm tree term_node_at term_spot_at term_count expression_count
 adds_added old new n d s id same lists added headers measured = record {
   within = added_within _ _ _ _ added;
@@ -212,8 +289,8 @@ adds_added old new n d s id same lists added headers measured = record {
     here = added_item _ _ _ _ added identity_entry
 
 -- the trees stay where the expressions grow
-grown_keeps : (old new : Program) → KeepsExpressions old.expressions new.expressions → MoreArguments old.arguments.items new.arguments.items → entries_of new.terms ≡ entries_of old.terms → KeepsTrees old new
-unfolding HoldsTerm HoldsExpression ProgramHoldsFunction HoldsPatternIn HoldsArguments tree term_node_at term_spot_at expression_under expression_node_at expression_spot_at function_pattern_at function_body_at pattern_under arguments_under
+grown_keeps : (old new : Program) → KeepsExpressions old.expressions new.expressions → MoreLists (lists_of old) (lists_of new) → entries_of new.terms ≡ entries_of old.terms → KeepsTrees old new
+unfolding HoldsTerm HoldsExpression ProgramHoldsFunction HoldsPatternIn HoldsArguments HoldsCollection expressions_of tree term_node_at term_spot_at expression_under expression_node_at expression_spot_at function_pattern_at function_body_at pattern_under arguments_under collection_under
 grown_keeps old new k m e = record {
   terms = λ t h. omega (arith, ap length e);
   nodes = λ t h. ap (λ es. (term_entry es t.0).node) e;
@@ -229,12 +306,16 @@ grown_keeps old new k m e = record {
   meanings = λ f h. k.meanings f h;
   holds_patterns = λ q h. k.holds_patterns q h;
   placed = λ q h. k.placed q h;
-  holds_arguments = λ a h. omega (arith, m.more);
-  arguments = λ a h. m.kept a.0 h;
+  holds_names = λ n h. k.holds_names n h;
+  names = λ n h. k.names n h;
+  holds_arguments = λ a h. omega (arith, m.arguments.more);
+  arguments = λ a h. m.arguments.kept a.0 h;
+  holds_collections = λ c h. omega (arith, m.collections.more);
+  collections = λ c h. m.collections.kept c.0 h;
 }
 
 -- what is added to the expressions is added to the program
-pub adds_expression : (old new : Program) (id : ExprId) (n : ExprNode) (e : Expression) (s : Spot) → AddsToExpressions old.expressions new.expressions id n e s → MoreArguments old.arguments.items new.arguments.items → entries_of new.terms ≡ entries_of old.terms → headers_of new ≡ headers_of old → AddsExpression old new id n e s
+pub adds_expression : (old new : Program) (id : ExprId) (n : ExprNode) (e : Expression) (s : Spot) → AddsToExpressions old.expressions new.expressions id n e s → MoreLists (lists_of old) (lists_of new) → entries_of new.terms ≡ entries_of old.terms → headers_of new ≡ headers_of old → AddsExpression old new id n e s
 unfolding HoldsExpression expression_under expression_node_at expression_spot_at term_count expression_count
 adds_expression old new id n e s a m same headers = record {
   within = a.within;
@@ -248,7 +329,7 @@ adds_expression old new id n e s a m same headers = record {
 }
 
 -- a function that is added to the expressions is added to the program
-pub adds_function : (old new : Program) (f : FunctionId) (q : PlacedPattern) (b : ExprId) → AddsFunctionIn old.expressions new.expressions f q b → MoreArguments old.arguments.items new.arguments.items → entries_of new.terms ≡ entries_of old.terms → headers_of new ≡ headers_of old → AddsProgramFunction old new f q b
+pub adds_function : (old new : Program) (f : FunctionId) (q : PlacedPattern) (b : ExprId) → AddsFunctionIn old.expressions new.expressions f q b → MoreLists (lists_of old) (lists_of new) → entries_of new.terms ≡ entries_of old.terms → headers_of new ≡ headers_of old → AddsProgramFunction old new f q b
 unfolding ProgramHoldsFunction expression_under function_pattern_at function_body_at term_count expression_count
 adds_function old new f q b a m same headers = record {
   within = a.within;
@@ -275,7 +356,7 @@ bodies_put old new h true n e a b = omega (arith, ap bodies_end e, bodies_end-ap
 bodies_put old new h false n e a b = omega (arith, ap bodies_end e)
 
 -- a template put behind
-pub adds_template : (old new : Program) (h : Header) → new.expressions ≡ old.expressions → MoreArguments old.arguments.items new.arguments.items → entries_of new.terms ≡ entries_of old.terms → headers_of new ≡ headers_of old ++ h ∷ [] → HoldsTerm old h.body → AddsTemplate old new h
+pub adds_template : (old new : Program) (h : Header) → new.expressions ≡ old.expressions → MoreLists (lists_of old) (lists_of new) → entries_of new.terms ≡ entries_of old.terms → headers_of new ≡ headers_of old ++ h ∷ [] → HoldsTerm old h.body → AddsTemplate old new h
 unfolding term_count expression_count headers_of HoldsTerm
 adds_template old new h same m terms headers held = record {
   headers = headers;
@@ -293,8 +374,8 @@ adds_template old new h same m terms headers held = record {
     kept = grown_keeps old new (same_kept old.expressions new.expressions same) m terms
 
 -- what shows the same
-pub unchanged : (old new : Program) → ExpressionsUnchanged old.expressions new.expressions → MoreArguments old.arguments.items new.arguments.items → entries_of new.terms ≡ entries_of old.terms → headers_of new ≡ headers_of old → IsSameProgram old new
-unfolding term_count expression_count tree term_node_at term_spot_at expression_under expression_node_at expression_spot_at ProgramHoldsFunction HoldsPatternIn HoldsArguments function_pattern_at function_body_at pattern_under arguments_under
+pub unchanged : (old new : Program) → ExpressionsUnchanged old.expressions new.expressions → MoreLists (lists_of old) (lists_of new) → entries_of new.terms ≡ entries_of old.terms → headers_of new ≡ headers_of old → IsSameProgram old new
+unfolding term_count expression_count tree term_node_at term_spot_at expression_under expression_node_at expression_spot_at ProgramHoldsFunction HoldsPatternIn HoldsArguments HoldsCollection expressions_of function_pattern_at function_body_at pattern_under arguments_under collection_under
 unchanged old new x m terms headers = record {
   term_counted = ap length terms;
   expression_counted = x.count;
@@ -309,8 +390,12 @@ unchanged old new x m terms headers = record {
   bodies = λ f. x.bodies f;
   holds_patterns = λ q h. below_pattern new.expressions q (omega (arith, pattern_below old.expressions q h, x.pattern_counted));
   placed = λ q h. x.placed q;
-  holds_arguments = λ a h. omega (arith, m.more);
-  arguments = λ a h. m.kept a.0 h;
+  holds_names = λ n h. below_name new.expressions n (omega (arith, name_below old.expressions n h, x.name_counted));
+  names = λ n h. x.names n;
+  holds_arguments = λ a h. omega (arith, m.arguments.more);
+  arguments = λ a h. m.arguments.kept a.0 h;
+  holds_collections = λ c h. omega (arith, m.collections.more);
+  collections = λ c h. m.collections.kept c.0 h;
   headers = headers;
 }
 
@@ -351,8 +436,8 @@ pub unchanged_beside : (x y : Exprs) → ExpressionsUnchanged x y → AddsBeside
 unchanged_beside x y u = record { kept = unchanged_expressions_kept x y u; nodes = u.nodes; trees = u.trees; spots = u.spots; patterns = u.patterns; bodies = u.bodies; count = u.count }
 
 -- a program shows the same where something is added beside its nodes
-pub put_beside : (old new : Program) → AddsBeside old.expressions new.expressions → MoreArguments old.arguments.items new.arguments.items → entries_of new.terms ≡ entries_of old.terms → headers_of new ≡ headers_of old → IsSameProgram old new
-unfolding term_count expression_count tree term_node_at term_spot_at expression_under expression_node_at expression_spot_at ProgramHoldsFunction HoldsPatternIn HoldsArguments function_pattern_at function_body_at pattern_under arguments_under
+pub put_beside : (old new : Program) → AddsBeside old.expressions new.expressions → MoreLists (lists_of old) (lists_of new) → entries_of new.terms ≡ entries_of old.terms → headers_of new ≡ headers_of old → IsSameProgram old new
+unfolding term_count expression_count tree term_node_at term_spot_at expression_under expression_node_at expression_spot_at ProgramHoldsFunction HoldsPatternIn HoldsArguments HoldsCollection expressions_of function_pattern_at function_body_at pattern_under arguments_under collection_under
 put_beside old new x m terms headers = record {
   term_counted = ap length terms;
   expression_counted = x.count;
@@ -367,8 +452,12 @@ put_beside old new x m terms headers = record {
   bodies = λ f. x.bodies f;
   holds_patterns = λ q h. x.kept.holds_patterns q h;
   placed = λ q h. x.kept.placed q h;
-  holds_arguments = λ a h. omega (arith, m.more);
-  arguments = λ a h. m.kept a.0 h;
+  holds_names = λ n h. x.kept.holds_names n h;
+  names = λ n h. x.kept.names n h;
+  holds_arguments = λ a h. omega (arith, m.arguments.more);
+  arguments = λ a h. m.arguments.kept a.0 h;
+  holds_collections = λ c h. omega (arith, m.collections.more);
+  collections = λ c h. m.collections.kept c.0 h;
   headers = headers;
 }
 
@@ -390,8 +479,12 @@ unchanged_keeps old new u = keeps_of old new (record {
   meanings = λ f h. rw (u.patterns f, u.bodies f, u.values (function_body_at old f)) refl;
   holds_patterns = λ q h. u.holds_patterns q h;
   placed = λ q h. u.placed q h;
+  holds_names = λ n h. u.holds_names n h;
+  names = λ n h. u.names n h;
   holds_arguments = λ a h. u.holds_arguments a h;
   arguments = λ a h. u.arguments a h;
+  holds_collections = λ c h. u.holds_collections c h;
+  collections = λ c h. u.collections c h;
 }) u.headers
 
 pub keeps_trees_trans : (a b c : Program) → KeepsTrees a b → KeepsTrees b c → KeepsTrees a c
@@ -410,8 +503,12 @@ keeps_trees_trans a b c f g = record {
   meanings = λ i h. g.meanings i (f.functions i h) ∙ f.meanings i h;
   holds_patterns = λ i h. g.holds_patterns i (f.holds_patterns i h);
   placed = λ i h. g.placed i (f.holds_patterns i h) ∙ f.placed i h;
+  holds_names = λ n h. g.holds_names n (f.holds_names n h);
+  names = λ n h. g.names n (f.holds_names n h) ∙ f.names n h;
   holds_arguments = λ a h. g.holds_arguments a (f.holds_arguments a h);
   arguments = λ a h. g.arguments a (f.holds_arguments a h) ∙ f.arguments a h;
+  holds_collections = λ c h. g.holds_collections c (f.holds_collections c h);
+  collections = λ c h. g.collections c (f.holds_collections c h) ∙ f.collections c h;
 }
 
 pub keeps_trans : (a b c : Program) → KeepsProgram a b → KeepsProgram b c → KeepsProgram a c
@@ -455,12 +552,29 @@ pub below_count_holds : (p : Program) (t : TermId) → term_number t < term_coun
 unfolding HoldsTerm term_count
 below_count_holds p t h = h
 
+-- what a collection names is held where it is there
+members_held : (p : Program) (c : CollExpr) → stored_terms c ≤ length (entries_of p.terms) → stored_expressions c ≤ count_of p.expressions → stored_functions c ≤ function_count p.expressions → stored_names c ≤ name_count p.expressions → HoldsMembers p c
+unfolding expressions_of HoldsTerm HoldsExpression ProgramHoldsFunction
+members_held p (collections.Empty k t s) h e f n = tt
+members_held p (collections.Used k r s) h e f n = below_name p.expressions k (omega arith)
+members_held p (collections.Added' a c j t s) h e f n = (members_held p c (omega arith) (omega arith) f n, below_holds p.expressions j (omega arith), omega arith)
+members_held p (collections.Dropped' a c j s) h e f n = (members_held p c h (omega arith) f n, below_holds p.expressions j (omega arith))
+members_held p (collections.Kept' a c g s) h e f n = (members_held p c h e (omega arith) n, below_function p.expressions g (omega arith))
+members_held p (collections.Chosen' j a c b d s) h e f n =
+    (below_holds p.expressions j (omega arith), members_held p c (omega arith) (omega arith) (omega arith) (omega arith), members_held p d (omega arith) (omega arith) (omega arith) (omega arith))
+
+-- a collection at an id is held with what it names
+whole_held : (p : Program) (c : CollectionId) → c.0 < length (collections_in p.collections.items) → stored_terms (collection_listed (base_of p) c) ≤ length (entries_of p.terms) → HoldsWhole p c
+unfolding HoldsCollection collection_under
+whole_held p c h k = (h, members_held p (collection_under p c) k (p.arena.stored_expressions_closed c) (p.arena.stored_functions_closed c) (p.arena.stored_names_closed c))
+
 -- arguments are held where what they need is there
-arguments_held : (p : Program) (vs : List Argument) → terms_end vs ≤ length (entries_of p.terms) → expressions_end vs ≤ count_of p.expressions → All (HoldsArgument p) vs
+arguments_held : (p : Program) (vs : List Argument) → terms_end (base_of p) vs ≤ length (entries_of p.terms) → expressions_end vs ≤ count_of p.expressions → collections_end vs ≤ length (collections_in p.collections.items) → All (HoldsArgument p) vs
 unfolding HoldsTerm HoldsExpression
-arguments_held p [] h k = All-nil (HoldsArgument p)
-arguments_held p (arguments.Value e ∷ vs) h k = All-cons (HoldsArgument p) _ vs (below_holds p.expressions e (omega arith)) (arguments_held p vs h (omega arith))
-arguments_held p (arguments.Process t ∷ vs) h k = All-cons (HoldsArgument p) _ vs (omega arith) (arguments_held p vs (omega arith) k)
+arguments_held p [] h k l = All-nil (HoldsArgument p)
+arguments_held p (arguments.Value e ∷ vs) h k l = All-cons (HoldsArgument p) _ vs (below_holds p.expressions e (omega arith)) (arguments_held p vs h (omega arith) l)
+arguments_held p (arguments.Process t ∷ vs) h k l = All-cons (HoldsArgument p) _ vs (omega arith) (arguments_held p vs (omega arith) k l)
+arguments_held p (arguments.Collection c ∷ vs) h k l = All-cons (HoldsArgument p) _ vs (whole_held p c (omega arith) (omega arith)) (arguments_held p vs (omega arith) k (omega arith))
 
 -- the parts of a node are held
 pub parts_held : (p : Program) (t : TermId) → HoldsTermParts p (term_entry_of p t).node
@@ -480,6 +594,7 @@ parts_held p t = of_node (term_entry (entries_of p.terms) t.0).node needed
       names = p.arena.names_closed t.0;
       constants = p.arena.constants_closed t.0;
       arguments = p.arena.arguments_closed t.0;
+      collections = p.arena.collections_closed t.0;
     }
 
     of_node : (n : Node) → NeedsAreThere (base_of p) (entries_of p.terms) n → HoldsTermParts p n
@@ -491,13 +606,18 @@ parts_held p t = of_node (term_entry (entries_of p.terms) t.0).node needed
     of_node (nodes.Primitive (primitives.Arrow g)) h = below_function p.expressions g (omega (arith, h.functions))
     of_node (nodes.Primitive (primitives.Accumulated k e g)) h = (below_holds p.expressions e (omega (arith, h.expressions)), below_function p.expressions g (omega (arith, h.functions)))
     of_node (nodes.Named w k s) h = below_name p.expressions k (omega (arith, h.names))
-    of_node (nodes.Call k a) h = (below_name p.expressions k (omega (arith, h.names)), omega (arith, h.arguments), arguments_held p (arguments_under p a) h.terms h.expressions)
+    of_node (nodes.Call k a) h = (below_name p.expressions k (omega (arith, h.names)), omega (arith, h.arguments), arguments_held p (arguments_under p a) h.terms h.expressions h.collections)
     of_node (nodes.Joined j a c) h = (omega (arith, h.terms), omega (arith, h.terms))
     of_node (nodes.Sided d a) h = omega (arith, h.terms)
     of_node (nodes.Headed q e a) h = (below_holds p.expressions e (omega (arith, h.expressions)), omega (arith, h.terms))
     of_node (nodes.Transformed f a) h = (below_function p.expressions f (omega (arith, h.functions)), omega (arith, h.terms))
     of_node (nodes.Switching w a q c) h = (omega (arith, h.terms), below_pattern p.expressions q (omega (arith, h.patterns)), omega (arith, h.terms))
     of_node (nodes.Keeping k a o n s q c) h = (omega (arith, h.terms), omega (arith, h.terms), below_name p.expressions n (omega (arith, h.names)), below_pattern p.expressions q (omega (arith, h.patterns)), omega (arith, h.terms))
+    of_node (nodes.Gathered c) h = whole_held p c (omega (arith, h.collections)) h.terms
+    of_node (nodes.Releasing n) h =
+        (whole_held p n.members (omega (arith, h.collections)) (omega (arith, h.terms)), omega (arith, h.terms), below_name p.expressions n.name (omega (arith, h.names)), below_pattern p.expressions n.pattern (omega (arith, h.patterns)), omega (arith, h.terms))
+    of_node (nodes.Editing n) h =
+        (whole_held p n.members (omega (arith, h.collections)) (omega (arith, h.terms)), below_name p.expressions n.name (omega (arith, h.names)), below_pattern p.expressions n.pattern (omega (arith, h.patterns)), whole_held p n.edit (omega (arith, h.collections)) (omega (arith, h.terms)))
 
 bodies_within : (p : Program) (hs : List Header) → bodies_end hs ≤ length (entries_of p.terms) → (k : ℕ) (d : Header) → k < length hs → HoldsTerm p (get_or hs k d).body
 unfolding HoldsTerm
@@ -578,8 +698,12 @@ unchanged_trans a b c f g = record {
   bodies = λ i. g.bodies i ∙ f.bodies i;
   holds_patterns = λ i h. g.holds_patterns i (f.holds_patterns i h);
   placed = λ i h. g.placed i (f.holds_patterns i h) ∙ f.placed i h;
+  holds_names = λ n h. g.holds_names n (f.holds_names n h);
+  names = λ n h. g.names n (f.holds_names n h) ∙ f.names n h;
   holds_arguments = λ a h. g.holds_arguments a (f.holds_arguments a h);
   arguments = λ a h. g.arguments a (f.holds_arguments a h) ∙ f.arguments a h;
+  holds_collections = λ c h. g.holds_collections c (f.holds_collections c h);
+  collections = λ c h. g.collections c (f.holds_collections c h) ∙ f.collections c h;
   headers = g.headers ∙ f.headers;
 }
 
@@ -649,21 +773,21 @@ deep_after a b r n t same made h =
     (λ e. let g = h.0 e in (omega (arith, g.0, same.term_counted), omega (arith, g.1, depth)), λ g. h.1 (omega (arith, g.0, same.term_counted), omega (arith, g.1, depth)))
 
 -- the term of a switch, whose pattern is put beside the expressions
-switch_made : (a b : Program) (q : PatternId) (p : PlacedPattern) (w : Switching) (i j : TermId) → AddsPattern a.expressions b.expressions q p → MoreArguments a.arguments.items b.arguments.items → entries_of b.terms ≡ entries_of a.terms → headers_of b ≡ headers_of a
+switch_made : (a b : Program) (q : PatternId) (p : PlacedPattern) (w : Switching) (i j : TermId) → AddsPattern a.expressions b.expressions q p → MoreLists (lists_of a) (lists_of b) → entries_of b.terms ≡ entries_of a.terms → headers_of b ≡ headers_of a
     → term_of b (nodes.Switching w i q j) ≡ switching w (tree a i) (pattern_of p) (tree a j)
 unfolding pattern_under
 switch_made a b q p w i j added m terms headers =
     let same = put_beside a b (pattern_beside _ _ _ _ added) m terms headers in
     rw (same.trees i, same.trees j, added.is) refl
 
-pub adds_switch : (a b c : Program) (r : Result TermId BuildRefusal) (q : PatternId) (p : PlacedPattern) (w : Switching) (i j : TermId) (s : Spot) → AddsPattern a.expressions b.expressions q p → MoreArguments a.arguments.items b.arguments.items → entries_of b.terms ≡ entries_of a.terms → headers_of b ≡ headers_of a
+pub adds_switch : (a b c : Program) (r : Result TermId BuildRefusal) (q : PatternId) (p : PlacedPattern) (w : Switching) (i j : TermId) (s : Spot) → AddsPattern a.expressions b.expressions q p → MoreLists (lists_of a) (lists_of b) → entries_of b.terms ≡ entries_of a.terms → headers_of b ≡ headers_of a
     → IfOk r (λ id. AddsTerm b c id (nodes.Switching w i q j) (term_of b (nodes.Switching w i q j)) s)
     → IfOk r (λ id. AddsTerm a c id (nodes.Switching w i (next_pattern a.expressions) j) (switching w (tree a i) (pattern_of p) (tree a j)) s)
 adds_switch a b c r q p w i j s added m terms headers adds =
     term_with a b c r q (next_pattern a.expressions) (λ (q : PatternId). nodes.Switching w i q j) _ s added.next (put_beside a b (pattern_beside _ _ _ _ added) m terms headers) (switch_made a b q p w i j added m terms headers) adds
 
 -- it is too deep where its parts are
-pub switch_deep : (a b : Program) (r : Result TermId BuildRefusal) (q : PatternId) (p : PlacedPattern) (w : Switching) (i j : TermId) → AddsPattern a.expressions b.expressions q p → MoreArguments a.arguments.items b.arguments.items → entries_of b.terms ≡ entries_of a.terms → headers_of b ≡ headers_of a
+pub switch_deep : (a b : Program) (r : Result TermId BuildRefusal) (q : PatternId) (p : PlacedPattern) (w : Switching) (i j : TermId) → AddsPattern a.expressions b.expressions q p → MoreLists (lists_of a) (lists_of b) → entries_of b.terms ≡ entries_of a.terms → headers_of b ≡ headers_of a
     → (r ≡ Err TooDeep ↔ (term_count b < 100000) × (64 < term_depth (term_of b (nodes.Switching w i q j))))
     → r ≡ Err TooDeep ↔ (term_count a < 100000) × (64 < term_depth (switching w (tree a i) (pattern_of p) (tree a j)))
 switch_deep a b r q p w i j added m terms headers h =
@@ -691,35 +815,116 @@ name_and_pattern x y z n g q p a b = record {
   pattern_is = b.is;
 }
 
+-- the members of a name that was put there
+pub used_next : (n k : NameId) (r s : Spot) → n ≡ k → ◌≡◌ {A = CollExpr} (collections.Used n r s) (collections.Used k r s)
+used_next n k r s e = ap (λ i. collections.Used i r s) e
+
+-- a collection stands for the same where a program keeps what it held
+pub collection_kept : (a b : Program) (c : CollExpr) → KeepsTrees a b → HoldsMembers a c → (collection_of b c ≡ collection_of a c) × HoldsMembers b c
+collection_kept a b (collections.Empty k t s) u h = (refl, tt)
+collection_kept a b (collections.Used k r s) u h = (ap forms.used (u.names k h), u.holds_names k h)
+collection_kept a b (collections.Added' x c e t s) u h =
+    let k = collection_kept a b c u h.0 in
+    (rw (k.0, u.values e h.1, u.trees t h.2) refl, (k.1, u.expressions e h.1, u.terms t h.2))
+collection_kept a b (collections.Dropped' x c e s) u h =
+    let k = collection_kept a b c u h.0 in
+    (ap₂ forms.dropped k.0 (u.values e h.1), (k.1, u.expressions e h.1))
+collection_kept a b (collections.Kept' x c f s) u h =
+    let k = collection_kept a b c u h.0 in
+    (ap₂ forms.kept k.0 (u.meanings f h.1), (k.1, u.functions f h.1))
+collection_kept a b (collections.Chosen' e x c y d s) u h =
+    let k = collection_kept a b c u h.1 in
+    let l = collection_kept a b d u h.2 in
+    (rw (u.values e h.0, k.0, l.0) refl, (u.expressions e h.0, k.1, l.1))
+
+-- the same of the collection at an id
+pub collection_at_kept : (a b : Program) (i : CollectionId) → KeepsTrees a b → HoldsWhole a i → (collection_at b i ≡ collection_at a i) × HoldsWhole b i
+collection_at_kept a b i u h =
+    let k = collection_kept a b (collection_under a i) u h.1 in
+    let same = u.collections i h.0 in
+    (ap (collection_of b) same ∙ k.0, (u.holds_collections i h.0, subst (λ (c : CollExpr). HoldsMembers b c) (sym same) k.1))
+
+collection_at_after : (a b : Program) (i : CollectionId) → IsSameProgram a b → HoldsWhole a i → collection_at b i ≡ collection_at a i
+collection_at_after a b i same h = (collection_at_kept a b i (unchanged_keeps a b same).trees h).0
+
 -- the term of a switch that knows its source by a name, whose name and pattern are put beside the expressions
-keeping_made : (a b : Program) (n : NameId) (g : Name) (q : PatternId) (p : PlacedPattern) (w : Observation) (i o j : TermId) (at : Spot) → AddsNameAndPattern a.expressions b.expressions n g q p → MoreArguments a.arguments.items b.arguments.items → entries_of b.terms ≡ entries_of a.terms → headers_of b ≡ headers_of a
+keeping_made : (a b : Program) (n : NameId) (g : Name) (q : PatternId) (p : PlacedPattern) (w : Observation) (i o j : TermId) (at : Spot) → AddsNameAndPattern a.expressions b.expressions n g q p → MoreLists (lists_of a) (lists_of b) → entries_of b.terms ≡ entries_of a.terms → headers_of b ≡ headers_of a
     → term_of b (nodes.Keeping w i o n at q j) ≡ keeping w (tree a i) (tree a o) g (pattern_of p) (tree a j)
 unfolding pattern_under expressions_of
 keeping_made a b n g q p w i o j at added m terms headers =
     let same = put_beside a b added.beside m terms headers in
     rw (same.trees i, same.trees o, same.trees j, added.name_is, added.pattern_is) refl
 
-pub adds_keeping : (a b c : Program) (r : Result TermId BuildRefusal) (n : NameId) (g : Name) (q : PatternId) (p : PlacedPattern) (w : Observation) (i o j : TermId) (at s : Spot) → AddsNameAndPattern a.expressions b.expressions n g q p → MoreArguments a.arguments.items b.arguments.items → entries_of b.terms ≡ entries_of a.terms → headers_of b ≡ headers_of a
+-- members that give way, likewise
+releasing_made : (a b : Program) (n : NameId) (g : Name) (q : PatternId) (p : PlacedPattern) (w : Observation) (i : CollectionId) (o j : TermId) (at : Spot) → HoldsWhole a i → AddsNameAndPattern a.expressions b.expressions n g q p → MoreLists (lists_of a) (lists_of b) → entries_of b.terms ≡ entries_of a.terms → headers_of b ≡ headers_of a
+    → term_of b (nodes.Releasing (record { shown = w; members = i; observer = o; name = n; place = at; pattern = q; body = j })) ≡ releasing w (collection_at a i) (tree a o) g (pattern_of p) (tree a j)
+unfolding pattern_under expressions_of
+releasing_made a b n g q p w i o j at held added m terms headers =
+    let same = put_beside a b added.beside m terms headers in
+    rw (collection_at_after a b i same held, same.trees o, same.trees j, added.name_is, added.pattern_is) refl
+
+-- members that are edited, likewise
+editing_made : (a b : Program) (n : NameId) (g : Name) (q : PatternId) (p : PlacedPattern) (w : Observation) (i j : CollectionId) (at : Spot) → HoldsWhole a i → HoldsWhole a j → AddsNameAndPattern a.expressions b.expressions n g q p → MoreLists (lists_of a) (lists_of b) → entries_of b.terms ≡ entries_of a.terms → headers_of b ≡ headers_of a
+    → term_of b (nodes.Editing (record { shown = w; members = i; name = n; place = at; pattern = q; edit = j })) ≡ editing w (collection_at a i) g (pattern_of p) (collection_at a j)
+unfolding pattern_under expressions_of
+editing_made a b n g q p w i j at held edit added m terms headers =
+    let same = put_beside a b added.beside m terms headers in
+    rw (collection_at_after a b i same held, collection_at_after a b j same edit, added.name_is, added.pattern_is) refl
+
+-- a node that names a name and a pattern that were put there
+adds_named : (a b c : Program) (r : Result TermId BuildRefusal) (n : NameId) (g : Name) (q : PatternId) (p : PlacedPattern) (node : NameId × PatternId → Node) (t : Term) (s : Spot) → AddsNameAndPattern a.expressions b.expressions n g q p → MoreLists (lists_of a) (lists_of b) → entries_of b.terms ≡ entries_of a.terms → headers_of b ≡ headers_of a → term_of b (node (n, q)) ≡ t
+    → IfOk r (λ id. AddsTerm b c id (node (n, q)) (term_of b (node (n, q))) s)
+    → IfOk r (λ id. AddsTerm a c id (node (next_name a.expressions, next_pattern a.expressions)) t s)
+adds_named a b c r n g q p node t s added m terms headers made adds =
+    let ids : ◌≡◌ {A = NameId × PatternId} (n, q) (next_name a.expressions, next_pattern a.expressions) = ap₂ (λ (x : NameId) (y : PatternId). (x, y)) added.name_next added.pattern_next in
+    term_with {I = NameId × PatternId} a b c r (n, q) (next_name a.expressions, next_pattern a.expressions) node t s ids (put_beside a b added.beside m terms headers) made adds
+
+pub adds_keeping : (a b c : Program) (r : Result TermId BuildRefusal) (n : NameId) (g : Name) (q : PatternId) (p : PlacedPattern) (w : Observation) (i o j : TermId) (at s : Spot) → AddsNameAndPattern a.expressions b.expressions n g q p → MoreLists (lists_of a) (lists_of b) → entries_of b.terms ≡ entries_of a.terms → headers_of b ≡ headers_of a
     → IfOk r (λ id. AddsTerm b c id (nodes.Keeping w i o n at q j) (term_of b (nodes.Keeping w i o n at q j)) s)
     → IfOk r (λ id. AddsTerm a c id (nodes.Keeping w i o (next_name a.expressions) at (next_pattern a.expressions) j) (keeping w (tree a i) (tree a o) g (pattern_of p) (tree a j)) s)
 adds_keeping a b c r n g q p w i o j at s added m terms headers adds =
-    let ids : ◌≡◌ {A = NameId × PatternId} (n, q) (next_name a.expressions, next_pattern a.expressions) = ap₂ (λ (x : NameId) (y : PatternId). (x, y)) added.name_next added.pattern_next in
-    term_with {I = NameId × PatternId} a b c r (n, q) (next_name a.expressions, next_pattern a.expressions) (λ (k : NameId × PatternId). nodes.Keeping w i o k.0 at k.1 j) _ s ids (put_beside a b added.beside m terms headers) (keeping_made a b n g q p w i o j at added m terms headers) adds
+    adds_named a b c r n g q p (λ (k : NameId × PatternId). nodes.Keeping w i o k.0 at k.1 j) _ s added m terms headers (keeping_made a b n g q p w i o j at added m terms headers) adds
 
-pub keeping_deep : (a b : Program) (r : Result TermId BuildRefusal) (n : NameId) (g : Name) (q : PatternId) (p : PlacedPattern) (w : Observation) (i o j : TermId) (at : Spot) → AddsNameAndPattern a.expressions b.expressions n g q p → MoreArguments a.arguments.items b.arguments.items → entries_of b.terms ≡ entries_of a.terms → headers_of b ≡ headers_of a
+pub adds_releasing : (a b c : Program) (r : Result TermId BuildRefusal) (n : NameId) (g : Name) (q : PatternId) (p : PlacedPattern) (w : Observation) (i : CollectionId) (o j : TermId) (at s : Spot) → HoldsWhole a i → AddsNameAndPattern a.expressions b.expressions n g q p → MoreLists (lists_of a) (lists_of b) → entries_of b.terms ≡ entries_of a.terms → headers_of b ≡ headers_of a
+    → IfOk r (λ id. AddsTerm b c id (nodes.Releasing (record { shown = w; members = i; observer = o; name = n; place = at; pattern = q; body = j })) (term_of b (nodes.Releasing (record { shown = w; members = i; observer = o; name = n; place = at; pattern = q; body = j }))) s)
+    → IfOk r (λ id. AddsTerm a c id (nodes.Releasing (record { shown = w; members = i; observer = o; name = next_name a.expressions; place = at; pattern = next_pattern a.expressions; body = j })) (releasing w (collection_at a i) (tree a o) g (pattern_of p) (tree a j)) s)
+adds_releasing a b c r n g q p w i o j at s held added m terms headers adds =
+    adds_named a b c r n g q p (λ (k : NameId × PatternId). nodes.Releasing (record { shown = w; members = i; observer = o; name = k.0; place = at; pattern = k.1; body = j })) _ s added m terms headers (releasing_made a b n g q p w i o j at held added m terms headers) adds
+
+pub adds_editing : (a b c : Program) (r : Result TermId BuildRefusal) (n : NameId) (g : Name) (q : PatternId) (p : PlacedPattern) (w : Observation) (i j : CollectionId) (at s : Spot) → HoldsWhole a i → HoldsWhole a j → AddsNameAndPattern a.expressions b.expressions n g q p → MoreLists (lists_of a) (lists_of b) → entries_of b.terms ≡ entries_of a.terms → headers_of b ≡ headers_of a
+    → IfOk r (λ id. AddsTerm b c id (nodes.Editing (record { shown = w; members = i; name = n; place = at; pattern = q; edit = j })) (term_of b (nodes.Editing (record { shown = w; members = i; name = n; place = at; pattern = q; edit = j }))) s)
+    → IfOk r (λ id. AddsTerm a c id (nodes.Editing (record { shown = w; members = i; name = next_name a.expressions; place = at; pattern = next_pattern a.expressions; edit = j })) (editing w (collection_at a i) g (pattern_of p) (collection_at a j)) s)
+adds_editing a b c r n g q p w i j at s held edit added m terms headers adds =
+    adds_named a b c r n g q p (λ (k : NameId × PatternId). nodes.Editing (record { shown = w; members = i; name = k.0; place = at; pattern = k.1; edit = j })) _ s added m terms headers (editing_made a b n g q p w i j at held edit added m terms headers) adds
+
+pub keeping_deep : (a b : Program) (r : Result TermId BuildRefusal) (n : NameId) (g : Name) (q : PatternId) (p : PlacedPattern) (w : Observation) (i o j : TermId) (at : Spot) → AddsNameAndPattern a.expressions b.expressions n g q p → MoreLists (lists_of a) (lists_of b) → entries_of b.terms ≡ entries_of a.terms → headers_of b ≡ headers_of a
     → (r ≡ Err TooDeep ↔ (term_count b < 100000) × (64 < term_depth (term_of b (nodes.Keeping w i o n at q j))))
     → r ≡ Err TooDeep ↔ (term_count a < 100000) × (64 < term_depth (keeping w (tree a i) (tree a o) g (pattern_of p) (tree a j)))
 keeping_deep a b r n g q p w i o j at added m terms headers h = deep_after a b r (nodes.Keeping w i o n at q j) _ (put_beside a b added.beside m terms headers) (keeping_made a b n g q p w i o j at added m terms headers) h
+
+pub releasing_deep : (a b : Program) (r : Result TermId BuildRefusal) (n : NameId) (g : Name) (q : PatternId) (p : PlacedPattern) (w : Observation) (i : CollectionId) (o j : TermId) (at : Spot) → HoldsWhole a i → AddsNameAndPattern a.expressions b.expressions n g q p → MoreLists (lists_of a) (lists_of b) → entries_of b.terms ≡ entries_of a.terms → headers_of b ≡ headers_of a
+    → (r ≡ Err TooDeep ↔ (term_count b < 100000) × (64 < term_depth (term_of b (nodes.Releasing (record { shown = w; members = i; observer = o; name = n; place = at; pattern = q; body = j })))))
+    → r ≡ Err TooDeep ↔ (term_count a < 100000) × (64 < term_depth (releasing w (collection_at a i) (tree a o) g (pattern_of p) (tree a j)))
+releasing_deep a b r n g q p w i o j at held added m terms headers h =
+    deep_after a b r (nodes.Releasing (record { shown = w; members = i; observer = o; name = n; place = at; pattern = q; body = j })) _ (put_beside a b added.beside m terms headers) (releasing_made a b n g q p w i o j at held added m terms headers) h
+
+pub editing_deep : (a b : Program) (r : Result TermId BuildRefusal) (n : NameId) (g : Name) (q : PatternId) (p : PlacedPattern) (w : Observation) (i j : CollectionId) (at : Spot) → HoldsWhole a i → HoldsWhole a j → AddsNameAndPattern a.expressions b.expressions n g q p → MoreLists (lists_of a) (lists_of b) → entries_of b.terms ≡ entries_of a.terms → headers_of b ≡ headers_of a
+    → (r ≡ Err TooDeep ↔ (term_count b < 100000) × (64 < term_depth (term_of b (nodes.Editing (record { shown = w; members = i; name = n; place = at; pattern = q; edit = j })))))
+    → r ≡ Err TooDeep ↔ (term_count a < 100000) × (64 < term_depth (editing w (collection_at a i) g (pattern_of p) (collection_at a j)))
+editing_deep a b r n g q p w i j at held edit added m terms headers h =
+    deep_after a b r (nodes.Editing (record { shown = w; members = i; name = n; place = at; pattern = q; edit = j })) _ (put_beside a b added.beside m terms headers) (editing_made a b n g q p w i j at held edit added m terms headers) h
 
 pub unchanged_after : {A E : Type 0} (a b c : Program) (r : Result A E) → IsSameProgram a b → OnErr r (IsSameProgram b c) → OnErr r (IsSameProgram a c)
 unchanged_after a b c (Ok x) u e = tt
 unchanged_after a b c (Err f) u e = unchanged_trans a b c u e
 
 -- arguments stand for the same where a program shows the same
-arguments_after : (a b : Program) (vs : List Argument) → IsSameProgram a b → arguments_of b vs ≡ arguments_of a vs
-arguments_after a b [] same = refl
-arguments_after a b (arguments.Value e ∷ vs) same = ap₂ value_argument (same.values e) (arguments_after a b vs same)
-arguments_after a b (arguments.Process t ∷ vs) same = ap₂ process_argument (same.trees t) (arguments_after a b vs same)
+arguments_after : (a b : Program) (vs : List Argument) → IsSameProgram a b → All (HoldsArgument a) vs → arguments_of b vs ≡ arguments_of a vs
+arguments_after a b [] same h = refl
+arguments_after a b (arguments.Value e ∷ vs) same h = ap₂ value_argument (same.values e) (arguments_after a b vs same (All-tail (HoldsArgument a) _ vs h))
+arguments_after a b (arguments.Process t ∷ vs) same h = ap₂ process_argument (same.trees t) (arguments_after a b vs same (All-tail (HoldsArgument a) _ vs h))
+arguments_after a b (arguments.Collection c ∷ vs) same h =
+    ap₂ collection_argument (collection_at_after a b c same (All-head (HoldsArgument a) (arguments.Collection c) vs h)) (arguments_after a b vs same (All-tail (HoldsArgument a) _ vs h))
 
 -- they are held there too
 pub held_after : (a b : Program) (vs : List Argument) → IsSameProgram a b → All (HoldsArgument a) vs → All (HoldsArgument b) vs
@@ -728,9 +933,11 @@ held_after a b vs same h = All-weaker (HoldsArgument a) (HoldsArgument b) each v
     each : (v : Argument) → HoldsArgument a v → HoldsArgument b v
     each (arguments.Value e) k = (unchanged_keeps a b same).trees.expressions e k
     each (arguments.Process t) k = (unchanged_keeps a b same).trees.terms t k
+    each (arguments.Collection c) k = (collection_at_kept a b c (unchanged_keeps a b same).trees k).1
 
 -- A name was put beside the expressions, and then arguments beside the terms.
 pub record PutsCall (a b : Program) (n : NameId) (g : Name) (l : ArgumentsId) (vs : List Argument) : Type 0 where
+  pub held : All (HoldsArgument a) vs
   pub same : IsSameProgram a b
   pub name_next : n ≡ next_name (expressions_of a)
   pub arguments_next : l ≡ next_arguments a
@@ -739,11 +946,12 @@ pub record PutsCall (a b : Program) (n : NameId) (g : Name) (l : ArgumentsId) (v
   pub arguments_within : HoldsArguments b l
   pub arguments_are : arguments_under b l ≡ vs
 
-pub puts_call : (a m b : Program) (n : NameId) (g : Name) (l : ArgumentsId) (vs : List Argument) → AddsName a.expressions m.expressions n g → m.arguments.items ≡ a.arguments.items → entries_of m.terms ≡ entries_of a.terms → headers_of m ≡ headers_of a
+pub puts_call : (a m b : Program) (n : NameId) (g : Name) (l : ArgumentsId) (vs : List Argument) → All (HoldsArgument a) vs → AddsName a.expressions m.expressions n g → m.arguments.items ≡ a.arguments.items → collections_in m.collections.items ≡ collections_in a.collections.items → entries_of m.terms ≡ entries_of a.terms → headers_of m ≡ headers_of a
     → l ≡ next_arguments m → HoldsArguments b l → arguments_under b l ≡ vs → IsSameProgram m b → expressions_of b ≡ expressions_of m → PutsCall a b n g l vs
 unfolding expressions_of next_arguments
-puts_call a m b n g l vs added lists terms headers next within are same expressions = record {
-  same = unchanged_trans a m b (put_beside a m (name_beside _ _ _ _ added) (arguments_copied _ _ lists) terms headers) same;
+puts_call a m b n g l vs held added lists collections terms headers next within are same expressions = record {
+  held = held;
+  same = unchanged_trans a m b (put_beside a m (name_beside _ _ _ _ added) (lists_copied _ _ lists collections) terms headers) same;
   name_next = added.next;
   arguments_next = next ∙ ap (λ (us : List (List Argument)). record { 0 = length us }) lists;
   name_within = subst (λ x. HoldsName x n) (sym expressions) added.within;
@@ -754,7 +962,7 @@ puts_call a m b n g l vs added lists terms headers next within are same expressi
 
 -- the term of a call whose name and arguments are put there
 call_made : (a b : Program) (n : NameId) (g : Name) (l : ArgumentsId) (vs : List Argument) → PutsCall a b n g l vs → term_of b (nodes.Call n l) ≡ reference (call g (arguments_of a vs))
-call_made a b n g l vs p = ap₂ (λ k us. reference (call k us)) p.name_is (ap (arguments_of b) p.arguments_are ∙ arguments_after a b vs p.same)
+call_made a b n g l vs p = ap₂ (λ k us. reference (call k us)) p.name_is (ap (arguments_of b) p.arguments_are ∙ arguments_after a b vs p.same p.held)
 
 pub adds_call : (a b c : Program) (r : Result TermId BuildRefusal) (n : NameId) (g : Name) (l : ArgumentsId) (vs : List Argument) (s : Spot) → PutsCall a b n g l vs
     → IfOk r (λ id. AddsTerm b c id (nodes.Call n l) (term_of b (nodes.Call n l)) s)

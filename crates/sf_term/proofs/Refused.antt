@@ -1,5 +1,5 @@
 -- Refusals of arenas, as those of programs.
-use Rattle.std.proofs.Common.{◌≡◌, ◌↔◌, ℕ, suc, ◌<◌, ◌≤◌, refl, ap, arith, Result, Err}
+use Rattle.std.proofs.Common.{◌≡◌, ◌↔◌, ℕ, suc, ◌^◌, ◌-◌, min, ◌<◌, ◌≤◌, refl, ap, arith, Result, Err}
 use Rattle.sf_arena.specs.declared.arena.ArenaRefusal.{ArenaRefusal}
 use Rattle.sf_arena.specs.declared.arena.ArenaRefusal.TheVariants as of_arenas
 use Rattle.sf_term.specs.declared.refusal.BuildRefusal.{BuildRefusal}
@@ -19,7 +19,7 @@ deep_as P of_arenas.TooMany f e h = (λ q. cc, λ p. let q = h.1 p in cc)
 deep_as P of_arenas.Memory f e h = (λ q. cc, λ p. let q = h.1 p in cc)
 
 -- and that of a depth which is another's
-pub deep_with : {X Y : Type 0} {count : ℕ} (d e : ℕ) (r : ArenaRefusal) (f : BuildRefusal) → f ≡ as_build_refusal r → d ≡ e → (◌≡◌ {A = Result Y ArenaRefusal} (Err r) (Err of_arenas.TooDeep) ↔ (count < 100000) × (64 < d)) → ◌≡◌ {A = Result X BuildRefusal} (Err f) (Err TooDeep) ↔ (count < 100000) × (64 < e)
+pub deep_with : {X Y : Type 0} {count : ℕ} (d e : ℕ) (r : ArenaRefusal) (f : BuildRefusal) → f ≡ as_build_refusal r → d ≡ min e (2 ^ 32 - 1) → (◌≡◌ {A = Result Y ArenaRefusal} (Err r) (Err of_arenas.TooDeep) ↔ (count < 100000) × (64 < d)) → ◌≡◌ {A = Result X BuildRefusal} (Err f) (Err TooDeep) ↔ (count < 100000) × (64 < e)
 deep_with d e of_arenas.TooDeep f is same h = (λ q. let g = h.0 refl in (g.0, omega (arith, g.1, same)), λ p. ap (λ g. Err g) is)
 deep_with d e of_arenas.TooMany f is same h = (λ q. cc, λ p. let q = h.1 (p.0, omega (arith, p.1, same)) in cc)
 deep_with d e of_arenas.Memory f is same h = (λ q. cc, λ p. let q = h.1 (p.0, omega (arith, p.1, same)) in cc)

@@ -5,24 +5,30 @@ use Rattle.sf_arena.specs.declared.entry.Entry.{Entry}
 use Rattle.sf_arena.specs.Arenas.{entries_of}
 use Rattle.sf_expr.specs.declared.exprs.ExprId.{ExprId}
 use Rattle.sf_expr.specs.declared.exprs.FunctionId.{FunctionId}
+use Rattle.sf_expr.specs.declared.exprs.NameId.{NameId}
 use Rattle.sf_expr.specs.declared.exprs.PatternId.{PatternId}
 use Rattle.sf_expr.specs.declared.exprs.ExprNode.{ExprNode}
 use Rattle.sf_expr.specs.declared.exprs.Exprs.{Exprs}
+use Rattle.sf_value.specs.Values.{Name}
 use Rattle.sf_expr.specs.Expressions.{Expression, Function, function}
 use Rattle.sf_expr.specs.Patterns.{PlacedPattern, pattern_of}
-use Rattle.sf_expr.specs.Arena.{expression, count_of, name_at, HoldsName, literal_at, HoldsConstant, Holds, HoldsFunction as HoldsFunctionIn, HoldsPattern, placed_at, pattern_at as pattern_at_in, body_at as body_at_in, node_at as expression_node_in, spot_at as expression_spot_in}
+use Rattle.sf_expr.specs.Arena.{expression, count_of, name_at, HoldsName, next_name, literal_at, HoldsConstant, Holds, HoldsFunction as HoldsFunctionIn, HoldsPattern, placed_at, pattern_at as pattern_at_in, body_at as body_at_in, node_at as expression_node_in, spot_at as expression_spot_in}
 use Rattle.sf_term.specs.declared.node.TermId.{TermId}
 use Rattle.sf_term.specs.declared.node.ArgumentsId.{ArgumentsId}
 use Rattle.sf_term.specs.declared.node.Argument.{Argument}
 use Rattle.sf_term.specs.declared.node.Argument.TheVariants as arguments
 use Rattle.sf_term.specs.declared.node.Primitive.TheVariants as primitives
+use Rattle.sf_term.specs.declared.collection.CollectionId.{CollectionId}
+use Rattle.sf_term.specs.declared.collection.CollExpr.{CollExpr}
+use Rattle.sf_term.specs.declared.collection.CollExpr.TheVariants as collections
 use Rattle.sf_term.specs.declared.node.Node.{Node}
 use Rattle.sf_term.specs.declared.node.Node.TheVariants as nodes
 use Rattle.sf_term.specs.declared.program.Program.{Program}
-use Rattle.sf_term.specs.Trees.{Term, primitive, reference, call, Arguments, no_arguments, value_argument, process_argument, joined, sided, headed, transformed, switching, keeping, bare, never, with_value, timed, selected, arrow, accumulated, named_term, term_depth, Template, Templates}
+use Rattle.sf_term.specs.Trees.{Term, primitive, reference, call, Collection, without_members, used, added, dropped, kept, chosen, Arguments, no_arguments, value_argument, process_argument, collection_argument, joined, sided, headed, transformed, switching, keeping, gathered, releasing, editing, bare, never, with_value, timed, selected, arrow, accumulated, named_term, term_depth, Template, Templates}
 use Rattle.sf_term.specs.Parameters.{parameters_of}
 use Rattle.sf_term.specs.Headers.{Header}
-use Rattle.sf_term.specs.Entries.{TermBase, absent_payload, term_entry, term_entered}
+use Rattle.sf_value.specs.KindView.{key_kind_of}
+use Rattle.sf_term.specs.Entries.{StoredLists, TermBase, absent_payload, absent_collection, collections_in, term_entry, term_entered}
 
 -- the number of an id
 abbrev pub term_number : TermId → ℕ
@@ -32,13 +38,13 @@ term_number id = id.0
 unfoldable pub expressions_of : Program → Exprs
 expressions_of p = p.expressions
 
--- the arguments of the calls of a program
-unfoldable pub argument_lists : Program → List (List Argument)
-argument_lists p = p.arguments.items
+-- the arguments of the calls of a program, and its collections
+abbrev pub lists_of : Program → StoredLists
+lists_of p = record { arguments = p.arguments.items; collections = collections_in p.collections.items }
 
 -- what the terms of a program are made over beside terms
 abbrev pub base_of : Program → TermBase
-base_of p = record { expressions = p.expressions; arguments = p.arguments.items }
+base_of p = record { expressions = p.expressions; lists = lists_of p }
 
 -- how many terms a program holds
 unfoldable pub term_count : Program → ℕ
@@ -76,6 +82,18 @@ arguments_under p a = slice_index_or p.arguments.items a.0 []
 unfoldable pub next_arguments : Program → ArgumentsId
 next_arguments p = record { 0 = length p.arguments.items }
 
+-- a program holds a collection under an id
+unfoldable pub HoldsCollection : Program → CollectionId → Type 0
+HoldsCollection p c = c.0 < length (collections_in p.collections.items)
+
+-- the collection at an id, as ids; one without members where the program holds none
+unfoldable pub collection_under : Program → CollectionId → CollExpr
+collection_under p c = slice_index_or (collections_in p.collections.items) c.0 absent_collection
+
+-- the id of the next collection
+unfoldable pub next_collection : Program → CollectionId
+next_collection p = record { 0 = length (collections_in p.collections.items) }
+
 -- the term at an id; the identity where the program holds none
 unfoldable pub tree : Program → TermId → Term
 tree p t = term_entered (base_of p) (entries_of p.terms) t.0
@@ -112,11 +130,25 @@ term_node_at p t = (term_entry (entries_of p.terms) t.0).node
 unfoldable pub expression_node_at : Program → ExprId → ExprNode
 expression_node_at p e = expression_node_in p.expressions e
 
+-- what a collection with ids stands for
+abbrev pub collection_of : Program → CollExpr → Collection
+collection_of p (collections.Empty k t s) = without_members (key_kind_of k) t
+collection_of p (collections.Used k r s) = used (name_at (expressions_of p) k)
+collection_of p (collections.Added' a c e t s) = added (collection_of p c) (expression_under p e) (tree p t)
+collection_of p (collections.Dropped' a c e s) = dropped (collection_of p c) (expression_under p e)
+collection_of p (collections.Kept' a c f s) = kept (collection_of p c) (function_in p f)
+collection_of p (collections.Chosen' e a c b d s) = chosen (expression_under p e) (collection_of p c) (collection_of p d)
+
+-- the collection at an id; one without members where the program holds none
+abbrev pub collection_at : Program → CollectionId → Collection
+collection_at p c = collection_of p (collection_under p c)
+
 -- what arguments with ids stand for
 abbrev pub arguments_of : Program → List Argument → Arguments
 arguments_of p [] = no_arguments
 arguments_of p (arguments.Value e ∷ vs) = value_argument (expression_under p e) (arguments_of p vs)
 arguments_of p (arguments.Process t ∷ vs) = process_argument (tree p t) (arguments_of p vs)
+arguments_of p (arguments.Collection c ∷ vs) = collection_argument (collection_at p c) (arguments_of p vs)
 
 -- the term that a node with the ids of its parts stands for
 abbrev pub term_of : Program → Node → Term
@@ -135,6 +167,9 @@ term_of p (nodes.Headed h e a) = headed h (expression_under p e) (tree p a)
 term_of p (nodes.Transformed f a) = transformed (function_in p f) (tree p a)
 term_of p (nodes.Switching w a q b) = switching w (tree p a) (pattern_of (pattern_under p q)) (tree p b)
 term_of p (nodes.Keeping w a o k s q b) = keeping w (tree p a) (tree p o) (name_at (expressions_of p) k) (pattern_of (pattern_under p q)) (tree p b)
+term_of p (nodes.Gathered c) = gathered (collection_at p c)
+term_of p (nodes.Releasing n) = releasing n.shown (collection_at p n.members) (tree p n.observer) (name_at (expressions_of p) n.name) (pattern_of (pattern_under p n.pattern)) (tree p n.body)
+term_of p (nodes.Editing n) = editing n.shown (collection_at p n.members) (name_at (expressions_of p) n.name) (pattern_of (pattern_under p n.pattern)) (collection_at p n.edit)
 
 -- where the term at an id stands in the text
 unfoldable pub term_spot_at : Program → TermId → Spot
@@ -160,27 +195,54 @@ templates_of p = map (template_in p) (headers_of p)
 abbrev pub spots_of : Program → List Spot
 spots_of p = map (λ (h : Header). h.spot) (headers_of p)
 
--- the id of the term of an argument, as a number, is below a number
-abbrev pub ArgumentBelow : ℕ → Argument → Type 0
-ArgumentBelow n (arguments.Value e) = Unit {0}
-ArgumentBelow n (arguments.Process t) = term_number t < n
+-- the ids of a collection's terms, as numbers, are below a number
+abbrev pub CollectionBelow : ℕ → CollExpr → Type 0
+CollectionBelow n (collections.Empty k t s) = Unit {0}
+CollectionBelow n (collections.Used k r s) = Unit {0}
+CollectionBelow n (collections.Added' a c e t s) = CollectionBelow n c × (term_number t < n)
+CollectionBelow n (collections.Dropped' a c e s) = CollectionBelow n c
+CollectionBelow n (collections.Kept' a c f s) = CollectionBelow n c
+CollectionBelow n (collections.Chosen' e a c b d s) = CollectionBelow n c × CollectionBelow n d
+
+-- the ids of the terms of an argument, as numbers, are below a number
+abbrev pub ArgumentBelow : Program → ℕ → Argument → Type 0
+ArgumentBelow p n (arguments.Value e) = Unit {0}
+ArgumentBelow p n (arguments.Process t) = term_number t < n
+ArgumentBelow p n (arguments.Collection c) = CollectionBelow n (collection_under p c)
 
 -- the ids of a node's parts, as numbers, are below a number
 abbrev pub TermPartsBelow : Program → Node → ℕ → Type 0
 TermPartsBelow p (nodes.Primitive q) n = Unit {0}
 TermPartsBelow p (nodes.Named w k s) n = Unit {0}
-TermPartsBelow p (nodes.Call k a) n = All (ArgumentBelow n) (arguments_under p a)
+TermPartsBelow p (nodes.Call k a) n = All (ArgumentBelow p n) (arguments_under p a)
 TermPartsBelow p (nodes.Joined j a b) n = (term_number a < n) × (term_number b < n)
 TermPartsBelow p (nodes.Sided d a) n = term_number a < n
 TermPartsBelow p (nodes.Headed h e a) n = term_number a < n
 TermPartsBelow p (nodes.Transformed f a) n = term_number a < n
 TermPartsBelow p (nodes.Switching w a q b) n = (term_number a < n) × (term_number b < n)
 TermPartsBelow p (nodes.Keeping w a o k s q b) n = (term_number a < n) × (term_number o < n) × (term_number b < n)
+TermPartsBelow p (nodes.Gathered c) n = CollectionBelow n (collection_under p c)
+TermPartsBelow p (nodes.Releasing r) n = CollectionBelow n (collection_under p r.members) × (term_number r.observer < n) × (term_number r.body < n)
+TermPartsBelow p (nodes.Editing r) n = CollectionBelow n (collection_under p r.members) × CollectionBelow n (collection_under p r.edit)
+
+-- what a collection names is held
+abbrev pub HoldsMembers : Program → CollExpr → Type 0
+HoldsMembers p (collections.Empty k t s) = Unit {0}
+HoldsMembers p (collections.Used k r s) = HoldsName (expressions_of p) k
+HoldsMembers p (collections.Added' a c e t s) = HoldsMembers p c × HoldsExpression p e × HoldsTerm p t
+HoldsMembers p (collections.Dropped' a c e s) = HoldsMembers p c × HoldsExpression p e
+HoldsMembers p (collections.Kept' a c f s) = HoldsMembers p c × ProgramHoldsFunction p f
+HoldsMembers p (collections.Chosen' e a c b d s) = HoldsExpression p e × HoldsMembers p c × HoldsMembers p d
+
+-- a collection is held, and what it names
+abbrev pub HoldsWhole : Program → CollectionId → Type 0
+HoldsWhole p c = HoldsCollection p c × HoldsMembers p (collection_under p c)
 
 -- what an argument names is held
 abbrev pub HoldsArgument : Program → Argument → Type 0
 HoldsArgument p (arguments.Value e) = HoldsExpression p e
 HoldsArgument p (arguments.Process t) = HoldsTerm p t
+HoldsArgument p (arguments.Collection c) = HoldsWhole p c
 
 -- the parts of a node are held
 abbrev pub HoldsTermParts : Program → Node → Type 0
@@ -199,8 +261,11 @@ HoldsTermParts p (nodes.Headed h e a) = HoldsExpression p e × HoldsTerm p a
 HoldsTermParts p (nodes.Transformed f a) = ProgramHoldsFunction p f × HoldsTerm p a
 HoldsTermParts p (nodes.Switching w a q b) = HoldsTerm p a × HoldsPatternIn p q × HoldsTerm p b
 HoldsTermParts p (nodes.Keeping w a o k s q b) = HoldsTerm p a × HoldsTerm p o × HoldsName (expressions_of p) k × HoldsPatternIn p q × HoldsTerm p b
+HoldsTermParts p (nodes.Gathered c) = HoldsWhole p c
+HoldsTermParts p (nodes.Releasing n) = HoldsWhole p n.members × HoldsTerm p n.observer × HoldsName (expressions_of p) n.name × HoldsPatternIn p n.pattern × HoldsTerm p n.body
+HoldsTermParts p (nodes.Editing n) = HoldsWhole p n.members × HoldsName (expressions_of p) n.name × HoldsPatternIn p n.pattern × HoldsWhole p n.edit
 
--- Terms, expressions, functions, patterns and arguments that a program held are there as they were.
+-- Terms, expressions, functions, names, patterns, arguments and collections that a program held are there as they were.
 pub record KeepsTrees (old new : Program) : Type 0 where
   pub terms : (t : TermId) → HoldsTerm old t → HoldsTerm new t
   pub nodes : (t : TermId) → HoldsTerm old t → term_node_at new t ≡ term_node_at old t
@@ -216,8 +281,12 @@ pub record KeepsTrees (old new : Program) : Type 0 where
   pub meanings : (f : FunctionId) → ProgramHoldsFunction old f → function_in new f ≡ function_in old f
   pub holds_patterns : (q : PatternId) → HoldsPatternIn old q → HoldsPatternIn new q
   pub placed : (q : PatternId) → HoldsPatternIn old q → pattern_under new q ≡ pattern_under old q
+  pub holds_names : (n : NameId) → HoldsName (expressions_of old) n → HoldsName (expressions_of new) n
+  pub names : (n : NameId) → HoldsName (expressions_of old) n → name_at (expressions_of new) n ≡ name_at (expressions_of old) n
   pub holds_arguments : (a : ArgumentsId) → HoldsArguments old a → HoldsArguments new a
   pub arguments : (a : ArgumentsId) → HoldsArguments old a → arguments_under new a ≡ arguments_under old a
+  pub holds_collections : (c : CollectionId) → HoldsCollection old c → HoldsCollection new c
+  pub collections : (c : CollectionId) → HoldsCollection old c → collection_under new c ≡ collection_under old c
 
 -- All that a program held is there as it was, and it has the same templates.
 pub record KeepsProgram (old new : Program) : Type 0 where
@@ -260,16 +329,7 @@ pub record AddsProgramFunction (old new : Program) (f : FunctionId) (q : PlacedP
   pub term_counted : term_count new ≡ term_count old
   pub expression_counted : expression_count new ≡ expression_count old
 
--- a template was added behind the others
-pub record AddsTemplate (old new : Program) (h : Header) : Type 0 where
-  pub headers : headers_of new ≡ headers_of old ++ h ∷ []
-  pub templates : templates_of new ≡ templates_of old ++ template_in old h ∷ []
-  pub spots : spots_of new ≡ spots_of old ++ h.spot ∷ []
-  pub kept : KeepsTrees old new
-  pub term_counted : term_count new ≡ term_count old
-  pub expression_counted : expression_count new ≡ expression_count old
-
--- two programs show the same, but that there may be more patterns and more arguments
+-- two programs show the same, but that there may be more patterns, arguments and collections
 pub record IsSameProgram (old new : Program) : Type 0 where
   pub term_counted : term_count new ≡ term_count old
   pub expression_counted : expression_count new ≡ expression_count old
@@ -284,9 +344,38 @@ pub record IsSameProgram (old new : Program) : Type 0 where
   pub bodies : (f : FunctionId) → function_body_at new f ≡ function_body_at old f
   pub holds_patterns : (q : PatternId) → HoldsPatternIn old q → HoldsPatternIn new q
   pub placed : (q : PatternId) → HoldsPatternIn old q → pattern_under new q ≡ pattern_under old q
+  pub holds_names : (n : NameId) → HoldsName (expressions_of old) n → HoldsName (expressions_of new) n
+  pub names : (n : NameId) → HoldsName (expressions_of old) n → name_at (expressions_of new) n ≡ name_at (expressions_of old) n
   pub holds_arguments : (a : ArgumentsId) → HoldsArguments old a → HoldsArguments new a
   pub arguments : (a : ArgumentsId) → HoldsArguments old a → arguments_under new a ≡ arguments_under old a
+  pub holds_collections : (c : CollectionId) → HoldsCollection old c → HoldsCollection new c
+  pub collections : (c : CollectionId) → HoldsCollection old c → collection_under new c ≡ collection_under old c
   pub headers : headers_of new ≡ headers_of old
+
+-- a collection was added under a new id
+pub record AddsCollection (old new : Program) (id : CollectionId) (c : CollExpr) : Type 0 where
+  pub within : HoldsCollection new id
+  pub next : id ≡ next_collection old
+  pub is : collection_under new id ≡ c
+  pub whole : HoldsMembers new c
+  pub made : collection_of new c ≡ collection_of old c
+  pub same : IsSameProgram old new
+
+-- the members of a name, which was put beside the others
+pub record AddsUsed (old new : Program) (c : CollExpr) (n : Name) (r s : Spot) : Type 0 where
+  pub is : c ≡ collections.Used (next_name (expressions_of old)) r s
+  pub whole : HoldsMembers new c
+  pub made : collection_of new c ≡ used n
+  pub same : IsSameProgram old new
+
+-- a template was added behind the others
+pub record AddsTemplate (old new : Program) (h : Header) : Type 0 where
+  pub headers : headers_of new ≡ headers_of old ++ h ∷ []
+  pub templates : templates_of new ≡ templates_of old ++ template_in old h ∷ []
+  pub spots : spots_of new ≡ spots_of old ++ h.spot ∷ []
+  pub kept : KeepsTrees old new
+  pub term_counted : term_count new ≡ term_count old
+  pub expression_counted : expression_count new ≡ expression_count old
 
 -- a program is a copy of another: it shows the same
 abbrev pub IsProgramCopy : Program → Program → Type 0

@@ -2,14 +2,16 @@
 use Rattle.std.specs.Prelude.{◌≡◌, Option, Some, None, refl}
 use Rattle.std.specs.Coded.{Coded, code_by, coded_option, coded×}
 use Rattle.sf_value.specs.Values.{Kind, unit_kind, table_kind}
+use Rattle.sf_value.specs.KindView.{key_kind_of}
 use Rattle.sf_term.specs.declared.template.ParameterForm.{ParameterForm}
-use Rattle.sf_term.specs.declared.template.ParameterForm.TheVariants.{Value, Process}
+use Rattle.sf_term.specs.declared.template.ParameterForm.TheVariants.{Value, Process, Collection}
 use Rattle.sf_term.specs.Parameters.{NameKind, value, process, collection}
 
 -- what a parameter of a form stands for
 abbrev pub kind_of_form : ParameterForm → NameKind
 kind_of_form (Value t) = value t
 kind_of_form (Process a b) = process a b
+kind_of_form (Collection k a b) = collection (key_kind_of k) a b
 
 -- the type of a value, or both types of a process; and of a collection also that of tables with its keys
 abbrev pub name_kind_code : NameKind → Kind × Option (Kind × Option Kind)

@@ -2,6 +2,7 @@
 #![tactic(auto)]
 
 mod argument;
+mod collection;
 mod form;
 mod names;
 mod node;
@@ -9,11 +10,12 @@ mod program;
 mod refusal;
 mod template;
 
+pub use collection::{CollExpr, CollectionId};
 pub use form::{
     Accumulation, Bare, Heading, Join, Naming, Observation, Selection, Side, Start, Switching,
     Timing, WithValue,
 };
-pub use node::{Argument, ArgumentsId, Node, Primitive, TermId};
+pub use node::{Argument, ArgumentsId, Editing, Node, Primitive, Releasing, TermId};
 pub use program::Program;
 pub use refusal::BuildRefusal;
 pub use template::{Parameter, ParameterForm, Template};

@@ -1,5 +1,6 @@
 //! Nodes of an arena of terms.
 
+use crate::collection::CollectionId;
 use crate::form::{
     Accumulation, Bare, Heading, Join, Naming, Observation, Selection, Side, Switching, Timing,
     WithValue,
@@ -33,6 +34,8 @@ pub enum Argument {
     Value(ExprId),
     /// `sf t`: a term, which is a process.
     Process(TermId),
+    /// `col c`: a collection.
+    Collection(CollectionId),
 }
 
 /// A primitive, with the ids of its constants.
@@ -76,4 +79,47 @@ pub enum Node {
     /// `kSwitch(t, q, k, p => u)`, delayed `dkSwitch`: at the first event that `q` sees in the inputs and values of `t`, `u`
     /// takes over for good, which knows `t` as it stood by the name `k`.
     Keeping(Observation, TermId, TermId, NameId, Spot, PatternId, TermId),
+    /// `parB c`: the members of a collection.
+    Gathered(CollectionId),
+    /// `pSwitchB(c, q, ks, p => u)`, delayed `dpSwitchB`.
+    Releasing(Releasing),
+    /// `rpSwitchB(c, ks, p => d)`, delayed `drpSwitchB`.
+    Editing(Editing),
+}
+
+/// Members that give way at the first event that an observer sees in their inputs and values: a body takes over for good, which
+/// knows them as they stood.
+#[derive(Clone, Copy, Debug, PartialEq, Eq)]
+pub struct Releasing {
+    /// Whose value shows at the event.
+    pub shown: Observation,
+    /// The members.
+    pub members: CollectionId,
+    /// What gives the event.
+    pub observer: TermId,
+    /// The name of the members in the body.
+    pub name: NameId,
+    /// Where that name stands.
+    pub place: Spot,
+    /// The pattern of the event's payload.
+    pub pattern: PatternId,
+    /// The body.
+    pub body: TermId,
+}
+
+/// Members that are edited at each event beside the input.
+#[derive(Clone, Copy, Debug, PartialEq, Eq)]
+pub struct Editing {
+    /// Whose values show at an event.
+    pub shown: Observation,
+    /// The members at the start.
+    pub members: CollectionId,
+    /// The name of the members in the edit.
+    pub name: NameId,
+    /// Where that name stands.
+    pub place: Spot,
+    /// The pattern of the event's payload.
+    pub pattern: PatternId,
+    /// The members from the event on.
+    pub edit: CollectionId,
 }

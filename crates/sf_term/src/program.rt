@@ -1,5 +1,6 @@
 //! Programs: terms and templates, in an arena.
-ghost use Rattle.std.specs.Prelude.{◌≡◌, ◌<◌, ◌≤◌, ◌↔◌, max, IfOk, IfErr, OnOk, OnErr, [], length, string_bytes, All};
+ghost use Rattle.std.specs.Option.{option_map, unwrap_or};
+ghost use Rattle.std.specs.Prelude.{◌≡◌, ◌<◌, ◌≤◌, ◌↔◌, ◌^◌, ◌-◌, max, min, IfOk, IfErr, OnOk, OnErr, [], length, string_bytes, All};
 ghost use Rattle.sf_lex.specs.Words.{IsName};
 ghost use Rattle.sf_expr.specs.Expressions.{variable, literal, int_literal, paired, applied as applied_of, operation as operation_of, conditional as conditional_of};
 ghost use Rattle.sf_expr.specs.Expressions.{mapped as mapped_of, folded as folded_of, called as called_of, pattern_depth};
@@ -9,15 +10,16 @@ ghost use Rattle.sf_expr.specs.Arena.{next_name, next_constant, next_pattern, Ad
 ghost use Rattle.sf_expr.specs.declared.exprs.ExprNode.TheVariants as expressions;
 ghost use Rattle.sf_term.specs.Headers.{bodies_end};
 ghost use Rattle.sf_arena.specs.Arenas.{entries_of};
-ghost use Rattle.sf_term.specs.Entries.{AreTerms};
+ghost use Rattle.sf_term.specs.Entries.{AreTerms, absent_collection, collections_in};
 ghost use Rattle.sf_term.specs.Names.{HasNames, AreNamed};
 ghost use Rattle.sf_term.specs.declared.node.Node.TheVariants as terms;
-ghost use Rattle.sf_term.specs.Trees.{primitive as primitive_of, never as never_of, named_term, reference as reference_of, call as call_of, arguments_depth as arguments_depth_of, switching as switching_of, keeping as keeping_of, term_depth as depth_of};
+ghost use Rattle.sf_term.specs.Trees.{primitive as primitive_of, never as never_of, named_term, reference as reference_of, call as call_of, arguments_depth as arguments_depth_of, switching as switching_of, keeping as keeping_of, releasing as releasing_of, editing as editing_of, collection_depth as collection_depth_of, term_depth as depth_of};
 
 use crate::argument::{StoredArguments, clone_lists};
+use crate::collection::{CollExpr, CollectionId, clone_collections};
 use crate::form::{Bare, Naming, Observation, Switching};
 use crate::names::{are_named, has_names};
-use crate::node::{Argument, ArgumentsId, Node, Primitive, TermId};
+use crate::node::{Argument, ArgumentsId, Editing, Node, Primitive, Releasing, TermId};
 use crate::refusal::BuildRefusal;
 use crate::template::{Parameter, Template, clone_all};
 use sf_arena::{Arena, Entry};
@@ -28,6 +30,7 @@ use sf_expr::{
 use sf_lex::is_name;
 use sf_value::Ty;
 use std::alloc::{AllocError, Global};
+use std::rc::Rc;
 
 /// Terms, with their expressions and functions, and templates: at most 100,000 terms and 100,000 expressions, of which
 /// at most 64 stand one inside another.
@@ -35,8 +38,9 @@ pub struct Program {
     expressions: Exprs,
     terms: Arena<Node>,
     arguments: Vec<StoredArguments>,
+    collections: Vec<Rc<CollExpr>>,
     templates: Vec<Template>,
-    ghost arena: { AreTerms (record { expressions = expressions; arguments = arguments.items }) (entries_of terms) },
+    ghost arena: { AreTerms (record { expressions = expressions; lists = record { arguments = arguments.items; collections = collections_in collections.items } }) (entries_of terms) },
     ghost bodies: { bodies_end templates.items ≤ length (entries_of terms) },
 }
 
@@ -46,11 +50,13 @@ impl Drop for Program {
             expressions,
             terms,
             arguments,
+            collections,
             templates,
         } = self;
         drop(expressions);
         drop(terms);
         drop(arguments);
+        drop(collections);
         drop(templates);
     }
 }
@@ -60,6 +66,7 @@ impl Program {
     ghost use Rattle.sf_term.specs.Arena.{tree, expression_under, term_entry_of, term_node_at, term_spot_at, term_of, term_number};
     ghost use Rattle.sf_term.specs.Arena.{expressions_of, headers_of, HoldsPatternIn, pattern_under, TermPartsBelow, HoldsTermParts};
     ghost use Rattle.sf_term.specs.Arena.{HoldsArgument, HoldsArguments, arguments_under, arguments_of, next_arguments};
+    ghost use Rattle.sf_term.specs.Arena.{HoldsWhole, HoldsMembers, collection_under, collection_of, collection_at, AddsCollection, AddsUsed};
     ghost use Rattle.sf_term.specs.Arena.{AddsTerm, AddsExpression, AddsProgramFunction, AddsTemplate, IsSameProgram, IsProgramCopy};
 
     /// No term, no expression and no template.
@@ -73,6 +80,7 @@ impl Program {
             expressions: Exprs::new(alloc),
             terms: Arena::new(alloc),
             arguments: Vec::new(alloc),
+            collections: Vec::new(alloc),
             templates: Vec::new(alloc),
         }
     }
@@ -102,7 +110,7 @@ impl Program {
 
     #[tactic(auto, unfolding(crate::specs::Arena::expression_under, crate::specs::Arena::function_pattern_at, crate::specs::Arena::function_body_at, crate::specs::Arena::pattern_under), using(crate::proofs::Kept::named_depth))]
     fn depth_with(&self, node: Node) -> u32
-        ensures { result ≡ depth_of (term_of self.now node) }
+        ensures { result ≡ min (depth_of (term_of self.now node)) (2 ^ 32 - 1) }
     {
         match node {
             Node::Primitive(Primitive::Bare(_) | Primitive::Never(_) | Primitive::Selected(_, _)) =>
@@ -136,21 +144,79 @@ impl Program {
                 let terms = watched.max(self.depth(body));
                 1 + terms.max(self.expressions.pattern_depth(pattern))
             }
-            Node::Call(_, arguments) => 1 + self.depth_in(self.arguments(arguments)),
+            Node::Call(_, arguments) => {
+                let depth = self.depth_in(self.arguments(arguments));
+                depth.saturating_add(1)
+            }
+            Node::Gathered(members) => self.depth_under(members).saturating_add(1),
+            Node::Releasing(node) => {
+                let watched = self
+                    .depth_under(node.members)
+                    .max(self.depth(node.observer));
+                let terms = watched.max(self.depth(node.body));
+                let parts = terms.max(self.expressions.pattern_depth(node.pattern));
+                parts.saturating_add(1)
+            }
+            Node::Editing(node) => {
+                let members = self.depth_under(node.members);
+                let collections = members.max(self.depth_under(node.edit));
+                let parts = collections.max(self.expressions.pattern_depth(node.pattern));
+                parts.saturating_add(1)
+            }
         }
     }
 
-    // How many terms and expressions stand one inside another in arguments.
+    // How many collections, terms and expressions stand one inside another in a collection; `u32::MAX` where they are more.
+    #[tactic(auto, unfolding(crate::specs::Arena::expression_under, crate::specs::Arena::function_pattern_at, crate::specs::Arena::function_body_at))]
+    fn depth_of(&self, collection: &CollExpr) -> u32
+        ensures { result ≡ min (collection_depth_of (collection_of self.now collection.now)) (2 ^ 32 - 1) }
+    {
+        match collection {
+            CollExpr::Empty(_, _, _) | CollExpr::Used(_, _, _) => 1,
+            CollExpr::Added(members, key, term, _) => {
+                let parts = self.expressions.depth(*key).max(self.depth(*term));
+                self.depth_of(members).max(parts).saturating_add(1)
+            }
+            CollExpr::Dropped(members, key, _) => {
+                let depth = self.depth_of(members);
+                depth.max(self.expressions.depth(*key)).saturating_add(1)
+            }
+            CollExpr::Kept(members, function, _) => {
+                let depth = self.depth_of(members);
+                depth
+                    .max(self.expressions.function_depth(*function))
+                    .saturating_add(1)
+            }
+            CollExpr::Chosen(condition, first, second, _) => {
+                let depth = self.depth_of(first).max(self.depth_of(second));
+                depth
+                    .max(self.expressions.depth(*condition))
+                    .saturating_add(1)
+            }
+        }
+    }
+
+    // The same of the collection at an id.
+    fn depth_under(&self, id: CollectionId) -> u32
+        ensures { result ≡ min (collection_depth_of (collection_at self.now id)) (2 ^ 32 - 1) }
+    {
+        match self.collection(id) {
+            Some(collection) => self.depth_of(collection),
+            None => 1,
+        }
+    }
+
+    // How many terms and expressions stand one inside another in arguments; `u32::MAX` where they are more.
     #[tactic(auto, unfolding(crate::specs::Arena::expression_under))]
     fn depth_in(&self, arguments: &[Argument]) -> u32
-        ensures value { result ≡ arguments_depth_of (arguments_of self.now arguments.now) }
-        ensures bound { result ≤ 64 }
+        ensures { result ≡ min (arguments_depth_of (arguments_of self.now arguments.now)) (2 ^ 32 - 1) }
     {
         let mut depth = 0;
         for argument in arguments {
             let part = match argument {
                 Argument::Value(value) => self.expressions.depth(*value),
                 Argument::Process(term) => self.depth(*term),
+                Argument::Collection(members) => self.depth_under(*members),
             };
             depth = part.max(depth);
         }
@@ -710,6 +776,169 @@ impl Program {
         Ok(id)
     }
 
+    /// The members of a name, which stands at `place`, as a collection that no form has yet. Refused with `BadName` where it is no
+    /// name of the language, and with `Memory`. A refused call changes nothing.
+    pub fn used(&mut self, name: String, place: Spot, spot: Spot) -> Result<CollExpr, BuildRefusal>
+        ensures ok { IfOk result (λ c. AddsUsed self.old self.new c (string_bytes name) place spot) }
+        ensures named { OnOk result (IsName (string_bytes name)) }
+        ensures not_many { ¬ (result ≡ Err BuildRefusal.TooMany) }
+        ensures not_deep { ¬ (result ≡ Err BuildRefusal.TooDeep) }
+        ensures bad_name { result ≡ Err BuildRefusal.BadName ↔ ¬ IsName (string_bytes name) }
+        ensures err { OnErr result (IsSameProgram self.old self.new) }
+    {
+        if !is_name(name.as_bytes()) {
+            return Err(BuildRefusal::BadName);
+        }
+        match self.expressions.name(name) {
+            Ok(id) => Ok(CollExpr::Used(id, place, spot)),
+            Err(_) => Err(BuildRefusal::Memory),
+        }
+    }
+
+    /// Adds a collection, which counts as no term and which a form names by its id. Refused with `TooDeep` where more than 64
+    /// collections, terms and expressions stand one inside another, and with `Memory`. A refused call changes nothing.
+    pub fn add_collection(&mut self, collection: Rc<CollExpr>) -> Result<CollectionId, BuildRefusal>
+        requires { HoldsMembers self.old collection.value }
+        ensures ok { IfOk result (λ id. AddsCollection self.old self.new id collection.value) }
+        ensures not_many { ¬ (result ≡ Err BuildRefusal.TooMany) }
+        ensures deep { result ≡ Err BuildRefusal.TooDeep ↔ 64 < collection_depth_of (collection_of self.old collection.value) }
+        ensures no_name { ¬ (result ≡ Err BuildRefusal.BadName) }
+        ensures err { OnErr result (IsSameProgram self.old self.new) }
+    {
+        if 64 < self.depth_of(&collection) {
+            return Err(BuildRefusal::TooDeep);
+        }
+        let id = CollectionId(self.collections.len());
+        self.collections.push(collection)?;
+        Ok(id)
+    }
+
+    /// Adds members that give way to a term inside a pattern, which knows them by a name, at `place`. Refused with `TooMany` where
+    /// 100,000 terms are there, then with `TooDeep` where more than 64 collections, terms, patterns and expressions would stand
+    /// one inside another, then with `BadName` where the name or one of the pattern is no name of the language, and with
+    /// `Memory`. A refused call changes nothing.
+    #[tactic(auto, unfolding(crate::specs::Arena::expressions_of, crate::specs::Arena::term_count))]
+    pub fn releasing(
+        &mut self,
+        shown: Observation,
+        members: CollectionId,
+        observer: TermId,
+        name: String,
+        place: Spot,
+        pattern: Pat,
+        body: TermId,
+        spot: Spot,
+    ) -> Result<TermId, BuildRefusal>
+        requires members_held { HoldsWhole self.old members }
+        requires observer_held { HoldsTerm self.old observer }
+        requires body_held { HoldsTerm self.old body }
+        ensures ok { let known = next_name (expressions_of self.old) in
+            let next = next_pattern (expressions_of self.old) in
+            let node = terms.Releasing (record { shown = shown; members = members; observer = observer; name = known; place = place; pattern = next; body = body }) in
+            let whole = releasing_of shown (collection_at self.old members) (tree self.old observer) (string_bytes name) (pattern_of pattern) (tree self.old body) in
+            IfOk result (λ id. AddsTerm self.old self.new id node whole spot) }
+        ensures placed { let next = next_pattern (expressions_of self.old) in
+            OnOk result (HoldsPatternIn self.new next × (pattern_under self.new next ≡ pattern)) }
+        ensures named { OnOk result (IsName (string_bytes name) × HasNames (pattern_of pattern)) }
+        ensures many { result ≡ Err BuildRefusal.TooMany ↔ 100000 ≤ term_count self.old }
+        ensures deep { let whole = releasing_of shown (collection_at self.old members) (tree self.old observer) (string_bytes name) (pattern_of pattern) (tree self.old body) in
+            result ≡ Err BuildRefusal.TooDeep ↔ (term_count self.old < 100000) × (64 < depth_of whole) }
+        ensures bad_name { let whole = releasing_of shown (collection_at self.old members) (tree self.old observer) (string_bytes name) (pattern_of pattern) (tree self.old body) in
+            result ≡ Err BuildRefusal.BadName ↔ (term_count self.old < 100000) × (depth_of whole ≤ 64) × ¬ (IsName (string_bytes name) × HasNames (pattern_of pattern)) }
+        ensures err { OnErr result (IsSameProgram self.old self.new) }
+    {
+        if 100_000 <= self.terms.len() {
+            return Err(BuildRefusal::TooMany);
+        }
+        let watched = self.depth_under(members).max(self.depth(observer));
+        let parts = watched.max(self.depth(body));
+        if 64 <= parts.max(pattern.depth()) {
+            return Err(BuildRefusal::TooDeep);
+        }
+        let both_named = is_name(name.as_bytes()) && has_names(&pattern);
+        if !both_named {
+            return Err(BuildRefusal::BadName);
+        }
+        match self.expressions.name(name) {
+            Ok(name) => match self.expressions.pattern_in(pattern) {
+                Ok(pattern) => {
+                    let node = Releasing {
+                        shown,
+                        members,
+                        observer,
+                        name,
+                        place,
+                        pattern,
+                        body,
+                    };
+                    self.add(Node::Releasing(node), spot)
+                }
+                Err(_) => Err(BuildRefusal::Memory),
+            },
+            Err(_) => Err(BuildRefusal::Memory),
+        }
+    }
+
+    /// Adds members that are edited inside a pattern, where they are known by a name, at `place`. Refused as members that give way
+    /// to a term are. A refused call changes nothing.
+    #[tactic(auto, unfolding(crate::specs::Arena::expressions_of, crate::specs::Arena::term_count))]
+    pub fn editing(
+        &mut self,
+        shown: Observation,
+        members: CollectionId,
+        name: String,
+        place: Spot,
+        pattern: Pat,
+        edit: CollectionId,
+        spot: Spot,
+    ) -> Result<TermId, BuildRefusal>
+        requires members_held { HoldsWhole self.old members }
+        requires edit_held { HoldsWhole self.old edit }
+        ensures ok { let known = next_name (expressions_of self.old) in
+            let next = next_pattern (expressions_of self.old) in
+            let node = terms.Editing (record { shown = shown; members = members; name = known; place = place; pattern = next; edit = edit }) in
+            let whole = editing_of shown (collection_at self.old members) (string_bytes name) (pattern_of pattern) (collection_at self.old edit) in
+            IfOk result (λ id. AddsTerm self.old self.new id node whole spot) }
+        ensures placed { let next = next_pattern (expressions_of self.old) in
+            OnOk result (HoldsPatternIn self.new next × (pattern_under self.new next ≡ pattern)) }
+        ensures named { OnOk result (IsName (string_bytes name) × HasNames (pattern_of pattern)) }
+        ensures many { result ≡ Err BuildRefusal.TooMany ↔ 100000 ≤ term_count self.old }
+        ensures deep { let whole = editing_of shown (collection_at self.old members) (string_bytes name) (pattern_of pattern) (collection_at self.old edit) in
+            result ≡ Err BuildRefusal.TooDeep ↔ (term_count self.old < 100000) × (64 < depth_of whole) }
+        ensures bad_name { let whole = editing_of shown (collection_at self.old members) (string_bytes name) (pattern_of pattern) (collection_at self.old edit) in
+            result ≡ Err BuildRefusal.BadName ↔ (term_count self.old < 100000) × (depth_of whole ≤ 64) × ¬ (IsName (string_bytes name) × HasNames (pattern_of pattern)) }
+        ensures err { OnErr result (IsSameProgram self.old self.new) }
+    {
+        if 100_000 <= self.terms.len() {
+            return Err(BuildRefusal::TooMany);
+        }
+        let parts = self.depth_under(members).max(self.depth_under(edit));
+        if 64 <= parts.max(pattern.depth()) {
+            return Err(BuildRefusal::TooDeep);
+        }
+        let both_named = is_name(name.as_bytes()) && has_names(&pattern);
+        if !both_named {
+            return Err(BuildRefusal::BadName);
+        }
+        match self.expressions.name(name) {
+            Ok(name) => match self.expressions.pattern_in(pattern) {
+                Ok(pattern) => {
+                    let node = Editing {
+                        shown,
+                        members,
+                        name,
+                        place,
+                        pattern,
+                        edit,
+                    };
+                    self.add(Node::Editing(node), spot)
+                }
+                Err(_) => Err(BuildRefusal::Memory),
+            },
+            Err(_) => Err(BuildRefusal::Memory),
+        }
+    }
+
     /// Adds `never` for payloads of a type to the terms. Refused with `TooMany` where 100,000 terms are there, and with
     /// `Memory`. A refused call changes nothing.
     #[tactic(auto, unfolding(crate::specs::Arena::term_count))]
@@ -765,12 +994,14 @@ impl Program {
     {
         let templates = clone_all(alloc, &self.templates)?;
         let arguments = clone_lists(alloc, &self.arguments)?;
+        let collections = clone_collections(alloc, &self.collections)?;
         let terms = self.terms.clone_in(alloc)?;
         let expressions = self.expressions.clone_in(alloc)?;
         Ok(Program {
             expressions,
             terms,
             arguments,
+            collections,
             templates,
         })
     }
@@ -811,6 +1042,17 @@ impl Program {
         match self.arguments.get(id.0) {
             Some(arguments) => arguments.items(),
             None => &[],
+        }
+    }
+
+    /// The collection at an id; one without members at an id that the program does not hold.
+    #[tactic(auto, unfolding(crate::specs::Arena::collection_under))]
+    pub fn collection(&self, id: CollectionId) -> Option<&CollExpr>
+        ensures { unwrap_or (option_map (λ c. c.now) result) absent_collection ≡ collection_under self.now id }
+    {
+        match self.collections.get(id.0) {
+            Some(collection) => Some(collection),
+            None => None,
         }
     }
 

@@ -4,7 +4,7 @@ ghost use Rattle.sf_term.specs.ParameterView.{kind_of_form};
 
 use crate::node::TermId;
 use sf_expr::Spot;
-use sf_value::Ty;
+use sf_value::{KeyType, Ty};
 use std::alloc::{AllocError, Global};
 use std::marker::Model;
 
@@ -34,6 +34,8 @@ pub enum ParameterForm {
     Value(Ty),
     /// A process, with the types of its inputs and of its outputs.
     Process(Ty, Ty),
+    /// A collection of processes, with the types of its keys and of their inputs and outputs.
+    Collection(KeyType, Ty, Ty),
 }
 
 impl Model for Parameter {
@@ -101,6 +103,11 @@ impl ParameterForm {
                 let from = from.clone_in(alloc)?;
                 let to = to.clone_in(alloc)?;
                 Ok(ParameterForm::Process(from, to))
+            }
+            ParameterForm::Collection(keys, from, to) => {
+                let from = from.clone_in(alloc)?;
+                let to = to.clone_in(alloc)?;
+                Ok(ParameterForm::Collection(*keys, from, to))
             }
         }
     }

@@ -22,6 +22,22 @@ const WATCHED: &[u8] =
 /// The network gives a number, and its header a truth.
 const OUTPUT: &[u8] = b"network 1;\ntemplate main(): Int ~> Bool = identity;\n";
 
+/// An argument is a truth, and its parameter a number.
+const ARGUMENT: &[u8] =
+    b"network 1;\ntemplate a(n: Int): Int ~> Int = constant n;\ntemplate main(): Int ~> Int = a(true);\n";
+
+/// A process gives truths, and the one of its parameter numbers.
+const PROCESS: &[u8] =
+    b"network 1;\ntemplate a(f: Int ~> Int): Int ~> Int = run f;\ntemplate main(): Int ~> Int = a(sf arr x => (x < 1));\n";
+
+/// A member gives truths, and those that it stands with numbers.
+const MEMBER: &[u8] =
+    b"network 1;\ntemplate main(): Int ~> Table Int = parB add(empty Int, 1, arr x => (x < 1));\n";
+
+/// A process stands for a value.
+const OTHER_SORT: &[u8] =
+    b"network 1;\ntemplate a(n: Int): Int ~> Int = constant n;\ntemplate main(): Int ~> Int = a(sf identity);\n";
+
 /// The name stands for nothing.
 const UNKNOWN: &[u8] = b"network 1;\ntemplate main(): Int ~> Int = run k;\n";
 
@@ -54,7 +70,7 @@ fn wants_exactly(told: &Difference, ty: &Ty) -> bool {
 #[test]
 fn a_difference_says_what_was_found_and_what_is_wanted(rt: HostRuntime) -> Result<(), Fail> {
     let alloc = rt.alloc();
-    for network in [STAGE, OPERAND] {
+    for network in [STAGE, OPERAND, ARGUMENT, PROCESS, MEMBER] {
         let told = told(alloc, network)?;
         assert!(rt; same_type(&told.found, &Ty::bool()));
         assert!(rt; wants_exactly(&told, &Ty::int()));
@@ -73,12 +89,10 @@ fn a_difference_says_what_was_found_and_what_is_wanted(rt: HostRuntime) -> Resul
 #[test]
 fn a_difference_stands_where_the_form_does(rt: HostRuntime) -> Result<(), Fail> {
     let alloc = rt.alloc();
-    let told = told(alloc, OUTPUT)?;
-    let place = Spot {
-        line: 2,
-        column: 32,
-    };
-    assert_eq!(rt; told.spot, place);
+    for (network, line, column) in [(OUTPUT, 2, 32), (ARGUMENT, 3, 31)] {
+        let told = told(alloc, network)?;
+        assert_eq!(rt; told.spot, Spot { line, column });
+    }
     Ok(())
 }
 
@@ -86,7 +100,7 @@ fn a_difference_stands_where_the_form_does(rt: HostRuntime) -> Result<(), Fail> 
 fn nothing_differs_where_another_rule_is_broken_or_none(rt: HostRuntime) -> Result<(), Fail> {
     let alloc = rt.alloc();
     let functions = Registry::new(alloc);
-    for network in [UNKNOWN, ACCEPTED] {
+    for network in [UNKNOWN, OTHER_SORT, ACCEPTED] {
         let program = read_network(alloc, network)?;
         assert!(rt; difference(alloc, &program, &functions)?.is_none());
     }

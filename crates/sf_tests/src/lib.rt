@@ -9,8 +9,6 @@ mod accepting;
 #[cfg(test)]
 mod calling;
 #[cfg(test)]
-mod collecting;
-#[cfg(test)]
 mod differing;
 #[cfg(test)]
 mod evaluating;

@@ -24,6 +24,18 @@ const RECURRING: &[u8] =
 const KEEPING: &[u8] =
     b"network 1;\ntemplate main(): Int ~> Int = kSwitch((iPre 7 >>> identity), after 2000 (), kept, _ => iPre 8);\n";
 
+/// Two delays as a member of a collection, whose output is looked up.
+const MEMBERS: &[u8] =
+    b"network 1;\ntemplate main(): Int ~> Int = (parB add(empty Int, 1, (iPre 7 >>> iPre 8)) >>> arr t => fromEvent(get(t, 1), 0));\n";
+
+/// The same, which gives way to another member in the third sample.
+const GIVING_WAY: &[u8] =
+    b"network 1;\ntemplate main(): Int ~> Int = (pSwitchB(add(empty Int, 1, (iPre 7 >>> iPre 8)), after 2000 (), kept, _ => parB add(use kept, 2, iPre 8)) >>> arr t => fromEvent(get(t, 1), 0));\n";
+
+/// The same, which is edited in each sample, and goes on.
+const EDITED: &[u8] =
+    b"network 1;\ntemplate main(): Int ~> Int = ((identity &&& constant event ()) >>> (rpSwitchB(add(empty Int, 1, (iPre 7 >>> iPre 8)), kept, _ => use kept) >>> arr t => fromEvent(get(t, 1), 0)));\n";
+
 /// How many owners a state's node has.
 fn owners(state: &State) -> usize {
     match state {
@@ -182,9 +194,17 @@ fn a_renewed_state_goes_on_by_itself(rt: HostRuntime) -> Result<(), Fail> {
 #[test]
 fn a_shared_state_and_a_copy_share(rt: HostRuntime) -> Result<(), Fail> {
     let alloc = rt.alloc();
-    // The first gives 8, 7, 5, the others 7, 5, 8. A step that is refused for want of memory leaves the shared state as it
+    // Two delays, as members too, give 8, 7, 5, the others 7, 5, 8. A step that is refused for want of memory leaves the shared state as it
     // was. After a sample without an event a source that was held back has nodes of its own.
-    for (network, second) in [(DELAYS, 7), (SWITCH, 5), (RECURRING, 5), (KEEPING, 5)] {
+    for (network, second) in [
+        (DELAYS, 7),
+        (SWITCH, 5),
+        (RECURRING, 5),
+        (KEEPING, 5),
+        (MEMBERS, 7),
+        (GIVING_WAY, 7),
+        (EDITED, 7),
+    ] {
         let again = network_gives_again(alloc, network)?;
         assert!(rt; is_or_refused(&again.running, second) && is_or_refused(&again.resumed, second));
         assert!(rt; again.running.is_ok() || again.resumed.is_ok());

@@ -18,9 +18,9 @@ use Rattle.sf_term.specs.Parameters.{PlacedParameter, Bindings, binding_of, para
 use Rattle.sf_term.specs.Names.{AreNamed}
 use Rattle.sf_term.specs.Trees.{Arguments, no_arguments, terms_in_arguments, expressions_in_arguments}
 use Rattle.sf_term.specs.Arena.{HoldsArgument, arguments_of, term_count, expression_count, KeepsProgram}
-use Rattle.sf_term.proofs.Kept.{keeps_trans}
+use Rattle.sf_term.proofs.Kept.{keeps_trans, collection_at_kept}
 use Rattle.sf_grammar.specs.declared.ty.Version.{Version}
-use Rattle.sf_grammar.specs.Reading.{Read, got, stop, ◌and_then◌, Counts, Actual, actual_value, actual_process, with_actual, counts_with_actual, further_from, parse_further, parse_separator, parse_parameter, parse_parameters, parse_argument, parse_arguments, parse_term}
+use Rattle.sf_grammar.specs.Reading.{Read, got, stop, ◌and_then◌, Counts, Actual, actual_value, actual_process, actual_collection, with_actual, counts_with_actual, further_from, parse_further, parse_separator, parse_parameter, parse_parameters, parse_argument, parse_arguments, parse_term, parse_collection}
 use Rattle.sf_grammar.specs.Placing.{ParameterPlaced, EachParameterPlaced, no_parameter_placed, parameter_placed, ArgumentPlaced, EachArgumentPlaced, no_argument_placed, argument_placed}
 use Rattle.sf_parse.specs.declared.stop.Stop.{Stop}
 use Rattle.sf_parse.specs.declared.stop.Stop.TheVariants.{At, Memory}
@@ -183,10 +183,12 @@ before_more (b ∷ bs) a vs = ap (with_actual b) (before_more bs a vs)
 terms_with : (a : Actual) (vs : Arguments) → terms_in_arguments (with_actual a vs) ≡ terms_in_arguments (with_actual a no_arguments) + terms_in_arguments vs
 terms_with (actual_value e) vs = omega arith
 terms_with (actual_process t) vs = omega arith
+terms_with (actual_collection i) vs = omega arith
 
 expressions_with : (a : Actual) (vs : Arguments) → expressions_in_arguments (with_actual a vs) ≡ expressions_in_arguments (with_actual a no_arguments) + expressions_in_arguments vs
 expressions_with (actual_value e) vs = omega arith
 expressions_with (actual_process t) vs = omega arith
+expressions_with (actual_collection i) vs = omega arith
 
 terms_before : (bs : List Actual) (vs : Arguments) → terms_in_arguments (arguments_before bs vs) ≡ terms_in_arguments (arguments_before bs no_arguments) + terms_in_arguments vs
 terms_before [] vs = omega arith
@@ -204,6 +206,7 @@ counts_behind : (one two : Program) (a : Actual) → term_count two ≡ term_cou
     → counts_of two ≡ counts_with_actual (counts_of one) a
 counts_behind one two (actual_value e) terms expressions = counts_same (counts_of two) (counts_with_actual (counts_of one) (actual_value e)) (omega (arith, terms)) (omega (arith, expressions))
 counts_behind one two (actual_process t) terms expressions = counts_same (counts_of two) (counts_with_actual (counts_of one) (actual_process t)) (omega (arith, terms)) (omega (arith, expressions))
+counts_behind one two (actual_collection i) terms expressions = counts_same (counts_of two) (counts_with_actual (counts_of one) (actual_collection i)) (omega (arith, terms)) (omega (arith, expressions))
 
 -- further arguments behind these
 abbrev arguments_behind : List Actual → Read Arguments → Read Arguments
@@ -219,13 +222,13 @@ more_behind bs a (stop fault at) = refl
 
 -- these arguments were read and further ones follow, so many at most; or they are all
 abbrev ArgumentsSo : Version → ℕ → Counts → Counts → List Tok → ℕ → List Actual → Bool → List Tok → Type 0
-ArgumentsSo v d c k tokens n bs true rest = parse_arguments (suc (length tokens)) d v (parse_term d v) c tokens ≡ arguments_behind bs (parse_arguments n d v (parse_term d v) k rest)
-ArgumentsSo v d c k tokens n bs false rest = parse_arguments (suc (length tokens)) d v (parse_term d v) c tokens ≡ got (arguments_before bs no_arguments) rest
+ArgumentsSo v d c k tokens n bs true rest = parse_arguments (suc (length tokens)) d v (parse_term d v) (parse_collection d v) c tokens ≡ arguments_behind bs (parse_arguments n d v (parse_term d v) (parse_collection d v) k rest)
+ArgumentsSo v d c k tokens n bs false rest = parse_arguments (suc (length tokens)) d v (parse_term d v) (parse_collection d v) c tokens ≡ got (arguments_before bs no_arguments) rest
 
 arguments_so_more : (v : Version) (d : ℕ) (c k : Counts) (tokens rest r1 r2 : List Tok) (n : ℕ) (bs : List Actual) (a : Actual) (more : Bool) → ArgumentsSo v d c k tokens (suc n) bs true rest
-    → parse_argument d v (parse_term d v) k rest ≡ got a r1 → parse_separator r1 ≡ got more r2 → ArgumentsSo v d c (counts_with_actual k a) tokens n (bs ++ a ∷ []) more r2
+    → parse_argument d v (parse_term d v) (parse_collection d v) k rest ≡ got a r1 → parse_separator r1 ≡ got more r2 → ArgumentsSo v d c (counts_with_actual k a) tokens n (bs ++ a ∷ []) more r2
 unfolding parse_arguments
-arguments_so_more v d c k tokens rest r1 r2 n bs a true so one separator = so ∙ rw (one, separator) (more_behind bs a (parse_arguments n d v (parse_term d v) (counts_with_actual k a) r2))
+arguments_so_more v d c k tokens rest r1 r2 n bs a true so one separator = so ∙ rw (one, separator) (more_behind bs a (parse_arguments n d v (parse_term d v) (parse_collection d v) (counts_with_actual k a) r2))
 arguments_so_more v d c k tokens rest r1 r2 n bs a false so one separator = so ∙ rw (one, separator) (ap (λ (vs : Arguments). got vs r2) (sym (before_more bs a no_arguments)))
 
 -- arguments were read into the program from the first of the tokens on, and whether further ones follow
@@ -248,7 +251,7 @@ no_arguments_read v d p tokens =
       most = suc (length (toks tokens));
       values = [];
       same = refl;
-      so = none_behind (parse_arguments (suc (length (toks tokens))) d v (parse_term d v) (counts_of p) (toks tokens));
+      so = none_behind (parse_arguments (suc (length (toks tokens))) d v (parse_term d v) (parse_collection d v) (counts_of p) (toks tokens));
       enough = omega arith;
       some = λ same. cc;
       held = All-nil (HoldsArgument p);
@@ -262,6 +265,9 @@ no_arguments_read v d p tokens =
 argument_stays : (one two : Program) → KeepsProgram one two → (b : Argument) → HoldsArgument one b → HoldsArgument two b × (actual_of two b ≡ actual_of one b)
 argument_stays one two k (arguments.Value e) held = (k.trees.expressions e held, ap actual_value (k.trees.values e held))
 argument_stays one two k (arguments.Process t) held = (k.trees.terms t held, ap actual_process (k.trees.trees t held))
+argument_stays one two k (arguments.Collection i) held =
+    let stays = collection_at_kept one two i k.trees held in
+    (stays.1, ap actual_collection stays.0)
 
 record ArgumentsStay (one two : Program) (bs : List Argument) : Type 0 where
   pub held : All (HoldsArgument two) bs
@@ -281,7 +287,7 @@ each_argument_more v p bs b xs ys at (argument_placed {bs = cs} {xs = front} {ys
 
 -- one argument more
 argument_more : (v : Version) (d : ℕ) (old one two : Program) (tokens : List PlacedToken) (rest r1 r2 : List Tok) (s0 s1 s2 : List Spot) (bs : List Argument) (b : Argument) (more : Bool) → ReadArguments v d old one tokens bs true rest s0
-    → FoundArgument one two b r1 (parse_argument d v (parse_term d v) (counts_of one) rest) → Consumes (ArgumentPlaced v two b) s0 s1
+    → FoundArgument one two b r1 (parse_argument d v (parse_term d v) (parse_collection d v) (counts_of one) rest) → Consumes (ArgumentPlaced v two b) s0 s1
     → parse_separator r1 ≡ got more r2 → BehindOne s1 s2 → length r2 < length rest → ReadArguments v d old two tokens (bs ++ b ∷ []) more r2 s2
 argument_more v d old one two tokens rest r1 r2 s0 s1 s2 bs b more read f placed separator behind shorter = from read.most read.so read.enough
   where
@@ -311,32 +317,32 @@ argument_more v d old one two tokens rest r1 r2 s0 s1 s2 bs b more read f placed
       placed = part_consumed read.placed placed behind (λ xs ys x y. each_argument_more v two bs b xs ys behind.at (each_argument_keeps v one two f.kept.trees bs xs x) y);
     }
 
-argument_stops_so : (v : Version) (d n : ℕ) (c : Counts) (e : Stop) (rest : List Tok) → StopsReading e (parse_argument d v (parse_term d v) c rest) → StopsReading e (parse_arguments (suc n) d v (parse_term d v) c rest)
+argument_stops_so : (v : Version) (d n : ℕ) (c : Counts) (e : Stop) (rest : List Tok) → StopsReading e (parse_argument d v (parse_term d v) (parse_collection d v) c rest) → StopsReading e (parse_arguments (suc n) d v (parse_term d v) (parse_collection d v) c rest)
 unfolding parse_arguments
-argument_stops_so v d n c e rest stops = stops_within e (parse_argument d v (parse_term d v) c rest) (λ a rest. parse_further no_arguments (parse_arguments n d v (parse_term d v) (counts_with_actual c a)) rest and_then λ vs rest. got (with_actual a vs) rest) stops
+argument_stops_so v d n c e rest stops = stops_within e (parse_argument d v (parse_term d v) (parse_collection d v) c rest) (λ a rest. parse_further no_arguments (parse_arguments n d v (parse_term d v) (parse_collection d v) (counts_with_actual c a)) rest and_then λ vs rest. got (with_actual a vs) rest) stops
 
 -- reading stops within a further argument
 pub argument_stops : (v : Version) (d : ℕ) (old one : Program) (tokens : List PlacedToken) (rest : List Tok) (spots : List Spot) (bs : List Argument) (e : Stop) → ReadArguments v d old one tokens bs true rest spots
-    → StopsReading e (parse_argument d v (parse_term d v) (counts_of one) rest) → StopsReading e (parse_arguments (suc (length (toks tokens))) d v (parse_term d v) (counts_of old) (toks tokens))
+    → StopsReading e (parse_argument d v (parse_term d v) (parse_collection d v) (counts_of one) rest) → StopsReading e (parse_arguments (suc (length (toks tokens))) d v (parse_term d v) (parse_collection d v) (counts_of old) (toks tokens))
 argument_stops v d old one tokens rest spots bs e read stops = from read.most read.so read.enough
   where
-    from : (n : ℕ) → ArgumentsSo v d (counts_of old) (counts_of one) (toks tokens) n read.values true rest → length rest < n → StopsReading e (parse_arguments (suc (length (toks tokens))) d v (parse_term d v) (counts_of old) (toks tokens))
+    from : (n : ℕ) → ArgumentsSo v d (counts_of old) (counts_of one) (toks tokens) n read.values true rest → length rest < n → StopsReading e (parse_arguments (suc (length (toks tokens))) d v (parse_term d v) (parse_collection d v) (counts_of old) (toks tokens))
     from zero so enough = absurd (omega arith)
-    from (suc n) so enough = subst (λ (r : Read Arguments). StopsReading e r) (sym so) (stops_within e (parse_arguments (suc n) d v (parse_term d v) (counts_of one) rest) (λ vs rest. got (arguments_before read.values vs) rest) (argument_stops_so v d n (counts_of one) e rest stops))
+    from (suc n) so enough = subst (λ (r : Read Arguments). StopsReading e r) (sym so) (stops_within e (parse_arguments (suc n) d v (parse_term d v) (parse_collection d v) (counts_of one) rest) (λ vs rest. got (arguments_before read.values vs) rest) (argument_stops_so v d n (counts_of one) e rest stops))
 
-argument_stops_behind : (v : Version) (d n : ℕ) (c : Counts) (e : Stop) (rest r1 : List Tok) (a : Actual) → parse_argument d v (parse_term d v) c rest ≡ got a r1 → StopsReading e (parse_separator r1) → StopsReading e (parse_arguments (suc n) d v (parse_term d v) c rest)
+argument_stops_behind : (v : Version) (d n : ℕ) (c : Counts) (e : Stop) (rest r1 : List Tok) (a : Actual) → parse_argument d v (parse_term d v) (parse_collection d v) c rest ≡ got a r1 → StopsReading e (parse_separator r1) → StopsReading e (parse_arguments (suc n) d v (parse_term d v) (parse_collection d v) c rest)
 unfolding parse_arguments
-argument_stops_behind v d n c e rest r1 a is stops = rw is (stops_within e (parse_further no_arguments (parse_arguments n d v (parse_term d v) (counts_with_actual c a)) r1) (λ vs rest. got (with_actual a vs) rest)
-    (stops_within e (parse_separator r1) (λ more rest. further_from no_arguments (parse_arguments n d v (parse_term d v) (counts_with_actual c a)) more rest) stops))
+argument_stops_behind v d n c e rest r1 a is stops = rw is (stops_within e (parse_further no_arguments (parse_arguments n d v (parse_term d v) (parse_collection d v) (counts_with_actual c a)) r1) (λ vs rest. got (with_actual a vs) rest)
+    (stops_within e (parse_separator r1) (λ more rest. further_from no_arguments (parse_arguments n d v (parse_term d v) (parse_collection d v) (counts_with_actual c a)) more rest) stops))
 
 -- reading stops behind a further argument
 pub argument_separator_stops : (v : Version) (d : ℕ) (old one : Program) (tokens : List PlacedToken) (rest r1 : List Tok) (spots : List Spot) (bs : List Argument) (a : Actual) (e : Stop) → ReadArguments v d old one tokens bs true rest spots
-    → parse_argument d v (parse_term d v) (counts_of one) rest ≡ got a r1 → StopsReading e (parse_separator r1) → StopsReading e (parse_arguments (suc (length (toks tokens))) d v (parse_term d v) (counts_of old) (toks tokens))
+    → parse_argument d v (parse_term d v) (parse_collection d v) (counts_of one) rest ≡ got a r1 → StopsReading e (parse_separator r1) → StopsReading e (parse_arguments (suc (length (toks tokens))) d v (parse_term d v) (parse_collection d v) (counts_of old) (toks tokens))
 argument_separator_stops v d old one tokens rest r1 spots bs a e read is stops = from read.most read.so read.enough
   where
-    from : (n : ℕ) → ArgumentsSo v d (counts_of old) (counts_of one) (toks tokens) n read.values true rest → length rest < n → StopsReading e (parse_arguments (suc (length (toks tokens))) d v (parse_term d v) (counts_of old) (toks tokens))
+    from : (n : ℕ) → ArgumentsSo v d (counts_of old) (counts_of one) (toks tokens) n read.values true rest → length rest < n → StopsReading e (parse_arguments (suc (length (toks tokens))) d v (parse_term d v) (parse_collection d v) (counts_of old) (toks tokens))
     from zero so enough = absurd (omega arith)
-    from (suc n) so enough = subst (λ (r : Read Arguments). StopsReading e r) (sym so) (stops_within e (parse_arguments (suc n) d v (parse_term d v) (counts_of one) rest) (λ vs rest. got (arguments_before read.values vs) rest) (argument_stops_behind v d n (counts_of one) e rest r1 a is stops))
+    from (suc n) so enough = subst (λ (r : Read Arguments). StopsReading e r) (sym so) (stops_within e (parse_arguments (suc n) d v (parse_term d v) (parse_collection d v) (counts_of one) rest) (λ vs rest. got (arguments_before read.values vs) rest) (argument_stops_behind v d n (counts_of one) e rest r1 a is stops))
 
 -- further ones follow
 pub arguments_go_on : {v : Version} {d : ℕ} {old new : Program} {tokens : List PlacedToken} {bs : List Argument} {more : Bool} {rest : List Tok} {spots : List Spot} → more ≡ true
@@ -346,7 +352,7 @@ arguments_go_on {v} {d} {old} {new} {tokens} {bs} {more} {rest} {spots} going re
 -- one argument more, up to these tokens
 pub next_argument : (v : Version) (d : ℕ) (old : Program) (tokens : List PlacedToken) (now after : Reader) (behind : Cursor) (bs : List Argument) (b : Argument) (more : Bool)
     → ReadArguments v d old now.program tokens bs true (ahead now.cursor) (spots_ahead now.cursor)
-    → FoundArgument now.program after.program b (ahead after.cursor) (parse_argument d v (parse_term d v) (counts_of now.program) (ahead now.cursor)) → Consumes (ArgumentPlaced v after.program b) (spots_ahead now.cursor) (spots_ahead after.cursor)
+    → FoundArgument now.program after.program b (ahead after.cursor) (parse_argument d v (parse_term d v) (parse_collection d v) (counts_of now.program) (ahead now.cursor)) → Consumes (ArgumentPlaced v after.program b) (spots_ahead now.cursor) (spots_ahead after.cursor)
     → parse_separator (ahead after.cursor) ≡ got more (ahead behind) → BehindOne (spots_ahead after.cursor) (spots_ahead behind) → ReadArguments v d old after.program tokens (bs ++ b ∷ []) more (ahead behind) (spots_ahead behind)
 next_argument v d old tokens now after behind bs b more read found placed separator one =
     argument_more v d old now.program after.program tokens (ahead now.cursor) (ahead after.cursor) (ahead behind) (spots_ahead now.cursor) (spots_ahead after.cursor) (spots_ahead behind) bs b more read
@@ -356,10 +362,11 @@ arguments_so : (p : Program) (bs : List Argument) → arguments_of p bs ≡ argu
 arguments_so p [] = refl
 arguments_so p (arguments.Value e ∷ bs) = ap (with_actual (actual_of p (arguments.Value e))) (arguments_so p bs)
 arguments_so p (arguments.Process t ∷ bs) = ap (with_actual (actual_of p (arguments.Process t))) (arguments_so p bs)
+arguments_so p (arguments.Collection i ∷ bs) = ap (with_actual (actual_of p (arguments.Collection i))) (arguments_so p bs)
 
 -- all arguments were read
 pub record AllArguments (v : Version) (d : ℕ) (old new : Program) (tokens : List PlacedToken) (bs : List Argument) (rest : List PlacedToken) : Type 0 where
-  pub found : FoundArguments old new bs (toks rest) (parse_arguments (suc (length (toks tokens))) d v (parse_term d v) (counts_of old) (toks tokens))
+  pub found : FoundArguments old new bs (toks rest) (parse_arguments (suc (length (toks tokens))) d v (parse_term d v) (parse_collection d v) (counts_of old) (toks tokens))
   pub some : bs ≢ []
   pub placed : Consumes (EachArgumentPlaced v new bs) (places tokens) (places rest)
 

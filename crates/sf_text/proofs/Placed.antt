@@ -2,6 +2,7 @@
 use Rattle.std.proofs.Common.{◌≡◌, ◌≢◌, ℕ, suc, false, List, [], ◌∷◌, ◌++◌, length, map, Result, Ok, Err, refl, sym, ◌∙◌, ap, append_assoc, subst, ℤ}
 use Rattle.std.specs.Prelude.{IfOk, Vec}
 use Rattle.std.specs.declared.alloc.Global.{Global}
+use Rattle.std.specs.declared.rc.Rc.{Rc}
 use Rattle.sf_parse.specs.declared.stop.Stop.{Stop}
 use mathlib.Core.Path.{ap₂}
 use Rattle.std.proofs.lemmas.List.{append-nil}
@@ -27,6 +28,9 @@ use Rattle.sf_term.specs.declared.form.Observation.{Observation}
 use Rattle.sf_term.specs.declared.form.Switching.{Switching}
 use Rattle.sf_term.specs.declared.form.Naming.{Naming}
 use Rattle.sf_term.specs.declared.form.Naming.TheVariants as namings
+use Rattle.sf_term.specs.declared.collection.CollectionId.{CollectionId}
+use Rattle.sf_term.specs.declared.collection.CollExpr.{CollExpr}
+use Rattle.sf_term.specs.declared.collection.CollExpr.TheVariants as collections
 use Rattle.sf_term.specs.declared.node.TermId.{TermId}
 use Rattle.sf_term.specs.declared.node.ArgumentsId.{ArgumentsId}
 use Rattle.sf_term.specs.declared.node.Argument.{Argument}
@@ -39,24 +43,27 @@ use Rattle.sf_term.specs.declared.node.Node.TheVariants as nodes
 use Rattle.sf_term.specs.declared.program.Program.{Program}
 use Rattle.sf_term.specs.Trees.{Term, headed, primitive, never}
 use Rattle.sf_term.specs.Headers.{Header}
-use Rattle.sf_term.specs.Arena.{KeepsTrees, KeepsProgram, HoldsTerm, HoldsTermParts, HoldsPatternIn, HoldsArguments, tree, term_of, term_entry_of, term_node_at, expression_under, pattern_under, arguments_under, AddsTerm, AddsTemplate, template_in}
-use Rattle.sf_term.proofs.Kept.{keeps_trees_trans, node_builds, parts_held}
-use Rattle.sf_value.specs.Values.{Kind}
+use Rattle.sf_term.specs.Arena.{KeepsTrees, KeepsProgram, HoldsCollection, collection_under, AddsCollection, AddsUsed, HoldsTerm, HoldsTermParts, HoldsPatternIn, HoldsArguments, tree, term_of, term_entry_of, term_node_at, expression_under, pattern_under, arguments_under, AddsTerm, AddsTemplate, template_in}
+use Rattle.sf_term.proofs.Kept.{keeps_trees_trans, unchanged_keeps, node_builds, parts_held}
+use Rattle.sf_value.specs.Values.{Name, Kind}
+use Rattle.sf_value.specs.KindView.{key_kind_of}
+use Rattle.sf_value.specs.declared.ty.KeyType.{KeyType}
 use Rattle.sf_lex.specs.Tokens.{Tok, Located, seen, shown, place_at, symbol}
 use Rattle.sf_lex.specs.Cutting.{AreTokensOf}
 use Rattle.sf_lex.specs.declared.symbol.Symbol.TheVariants as symbols
 use Rattle.sf_grammar.specs.declared.ty.Version.{Version}
-use Rattle.sf_grammar.specs.Spelling.{stands_initially, head_makes, spell_type, spell_parameter, spell_signature, spell_term}
-use Rattle.sf_grammar.specs.Reading.{got, parse_inner_type, parse_parameter, parse_signature}
+use Rattle.sf_grammar.specs.Spelling.{stands_initially, head_makes, spell_keys, spell_type, spell_parameter, spell_signature, spell_term}
+use Rattle.sf_grammar.specs.Reading.{got, parse_keys, parse_inner_type, parse_parameter, parse_signature}
 use Rattle.sf_parse.specs.Answers.{toks}
+use Rattle.sf_grammar.proofs.Parts.{TookKeys, keys_takes}
 use Rattle.sf_grammar.proofs.Takes.{TookType, inner_type_takes, parameter_takes, TookSignature, signature_takes}
 use Rattle.sf_lex.specs.declared.token.PlacedToken.{PlacedToken}
-use Rattle.sf_grammar.specs.Placing.{around, PatternPlaced, ExpressionPlaced, FunctionPlaced, TermStands, TermPlaced, bare_placed, never_placed, with_value_placed, initialized_placed, timed_placed, selected_placed, arrow_placed, accumulated_placed, joined_placed, sided_placed, headed_placed, transformed_placed, switching_placed, named_placed, keeping_placed, call_placed, ArgumentsPlaced, no_arguments_placed, some_arguments_placed, EachArgumentPlaced, no_argument_placed, argument_placed, ArgumentPlaced, value_argument_placed, process_argument_placed, ParameterPlaced, EachParameterPlaced, ParametersPlaced, no_parameters_placed, some_parameters_placed, TemplatePlaced, TemplatesPlaced, none_placed, template_placed, NetworkPlaced, IsPlacedIn}
+use Rattle.sf_grammar.specs.Placing.{around, PatternPlaced, ExpressionPlaced, FunctionPlaced, TermStands, TermPlaced, bare_placed, never_placed, with_value_placed, initialized_placed, timed_placed, selected_placed, arrow_placed, accumulated_placed, joined_placed, sided_placed, headed_placed, transformed_placed, switching_placed, named_placed, keeping_placed, gathered_placed, releasing_placed, editing_placed, CollectionPlaced, empty_placed, used_placed, added_placed, dropped_placed, kept_placed, chosen_placed, call_placed, ArgumentsPlaced, no_arguments_placed, some_arguments_placed, EachArgumentPlaced, no_argument_placed, argument_placed, ArgumentPlaced, value_argument_placed, process_argument_placed, collection_argument_placed, ParameterPlaced, EachParameterPlaced, ParametersPlaced, no_parameters_placed, some_parameters_placed, TemplatePlaced, TemplatesPlaced, none_placed, template_placed, NetworkPlaced, IsPlacedIn}
 use Rattle.sf_text.specs.Progress.{IsSpelled}
 use Rattle.sf_text.proofs.Whole.{toks_same}
 use Rattle.sf_parse.specs.Consuming.{places, BehindOne, BehindSome, NamePlaced, Consumes, Parted}
-use Rattle.sf_text.specs.Consuming.{headed_node, HeadingPlaced, PlacesTemplate}
-use Rattle.sf_parse.proofs.Placed.{pattern_stays, expression_keeps, function_keeps, behind_first, in_brackets_read, behind_opening, parted, pattern_stands, front_counted}
+use Rattle.sf_text.specs.Consuming.{MembersPlaced, headed_node, HeadingPlaced, PlacesTemplate}
+use Rattle.sf_parse.proofs.Placed.{some_more, pattern_stays, expression_keeps, function_keeps, behind_first, in_brackets_read, behind_opening, parted, pattern_stands, front_counted}
 
 term_stays : (old new : Program) → KeepsTrees old new → (id : TermId) (n : Node) (at : Spot) → TermStands old id n at → TermStands new id n at
 term_stays old new k id n at s = record { held = k.terms id s.held; node = k.nodes id s.held ∙ s.node; spot = k.spots id s.held ∙ s.spot }
@@ -65,6 +72,10 @@ term_stays old new k id n at s = record { held = k.terms id s.held; node = k.nod
 arguments_held : (p : Program) (id : TermId) (g : NameId) (a : ArgumentsId) → HoldsTerm p id → term_node_at p id ≡ nodes.Call g a → HoldsArguments p a
 unfolding term_node_at term_entry_of
 arguments_held p id g a held is = let parts : HoldsTermParts p (nodes.Call g a) = subst (HoldsTermParts p) is (parts_held p id) in parts.1
+
+-- the collection at an id, which is there as it was
+members_at : (v : Version) (old new : Program) → KeepsTrees old new → (i : CollectionId) (xs : List Spot) → HoldsCollection old i → CollectionPlaced v new (collection_under old i) xs → CollectionPlaced v new (collection_under new i) xs
+members_at v old new k i xs held placed = subst (λ (c : CollExpr). CollectionPlaced v new c xs) (sym (k.collections i held)) placed
 
 mutual
   pub term_keeps : (v : Version) (old new : Program) → KeepsTrees old new → (id : TermId) (xs : List Spot) → TermPlaced v old id xs → TermPlaced v new id xs
@@ -91,8 +102,26 @@ mutual
   term_keeps v old new k id xs (named_placed s) = named_placed (term_stays old new k _ _ _ s)
   term_keeps v old new k id xs (keeping_placed opening comma second third leads closing s source observer pattern body) =
       keeping_placed opening comma second third leads closing (term_stays old new k _ _ _ s) (term_keeps v old new k _ _ source) (term_keeps v old new k _ _ observer) (pattern_stays old new k _ _ pattern) (term_keeps v old new k _ _ body)
+  term_keeps v old new k id xs (gathered_placed {i = i} s held members) =
+      gathered_placed (term_stays old new k _ _ _ s) (k.holds_collections i held) (members_at v old new k i _ held (collection_keeps v old new k _ _ members))
+  term_keeps v old new k id xs (releasing_placed {n = n} opening comma second third leads closing s held members observer pattern body) =
+      releasing_placed opening comma second third leads closing (term_stays old new k _ _ _ s) (k.holds_collections n.members held) (members_at v old new k n.members _ held (collection_keeps v old new k _ _ members))
+      (term_keeps v old new k _ _ observer) (pattern_stays old new k _ _ pattern) (term_keeps v old new k _ _ body)
+  term_keeps v old new k id xs (editing_placed {n = n} opening comma second leads closing s held members pattern there edit) =
+      editing_placed opening comma second leads closing (term_stays old new k _ _ _ s) (k.holds_collections n.members held) (members_at v old new k n.members _ held (collection_keeps v old new k _ _ members))
+      (pattern_stays old new k _ _ pattern) (k.holds_collections n.edit there) (members_at v old new k n.edit _ there (collection_keeps v old new k _ _ edit))
   term_keeps v old new k id xs (call_placed {g = g} {a = a} {xs = ys} opening s actuals) =
       call_placed opening (term_stays old new k _ _ _ s) (subst (λ (bs : List Argument). ArgumentsPlaced v new bs ys) (sym (k.arguments a (arguments_held old id g a s.held s.node))) (arguments_keep v old new k (arguments_under old a) ys actuals))
+
+  pub collection_keeps : (v : Version) (old new : Program) → KeepsTrees old new → (c : CollExpr) (xs : List Spot) → CollectionPlaced v old c xs → CollectionPlaced v new c xs
+  collection_keeps v old new k c xs (empty_placed counted) = empty_placed counted
+  collection_keeps v old new k c xs used_placed = used_placed
+  collection_keeps v old new k c xs (added_placed opening comma second closing others key member) =
+      added_placed opening comma second closing (collection_keeps v old new k _ _ others) (expression_keeps v old new k _ _ key) (term_keeps v old new k _ _ member)
+  collection_keeps v old new k c xs (dropped_placed opening comma closing others key) = dropped_placed opening comma closing (collection_keeps v old new k _ _ others) (expression_keeps v old new k _ _ key)
+  collection_keeps v old new k c xs (kept_placed opening comma closing others function) = kept_placed opening comma closing (collection_keeps v old new k _ _ others) (function_keeps v old new k _ _ function)
+  collection_keeps v old new k c xs (chosen_placed then_at else_at condition one two) =
+      chosen_placed then_at else_at (expression_keeps v old new k _ _ condition) (collection_keeps v old new k _ _ one) (collection_keeps v old new k _ _ two)
 
   pub arguments_keep : (v : Version) (old new : Program) → KeepsTrees old new → (bs : List Argument) (xs : List Spot) → ArgumentsPlaced v old bs xs → ArgumentsPlaced v new bs xs
   arguments_keep v old new k bs xs (no_arguments_placed closing) = no_arguments_placed closing
@@ -105,6 +134,11 @@ mutual
   pub argument_keeps : (v : Version) (old new : Program) → KeepsTrees old new → (b : Argument) (xs : List Spot) → ArgumentPlaced v old b xs → ArgumentPlaced v new b xs
   argument_keeps v old new k b xs (value_argument_placed value) = value_argument_placed (expression_keeps v old new k _ _ value)
   argument_keeps v old new k b xs (process_argument_placed word part) = process_argument_placed word (term_keeps v old new k _ _ part)
+  argument_keeps v old new k b xs (collection_argument_placed {i = i} word held members) =
+      collection_argument_placed word (k.holds_collections i held) (members_at v old new k i _ held (collection_keeps v old new k _ _ members))
+
+members_keep : (v : Version) (old new : Program) → KeepsTrees old new → (i : CollectionId) (xs : List Spot) → MembersPlaced v old i xs → MembersPlaced v new i xs
+members_keep v old new k i xs m = record { held = k.holds_collections i m.held; placed = members_at v old new k i xs m.held (collection_keeps v old new k _ xs m.placed) }
 
 pub templates_keep : (v : Version) (old new : Program) → KeepsTrees old new → (hs : List Header) (xs : List Spot) → TemplatesPlaced v old hs xs → TemplatesPlaced v new hs xs
 templates_keep v old new k hs xs none_placed = none_placed
@@ -205,6 +239,9 @@ bare_places is (transformed_placed opening comma closing s function part) = absu
 bare_places is (switching_placed opening comma leads closing s source pattern body) = absurd (let e = sym s.node ∙ is in cc)
 bare_places is (named_placed s) = absurd (let e = sym s.node ∙ is in cc)
 bare_places is (keeping_placed opening comma second third leads closing s source observer pattern body) = absurd (let e = sym s.node ∙ is in cc)
+bare_places is (gathered_placed s held members) = absurd (let e = sym s.node ∙ is in cc)
+bare_places is (releasing_placed opening comma second third leads closing s held members observer pattern body) = absurd (let e = sym s.node ∙ is in cc)
+bare_places is (editing_placed opening comma second leads closing s held members pattern there edit) = absurd (let e = sym s.node ∙ is in cc)
 bare_places is (call_placed opening s actuals) = absurd (let e = sym s.node ∙ is in cc)
 
 -- what a head makes stands so, with these places of the value and the part
@@ -259,6 +296,128 @@ keeping_read {v} {one} {two} {three} {new} {id} {a} {b} {c} {w} {k} {p} {q} {t} 
     (parted (λ zs. TermPlaced v new id (spot ∷ around opening.at xs comma (observer.front ++ (second.at ∷ place ∷ third.at ∷ zs)) closing)) body.holds (λ leads ps zs placed z.
     keeping_placed opening.at comma second.at third.at leads closing (term_stands three new id _ t spot added) (stays a xs (term_keeps v two three L a xs (term_keeps v one two K a xs x)))
     (stays b observer.front (term_keeps v two three L b observer.front observer.holds)) (pattern_stands new q p ps there placed) (stays c zs z)))))
+
+-- ## Collections
+
+-- what stands of a collection that was read, once it is shared
+pub shared_placed : {v : Version} {p : Program} {c : CollExpr} {tokens rest : List Spot} (answer : Result (Rc CollExpr Global) Stop) → IfOk answer (λ r. r.value ≡ c) → Consumes (CollectionPlaced v p c) tokens rest
+    → IfOk answer (λ r. Consumes (CollectionPlaced v p r.value) tokens rest)
+shared_placed {v} {p} {c} {tokens} {rest} (Ok r) is placed = subst (λ (x : CollExpr). Consumes (CollectionPlaced v p x) tokens rest) (sym is) placed
+shared_placed (Err e) is placed = tt
+
+-- `empty`, and types behind it
+pub empty_read : {v : Version} {p : Program} {k : KeyType} {u : Kind} {at : Spot} (d : ℕ) (tokens middle rest : List PlacedToken) → parse_keys v (toks tokens) ≡ got (key_kind_of k) (toks middle)
+    → parse_inner_type d v (toks middle) 0 (toks middle) ≡ got u (toks rest) → BehindSome (places tokens) (places middle) → BehindSome (places middle) (places rest)
+    → Consumes (CollectionPlaced v p (collections.Empty k u at)) (at ∷ places tokens) (places rest)
+empty_read {v} {p} {k} {u} {at} d tokens middle rest keys values a b =
+    let key : TookKeys v (toks tokens) (key_kind_of k) (toks middle) = keys_takes v (toks tokens) (key_kind_of k) (toks middle) keys in
+    let took : TookType v d 0 (toks middle) u (toks rest) = inner_type_takes v d (toks middle) 0 (toks middle) u (toks rest) values in
+    let both : BehindSome (places tokens) (places rest) = some_more a b in
+    let spelled : toks tokens ≡ (spell_keys v (key_kind_of k) ++ spell_type v u) ++ toks rest =
+    key.spelled ∙ ap (λ ts. spell_keys v (key_kind_of k) ++ ts) took.spelled ∙ sym (append_assoc (spell_keys v (key_kind_of k)) (spell_type v u) (toks rest)) in
+    record {
+      front = at ∷ both.front;
+      split = ap (λ r. at ∷ r) both.split;
+      holds = empty_placed (ap suc (front_counted tokens rest both.front (spell_keys v (key_kind_of k) ++ spell_type v u) both.split spelled));
+    }
+
+-- `use`, and a name behind it
+pub used_read : {v : Version} {old new : Program} {c : CollExpr} {n : Name} {place at : Spot} {r rest : List Spot} → AddsUsed old new c n place at → NamePlaced place r rest → Consumes (CollectionPlaced v new c) (at ∷ r) rest
+used_read {v} {old} {new} {c} {n} {place} {at} added name = record {
+  front = at ∷ place ∷ [];
+  split = ap (λ ts. at ∷ ts) name.split;
+  holds = subst (λ (x : CollExpr). CollectionPlaced v new x (at ∷ place ∷ [])) (sym added.is) used_placed;
+}
+
+-- a collection, an expression and a term in brackets
+pub added_read : {v : Version} {one two three : Program} {a : _} {c : CollExpr} {e : ExprId} {t : TermId} {at : Spot} {r r0 r1 r2 r3 r4 r5 rest : List Spot} → KeepsTrees one two → KeepsTrees two three
+    → BehindOne r r0 → Consumes (CollectionPlaced v one c) r0 r1 → BehindOne r1 r2 → Consumes (ExpressionPlaced v two e) r2 r3 → BehindOne r3 r4 → Consumes (TermPlaced v three t) r4 r5 → BehindOne r5 rest
+    → Consumes (CollectionPlaced v three (collections.Added' a c e t at)) (at ∷ r) rest
+added_read {v} {one} {two} {three} {a} {c} {e} {t} {at} {r2 = r2} {r5 = r5} K L opening others comma key second member closing =
+    let behind : List Spot = key.front ++ (second.at ∷ member.front) in
+    let parts : Consumes (λ ts. ts ≡ behind) r2 r5 = record {
+      front = behind;
+      split = rw (key.split, second.split, member.split, append_assoc key.front (second.at ∷ member.front) r5) refl;
+      holds = refl;
+    } in
+    behind_opening opening (in_brackets_read others comma parts closing (λ comma closing xs ts x same.
+    subst (λ (ts : List Spot). CollectionPlaced v three (collections.Added' a c e t at) (at ∷ around opening.at xs comma ts closing)) (sym same)
+    (added_placed opening.at comma second.at closing (collection_keeps v two three L c xs (collection_keeps v one two K c xs x)) (expression_keeps v two three L e key.front key.holds) member.holds)))
+
+-- a collection and an expression in brackets
+pub dropped_read : {v : Version} {one two : Program} {a : _} {c : CollExpr} {e : ExprId} {at : Spot} {r r0 r1 r2 r3 rest : List Spot} → KeepsTrees one two → BehindOne r r0 → Consumes (CollectionPlaced v one c) r0 r1 → BehindOne r1 r2
+    → Consumes (ExpressionPlaced v two e) r2 r3 → BehindOne r3 rest → Consumes (CollectionPlaced v two (collections.Dropped' a c e at)) (at ∷ r) rest
+dropped_read {v} {one} {two} {a} {c} {e} {at} K opening others comma key closing =
+    behind_opening opening (in_brackets_read others comma key closing (λ comma closing xs ys p q. dropped_placed opening.at comma closing (collection_keeps v one two K c xs p) q))
+
+-- a collection and a function in brackets
+pub kept_read : {v : Version} {one two : Program} {a : _} {c : CollExpr} {f : FunctionId} {at : Spot} {r r0 r1 r2 r3 rest : List Spot} → KeepsTrees one two → BehindOne r r0 → Consumes (CollectionPlaced v one c) r0 r1 → BehindOne r1 r2
+    → Consumes (FunctionPlaced v two f) r2 r3 → BehindOne r3 rest → Consumes (CollectionPlaced v two (collections.Kept' a c f at)) (at ∷ r) rest
+kept_read {v} {one} {two} {a} {c} {f} {at} K opening others comma function closing =
+    behind_opening opening (in_brackets_read others comma function closing (λ comma closing xs ys p q. kept_placed opening.at comma closing (collection_keeps v one two K c xs p) q))
+
+-- an expression, and a collection behind each of two words
+pub chosen_read : {v : Version} {one two three : Program} {a b : _} {e : ExprId} {c x : CollExpr} {at : Spot} {r r1 r2 r3 r4 rest : List Spot} → KeepsTrees one two → KeepsTrees two three → Consumes (ExpressionPlaced v one e) r r1 → BehindOne r1 r2
+    → Consumes (CollectionPlaced v two c) r2 r3 → BehindOne r3 r4 → Consumes (CollectionPlaced v three x) r4 rest → Consumes (CollectionPlaced v three (collections.Chosen' e a c b x at)) (at ∷ r) rest
+chosen_read {v} {one} {two} {three} {a} {b} {e} {c} {x} {at} {rest = rest} K L condition then_word first else_word second = record {
+  front = at ∷ (condition.front ++ (then_word.at ∷ (first.front ++ (else_word.at ∷ second.front))));
+  split = rw (
+    condition.split,
+    then_word.split,
+    first.split,
+    else_word.split,
+    second.split,
+    append_assoc condition.front (then_word.at ∷ (first.front ++ (else_word.at ∷ second.front))) rest,
+    append_assoc first.front (else_word.at ∷ second.front) rest,
+  ) refl;
+  holds = chosen_placed then_word.at else_word.at (expression_keeps v two three L e condition.front (expression_keeps v one two K e condition.front condition.holds)) (collection_keeps v two three L c first.front first.holds) second.holds;
+}
+
+-- a collection that was put among those of the program
+pub members_read : {v : Version} {mid new : Program} {m : CollectionId} {c : CollExpr} {tokens rest : List Spot} → AddsCollection mid new m c → Consumes (CollectionPlaced v mid c) tokens rest → Consumes (MembersPlaced v new m) tokens rest
+members_read {v} {mid} {new} {m} {c} added placed = record {
+  front = placed.front;
+  split = placed.split;
+  holds = record { held = added.within; placed = subst (λ (x : CollExpr). CollectionPlaced v new x placed.front) (sym added.is) (collection_keeps v mid new (unchanged_keeps mid new added.same).trees c placed.front placed.holds) };
+}
+
+-- a collection behind a word
+pub gathered_read : {v : Version} {mid new : Program} {id : TermId} {i : CollectionId} {t : Term} {spot : Spot} {r0 rest : List Spot} → AddsTerm mid new id (nodes.Gathered i) t spot → Consumes (MembersPlaced v mid i) r0 rest → Consumes (TermPlaced v new id) (spot ∷ r0) rest
+gathered_read {v} {mid} {new} {id} {i} {t} {spot} added members =
+    behind_first members (λ xs m. let n : MembersPlaced v new i xs = members_keep v mid new added.kept.trees i xs m in gathered_placed (term_stands mid new id _ t spot added) n.held n.placed)
+
+-- a collection, a term, a name, a pattern and another term in brackets
+pub releasing_read : {v : Version} {one two three new : Program} {id b c : TermId} {m : CollectionId} {w : Observation} {k : NameId} {p : PlacedPattern} {q : PatternId} {t : Term} {spot place : Spot} {r r0 r1 r2 r3 r4 r5 r6 r7 rest : List Spot} → KeepsTrees one two → KeepsTrees two three
+    → AddsTerm three new id (nodes.Releasing (record { shown = w; members = m; observer = b; name = k; place = place; pattern = q; body = c })) t spot → HoldsPatternIn new q × (pattern_under new q ≡ p) → BehindOne r r0 → Consumes (MembersPlaced v one m) r0 r1 → BehindOne r1 r2 → Consumes (TermPlaced v two b) r2 r3 → BehindOne r3 r4
+    → NamePlaced place r4 r5 → BehindOne r5 r6 → Consumes (Parted (PatternPlaced p) (TermPlaced v three c)) r6 r7 → BehindOne r7 rest → Consumes (TermPlaced v new id) (spot ∷ r) rest
+releasing_read {v} {one} {two} {three} {new} {id} {b} {c} {m} {w} {k} {p} {q} {t} {spot} {place} {r2 = r2} {r7 = r7} K L added there opening members comma observer second name third body closing =
+    let stays : (i : TermId) (xs : List Spot) → TermPlaced v three i xs → TermPlaced v new i xs = term_keeps v three new added.kept.trees in
+    let behind : List Spot = observer.front ++ (second.at ∷ place ∷ third.at ∷ body.front) in
+    let parts : Consumes (λ ts. ts ≡ behind) r2 r7 = record {
+      front = behind;
+      split = rw (observer.split, second.split, name.split, third.split, body.split, append_assoc observer.front (second.at ∷ place ∷ third.at ∷ body.front) r7) refl;
+      holds = refl;
+    } in
+    behind_opening opening (in_brackets_read members comma parts closing (λ comma closing xs ts x same.
+    let source : MembersPlaced v new m xs = members_keep v three new added.kept.trees m xs (members_keep v two three L m xs (members_keep v one two K m xs x)) in
+    subst (λ (ts : List Spot). TermPlaced v new id (spot ∷ around opening.at xs comma ts closing)) (sym same)
+    (parted (λ zs. TermPlaced v new id (spot ∷ around opening.at xs comma (observer.front ++ (second.at ∷ place ∷ third.at ∷ zs)) closing)) body.holds (λ leads ps zs placed z.
+    releasing_placed opening.at comma second.at third.at leads closing (term_stands three new id _ t spot added) source.held source.placed
+    (stays b observer.front (term_keeps v two three L b observer.front observer.holds)) (pattern_stands new q p ps there placed) (stays c zs z)))))
+
+-- a collection, a name, a pattern and another collection in brackets
+pub editing_read : {v : Version} {one two new : Program} {id : TermId} {m u : CollectionId} {w : Observation} {k : NameId} {p : PlacedPattern} {q : PatternId} {t : Term} {spot place : Spot} {r r0 r1 r2 r3 r4 r5 rest : List Spot} → KeepsTrees one two
+    → AddsTerm two new id (nodes.Editing (record { shown = w; members = m; name = k; place = place; pattern = q; edit = u })) t spot → HoldsPatternIn new q × (pattern_under new q ≡ p) → BehindOne r r0 → Consumes (MembersPlaced v one m) r0 r1 → BehindOne r1 r2
+    → NamePlaced place r2 r3 → BehindOne r3 r4 → Consumes (Parted (PatternPlaced p) (MembersPlaced v two u)) r4 r5 → BehindOne r5 rest → Consumes (TermPlaced v new id) (spot ∷ r) rest
+editing_read {v} {one} {two} {new} {id} {m} {u} {w} {k} {p} {q} {t} {spot} {place} {r2 = r2} {r5 = r5} K added there opening members comma name second edit closing =
+    let behind : List Spot = place ∷ second.at ∷ edit.front in
+    let parts : Consumes (λ ts. ts ≡ behind) r2 r5 = record { front = behind; split = rw (name.split, second.split, edit.split) refl; holds = refl } in
+    behind_opening opening (in_brackets_read members comma parts closing (λ comma closing xs ts x same.
+    let source : MembersPlaced v new m xs = members_keep v two new added.kept.trees m xs (members_keep v one two K m xs x) in
+    subst (λ (ts : List Spot). TermPlaced v new id (spot ∷ around opening.at xs comma ts closing)) (sym same)
+    (parted (λ zs. TermPlaced v new id (spot ∷ around opening.at xs comma (place ∷ second.at ∷ zs) closing)) edit.holds (λ leads ps ys placed y.
+    let edited : MembersPlaced v new u ys = members_keep v two new added.kept.trees u ys y in
+    editing_placed opening.at comma second.at leads closing (term_stands two new id _ t spot added) source.held source.placed (pattern_stands new q p ps there placed) edited.held edited.placed))))
 
 -- a name, and arguments in brackets behind it
 pub call_read : {v : Version} {mid new : Program} {id : TermId} {g : NameId} {a : ArgumentsId} {bs : List Argument} {t : Term} {spot : Spot} {r r1 rest : List Spot} → AddsTerm mid new id (nodes.Call g a) t spot → HoldsArguments new a × (arguments_under new a ≡ bs)
@@ -340,12 +499,15 @@ pub each_argument_placed : (v : Version) (p : Program) (tokens rest : List Spot)
 each_argument_placed v p tokens rest (Ok bs) some placed = some_arguments_placed_behind v p bs.items some placed
 each_argument_placed v p tokens rest (Err e) some placed = tt
 
--- an expression, or a term behind `sf`
+-- an expression, a term behind `sf`, or a collection behind `col`
 pub value_read : {v : Version} {p : Program} {e : ExprId} {tokens rest : List Spot} → Consumes (ExpressionPlaced v p e) tokens rest → Consumes (ArgumentPlaced v p (arguments.Value e)) tokens rest
 value_read c = record { front = c.front; split = c.split; holds = value_argument_placed c.holds }
 
 pub process_read : {v : Version} {p : Program} {t : TermId} {tokens r0 rest : List Spot} → BehindOne tokens r0 → Consumes (TermPlaced v p t) r0 rest → Consumes (ArgumentPlaced v p (arguments.Process t)) tokens rest
 process_read word c = record { front = word.at ∷ c.front; split = rw (word.split, c.split) refl; holds = process_argument_placed word.at c.holds }
+
+pub collection_read : {v : Version} {p : Program} {m : CollectionId} {tokens r0 rest : List Spot} → BehindOne tokens r0 → Consumes (MembersPlaced v p m) r0 rest → Consumes (ArgumentPlaced v p (arguments.Collection m)) tokens rest
+collection_read word c = record { front = word.at ∷ c.front; split = rw (word.split, c.split) refl; holds = collection_argument_placed word.at c.holds.held c.holds.placed }
 
 -- the parts of a template, one behind the other
 pub template_read : {v : Version} {old mid new : Program} {h : Header} {r0 r1 r2 r3 rest : List Spot} → KeepsProgram old mid → AddsTemplate mid new h → HeadingPlaced v h.spot h.parameters r0 r1

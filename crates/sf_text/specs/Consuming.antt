@@ -6,6 +6,7 @@ use Rattle.sf_term.specs.declared.form.WithValue.TheVariants as values
 use Rattle.sf_term.specs.declared.form.Heading.{Heading}
 use Rattle.sf_term.specs.declared.form.Heading.TheVariants as headings
 use Rattle.sf_expr.specs.declared.exprs.ExprId.{ExprId}
+use Rattle.sf_term.specs.declared.collection.CollectionId.{CollectionId}
 use Rattle.sf_term.specs.declared.node.TermId.{TermId}
 use Rattle.sf_term.specs.declared.node.Primitive.TheVariants as primitives
 use Rattle.sf_term.specs.declared.node.Node.{Node}
@@ -13,12 +14,12 @@ use Rattle.sf_term.specs.declared.node.Node.TheVariants as nodes
 use Rattle.sf_term.specs.declared.program.Program.{Program}
 use Rattle.sf_term.specs.Parameters.{PlacedParameter}
 use Rattle.sf_term.specs.Headers.{Header}
-use Rattle.sf_term.specs.Arena.{KeepsTrees, headers_of}
+use Rattle.sf_term.specs.Arena.{KeepsTrees, HoldsCollection, collection_under, headers_of}
 use Rattle.sf_grammar.specs.declared.ty.Version.{Version}
 use Rattle.sf_grammar.specs.declared.head.Head.{Head}
 use Rattle.sf_grammar.specs.declared.head.Head.TheVariants as heads
 use Rattle.sf_grammar.specs.Spelling.{stands_initially}
-use Rattle.sf_grammar.specs.Placing.{ParametersPlaced, TemplatePlaced}
+use Rattle.sf_grammar.specs.Placing.{CollectionPlaced, ParametersPlaced, TemplatePlaced}
 use Rattle.sf_parse.specs.Consuming.{Consumes}
 
 -- the first tokens of a template were read, up to its types; its name stands here, and so do its parameters
@@ -42,6 +43,11 @@ pub record PlacesTemplate (v : Version) (old new : Program) (tokens rest : List 
   pub headers : headers_of new ≡ headers_of old ++ header ∷ []
   pub kept : KeepsTrees old new
   pub placed : Consumes (TemplatePlaced v new header) tokens rest
+
+-- the collection at an id, whose tokens have these places
+pub record MembersPlaced (v : Version) (p : Program) (i : CollectionId) (places : List Spot) : Type 0 where
+  pub held : HoldsCollection p i
+  pub placed : CollectionPlaced v p (collection_under p i) places
 
 -- the node of a head, a value and a part of this node: behind `-->`, `pre` makes one primitive with the value
 abbrev pub headed_node : Heading → ExprId → TermId → Node → Node

@@ -1,7 +1,8 @@
 //! What stands in front of templates and of their terms.
-ghost use Rattle.std.specs.Prelude.{◌≢◌, IfOk, suc, [], length};
+ghost use Rattle.std.specs.Prelude.{◌≢◌, IfOk, None, suc, [], length};
 ghost use Rattle.sf_parse.specs.Answers.{ahead, ReadsAs};
 ghost use Rattle.sf_lex.specs.Words.{IsName};
+ghost use Rattle.sf_value.specs.KindView.{key_kind_of};
 ghost use Rattle.sf_term.specs.Names.{AreNamed};
 ghost use Rattle.sf_term.specs.ParameterView.{kind_of_form};
 ghost use Rattle.sf_term.specs.Parameters.{binding_of};
@@ -9,15 +10,15 @@ ghost use Rattle.sf_text.specs.Answers.{kinds_in, heading_in, bindings_in};
 ghost use Rattle.sf_parse.specs.Consuming.{spots_ahead, BehindOne, BehindSome, StandsOn};
 ghost use Rattle.sf_grammar.specs.Placing.{ParameterPlaced, EachParameterPlaced, ParametersPlaced};
 ghost use Rattle.sf_text.specs.Consuming.{HeadingPlaced, OpeningPlaced};
-ghost use Rattle.sf_grammar.specs.Reading.{parse_version, parse_opening, parse_listed, parse_name_kind, parse_parameter, parse_parameters, parse_heading, parse_signature};
+ghost use Rattle.sf_grammar.specs.Reading.{parse_version, parse_opening, parse_listed, parse_kind_from, parse_key_kind, parse_collection_kind, parse_name_kind, parse_parameter, parse_parameters, parse_heading, parse_signature};
 
-use crate::listed::{behind_leads, separator};
+use crate::listed::{behind_leads, behind_list, separator};
 use sf_grammar::Version;
 use sf_lex::{Keyword, Symbol, Token};
 use sf_parse::{Cursor, First, Named, Stop};
 use sf_refusal::Rule;
 use sf_term::{Parameter, ParameterForm};
-use sf_value::Ty;
+use sf_value::{KeyType, Ty};
 
 /// The version.
 fn version(cursor: &mut Cursor) -> Result<Version, Stop>
@@ -45,10 +46,53 @@ pub(crate) fn opening(cursor: &mut Cursor) -> Result<Version, Stop>
     Ok(version)
 }
 
+/// The type of a collection's keys, of which the version writes what it writes.
+fn key_kind(cursor: &mut Cursor, version: Version) -> Result<KeyType, Stop>
+    ensures reads { ReadsAs key_kind_of result cursor.new (parse_key_kind version (ahead cursor.old)) }
+    ensures behind { IfOk result (λ k. BehindSome (spots_ahead cursor.old) (spots_ahead cursor.new)) }
+{
+    match version {
+        Version::One => Ok(KeyType::Int),
+        Version::Two => {
+            let keys = cursor.keys(Version::Two)?;
+            cursor.symbol(Symbol::Colon)?;
+            Ok(keys)
+        }
+    }
+}
+
+/// What a parameter stands for that is a collection, behind its opening bracket.
+#[tactic(auto, unfolding(sf_grammar::specs::Reading::parse_collection_kind))]
+fn collection_kind(cursor: &mut Cursor, version: Version) -> Result<ParameterForm, Stop>
+    ensures reads { ReadsAs kind_of_form result cursor.new (parse_collection_kind version (ahead cursor.old)) }
+    ensures behind { IfOk result (λ k. BehindSome (spots_ahead cursor.old) (spots_ahead cursor.new)) }
+{
+    let keys = key_kind(cursor, version)?;
+    let input = cursor.ty(version)?;
+    cursor.symbol(Symbol::Leads)?;
+    let output = cursor.ty(version)?;
+    cursor.symbol(Symbol::CloseBracket)?;
+    Ok(ParameterForm::Collection(keys, input, output))
+}
+
 /// What a parameter stands for.
 #[tactic(auto, unfolding(sf_grammar::specs::Reading::parse_name_kind))]
 fn name_kind(cursor: &mut Cursor, version: Version) -> Result<ParameterForm, Stop>
     ensures reads { ReadsAs kind_of_form result cursor.new (parse_name_kind version (ahead cursor.old)) }
+    ensures behind { IfOk result (λ k. BehindSome (spots_ahead cursor.old) (spots_ahead cursor.new)) }
+{
+    match behind_list(cursor) {
+        Some(behind) => {
+            *cursor = behind;
+            collection_kind(cursor, version)
+        }
+        None => plain_kind(cursor, version),
+    }
+}
+
+/// What a parameter stands for that is no collection.
+fn plain_kind(cursor: &mut Cursor, version: Version) -> Result<ParameterForm, Stop>
+    ensures reads { ReadsAs kind_of_form result cursor.new (parse_kind_from version None (ahead cursor.old)) }
     ensures behind { IfOk result (λ k. BehindSome (spots_ahead cursor.old) (spots_ahead cursor.new)) }
 {
     let first = cursor.ty(version)?;

@@ -2,7 +2,8 @@
 ghost use Rattle.std.specs.Prelude.{IfOk};
 ghost use Rattle.sf_parse.specs.Answers.{ahead, ReadsAs, IsBehind};
 ghost use Rattle.sf_parse.specs.Consuming.{spots_ahead, BehindOne};
-ghost use Rattle.sf_grammar.specs.Reading.{behind_leads, behind_sf, parse_separator};
+ghost use Rattle.sf_grammar.specs.Reading.{behind_leads, behind_list, parse_separator};
+ghost use Rattle.sf_text.specs.Answers.{BeginsArgument};
 
 use sf_lex::{Keyword, Symbol, Token};
 use sf_parse::{Cursor, First, Stop};
@@ -23,12 +24,12 @@ pub(crate) fn behind_leads<'a>(cursor: &Cursor<'a>) -> Option<Cursor<'a>>
     None
 }
 
-/// The tokens behind `sf`, if it stands in front.
-pub(crate) fn behind_sf<'a>(cursor: &Cursor<'a>) -> Option<Cursor<'a>>
-    ensures { IsBehind result behind_sf cursor.now }
+/// The tokens behind the bracket that begins a collection's types, if it stands in front.
+pub(crate) fn behind_list<'a>(cursor: &Cursor<'a>) -> Option<Cursor<'a>>
+    ensures { IsBehind result behind_list cursor.now }
 {
     if let [first, rest @ ..] = cursor.tokens {
-        if let Token::Keyword(Keyword::SignalFunction) = &first.token {
+        if let Token::Symbol(Symbol::OpenBracket) = &first.token {
             return Some(Cursor {
                 alloc: cursor.alloc,
                 tokens: rest,
@@ -36,6 +37,35 @@ pub(crate) fn behind_sf<'a>(cursor: &Cursor<'a>) -> Option<Cursor<'a>>
         }
     }
     None
+}
+
+/// What an argument of a call begins with.
+#[derive(Clone, Copy)]
+pub(crate) enum ArgumentFront<'a> {
+    /// No word: it is an expression.
+    Value,
+    /// `sf`, with the tokens behind it: a term follows.
+    Process(Cursor<'a>),
+    /// `col`, with the tokens behind it: a collection follows.
+    Members(Cursor<'a>),
+}
+
+/// What an argument of a call begins with here.
+pub(crate) fn argument_front<'a>(cursor: &Cursor<'a>) -> ArgumentFront<'a>
+    ensures { BeginsArgument result cursor.now }
+{
+    let [first, rest @ ..] = cursor.tokens else {
+        return ArgumentFront::Value;
+    };
+    let behind = Cursor {
+        alloc: cursor.alloc,
+        tokens: rest,
+    };
+    match &first.token {
+        Token::Keyword(Keyword::SignalFunction) => ArgumentFront::Process(behind),
+        Token::Keyword(Keyword::Collection) => ArgumentFront::Members(behind),
+        _ => ArgumentFront::Value,
+    }
 }
 
 /// Behind a part of a list: whether a comma stands there, and so a further part, or the closing bracket.

@@ -1,26 +1,28 @@
 //! Terms.
-ghost use Rattle.std.specs.Prelude.{◌≡◌, ◌≢◌, ◌≤◌, IfOk, suc, [], ◌∷◌, length, false};
-ghost use Rattle.sf_term.specs.Trees.{Term, no_arguments, primitive as primitive_form, bare as bare_form};
-ghost use Rattle.sf_lex.specs.Tokens.{token_of, name as name_token, name_bytes};
+ghost use Rattle.std.specs.Prelude.{◌≡◌, ◌≢◌, ◌≤◌, IfOk, IfErr, List, suc, [], ◌∷◌, length, false};
+ghost use Rattle.sf_term.specs.Trees.{Term, Collection, no_arguments, primitive as primitive_form, bare as bare_form};
+ghost use Rattle.sf_lex.specs.Tokens.{Tok, token_of, name as name_token, name_bytes};
 ghost use Rattle.sf_parse.specs.Answers.{toks, ahead, StopsReading, ReadsAs, counts_of};
-ghost use Rattle.sf_text.specs.Answers.{ReadsTerm, ReadsTermForm, ReadsBody, ReadsArgument, ReadsArguments};
-ghost use Rattle.sf_grammar.specs.Placing.{PatternPlaced, TermPlaced, ArgumentPlaced, EachArgumentPlaced, ArgumentsPlaced};
+ghost use Rattle.sf_text.specs.Answers.{ReadsTerm, ReadsTermForm, ReadsCollection, ReadsMembers, ReadsEdit, ReadsBody, ReadsArgument, ReadsArguments};
+ghost use Rattle.sf_grammar.specs.Placing.{PatternPlaced, TermPlaced, CollectionPlaced, ArgumentPlaced, EachArgumentPlaced, ArgumentsPlaced};
 ghost use Rattle.sf_parse.specs.Consuming.{spots_ahead, BehindOne, StandsOn, StandsFrom, Parted};
-ghost use Rattle.sf_text.specs.Consuming.{headed_node, HasValueSo};
-ghost use Rattle.sf_grammar.specs.Reading.{begins_term, begins_fresh, head_at, too_deep, term_read, parse_never, parse_value, parse_timed, parse_selected, parse_arrow, parse_accumulated, parse_sided, parse_headed, parse_transformed, parse_body, parse_switching, parse_named, parse_keeping, parse_argument, parse_arguments, parse_listed, parse_call, parse_join, parse_joined, parse_form, parse_behind_head, parse_term};
+ghost use Rattle.sf_text.specs.Consuming.{headed_node, HasValueSo, MembersPlaced};
+ghost use Rattle.sf_grammar.specs.Reading.{begins_term, begins_collection, begins_fresh, head_at, parse_empty, parse_used, parse_added, parse_dropped, parse_kept, parse_chosen, parse_behind_collection_head, parse_collection_form, parse_collection, parse_gathered, parse_releasing, parse_edit, parse_editing, too_deep, term_read, parse_never, parse_value, parse_timed, parse_selected, parse_arrow, parse_accumulated, parse_sided, parse_headed, parse_transformed, parse_body, parse_switching, parse_named, parse_keeping, parse_argument, parse_arguments, parse_listed, parse_call, parse_join, parse_joined, parse_form, parse_behind_head, parse_term};
 ghost use Rattle.sf_term.specs.Arena.{HoldsExpression, HoldsTerm, HoldsTermParts, term_node_at};
 ghost use Rattle.sf_grammar.specs.Spelling.{stands_initially};
 
-use crate::listed::{behind_sf, separator};
+use crate::listed::{ArgumentFront, argument_front, separator};
 use sf_expr::{ExprId, Pat};
-use sf_grammar::{Head, Version, head_of, join_of};
-use sf_lex::{Name, PlacedToken, Symbol, Token};
-use sf_parse::{Cursor, First, Mark, Reader, Stop};
+use sf_grammar::{CollectionHead, Head, Version, collection_head, head_of, join_of};
+use sf_lex::{Keyword, Name, PlacedToken, Symbol, Token};
+use sf_parse::{Cursor, First, Mark, Reader, Stop, refused};
 use sf_refusal::Rule;
 use sf_term::{
-    Accumulation, Argument, Bare, Heading, Join, Naming, Node, Observation, Primitive, Program,
-    Selection, Side, Start, Switching, TermId, Timing, WithValue,
+    Accumulation, Argument, Bare, CollExpr, CollectionId, Heading, Join, Naming, Node, Observation,
+    Primitive, Program, Selection, Side, Start, Switching, TermId, Timing, WithValue,
 };
+use std::alloc::Global;
+use std::rc::Rc;
 
 /// A term would be 65 deep here.
 fn term_too_deep(cursor: &Cursor) -> Stop
@@ -28,6 +30,16 @@ fn term_too_deep(cursor: &Cursor) -> Stop
 {
     match cursor.tokens {
         [first, ..] if head_of(&first.token).is_some() => cursor.stop(Rule::TooDeep),
+        _ => cursor.stop(Rule::Unexpected),
+    }
+}
+
+/// A collection would be 65 deep here.
+fn collection_too_deep(cursor: &Cursor) -> Stop
+    ensures { StopsReading {A = Collection} result (too_deep begins_collection (ahead cursor.now)) }
+{
+    match cursor.tokens {
+        [first, ..] if collection_head(&first.token).is_some() => cursor.stop(Rule::TooDeep),
         _ => cursor.stop(Rule::Unexpected),
     }
 }
@@ -174,6 +186,46 @@ fn named(reader: &mut Reader, start: Mark, form: Naming) -> Result<TermId, Stop>
     start.built(reader.program.named(form, known, label.spot, start.spot))
 }
 
+/// A collection that can be shared.
+fn shared(alloc: Global, collection: CollExpr) -> Result<Rc<CollExpr>, Stop>
+    ensures ok { IfOk result (λ c. c.value ≡ collection) }
+    ensures err { IfErr result (λ e. e ≡ Stop.Memory) }
+{
+    Ok(Rc::new(alloc, collection)?)
+}
+
+/// `empty`, behind its word.
+#[tactic(auto, unfolding(sf_grammar::specs::Reading::parse_empty))]
+fn empty(
+    reader: &mut Reader,
+    version: Version,
+    start: Mark,
+    left: u32,
+) -> Result<Rc<CollExpr>, Stop>
+    requires shallow { left ≤ 63 }
+    ensures reads { ReadsCollection reader.old reader.new result (parse_empty left version (ahead reader.old.cursor)) }
+    ensures placed { StandsFrom start (λ c. CollectionPlaced version reader.new.program c.value) result reader.old.cursor reader.new.cursor }
+{
+    let keys = reader.cursor.keys(version)?;
+    let values = reader.cursor.type_within(version, left)?;
+    let made = CollExpr::Empty(keys, values, start.spot);
+    shared(reader.cursor.alloc, made)
+}
+
+/// The members of a name, behind `use`.
+#[tactic(auto, unfolding(sf_grammar::specs::Reading::parse_used))]
+fn used(reader: &mut Reader, start: Mark) -> Result<Rc<CollExpr>, Stop>
+    ensures reads { ReadsCollection reader.old reader.new result (parse_used (ahead reader.old.cursor)) }
+    ensures placed { (version : Version) → StandsFrom start (λ c. CollectionPlaced version reader.new.program c.value) result reader.old.cursor reader.new.cursor }
+{
+    let label = reader.cursor.name()?;
+    let known = String::from_str(reader.cursor.alloc, label.name.as_str())?;
+    match reader.program.used(known, label.spot, start.spot) {
+        Ok(made) => shared(reader.cursor.alloc, made),
+        Err(refusal) => Err(refused(refusal, start.ahead)),
+    }
+}
+
 /// The symbol between two terms.
 fn join(cursor: &mut Cursor) -> Result<Join, Stop>
     ensures reads { ReadsAs (λ j. j) result cursor.new (parse_join (ahead cursor.old)) }
@@ -207,7 +259,7 @@ pub(crate) fn term(reader: &mut Reader, version: Version, left: u32) -> Result<T
 #[cycle(term)]
 fn form(reader: &mut Reader, version: Version, left: u32) -> Result<TermId, Stop>
     requires shallow { left ≤ 63 }
-    ensures reads { ReadsTerm reader.old reader.new result (parse_form left version (parse_term left version) (counts_of reader.old.program) (ahead reader.old.cursor)) }
+    ensures reads { ReadsTerm reader.old reader.new result (parse_form left version (parse_term left version) (parse_collection left version) (counts_of reader.old.program) (ahead reader.old.cursor)) }
     ensures placed { StandsOn (TermPlaced version reader.new.program) result reader.old.cursor reader.new.cursor }
 {
     let head = head_at(version, reader.cursor.tokens);
@@ -231,7 +283,7 @@ fn behind_head<'a>(
     requires shallow { left ≤ 63 }
     requires stands { HasValueSo head }
     ensures reads { let whole = token_of first.entry.token.now ∷ ahead reader.old.cursor in length whole ≡ first.entry.start.ahead →
-        ReadsTerm reader.old reader.new result (parse_behind_head left version (parse_term left version) (counts_of reader.old.program) (Some head) whole (ahead reader.old.cursor)) }
+        ReadsTerm reader.old reader.new result (parse_behind_head left version (parse_term left version) (parse_collection left version) (counts_of reader.old.program) (Some head) whole (ahead reader.old.cursor)) }
     ensures placed { StandsFrom first.entry.start (TermPlaced version reader.new.program) result reader.old.cursor reader.new.cursor }
 {
     let First { token, start } = first;
@@ -250,6 +302,9 @@ fn behind_head<'a>(
         Head::Switching(kind) => switching(reader, version, start, kind, left),
         Head::Named(form) => named(reader, start, form),
         Head::Keeping(kind) => keeping(reader, version, start, kind, left),
+        Head::Gathered => gathered(reader, version, start, left),
+        Head::Releasing(kind) => releasing(reader, version, start, kind, left),
+        Head::Editing(kind) => editing(reader, version, start, kind, left),
         Head::Call => match token {
             Token::Name(name) => call(reader, version, start, *name, left),
             _ => Err(Stop::At(Rule::Unexpected, start.ahead)),
@@ -415,6 +470,239 @@ fn keeping(
     start.built(added)
 }
 
+/// A collection of so much depth at most.
+#[cycle(term)]
+#[tactic(auto, using(crate::proofs::Deeper::collection_at_more, crate::proofs::Deeper::collection_at_zero))]
+fn collection(reader: &mut Reader, version: Version, left: u32) -> Result<Rc<CollExpr>, Stop>
+    requires shallow { left ≤ 64 }
+    ensures reads { ReadsCollection reader.old reader.new result (parse_collection left version (counts_of reader.old.program) (ahead reader.old.cursor)) }
+    ensures placed { StandsOn (λ c. CollectionPlaced version reader.new.program c.value) result reader.old.cursor reader.new.cursor }
+{
+    if left == 0 {
+        return Err(collection_too_deep(&reader.cursor));
+    }
+    collection_form(reader, version, left - 1)
+}
+
+#[cycle(term)]
+fn collection_form(reader: &mut Reader, version: Version, left: u32) -> Result<Rc<CollExpr>, Stop>
+    requires shallow { left ≤ 63 }
+    ensures reads { ReadsCollection reader.old reader.new result (parse_collection_form left version (parse_term left version) (parse_collection left version) (counts_of reader.old.program) (ahead reader.old.cursor)) }
+    ensures placed { StandsOn (λ c. CollectionPlaced version reader.new.program c.value) result reader.old.cursor reader.new.cursor }
+{
+    let First { token, start } = reader.cursor.first()?;
+    match collection_head(token) {
+        Some(head) => collection_behind(reader, version, start, head, left),
+        None => Err(Stop::At(Rule::Unexpected, start.ahead)),
+    }
+}
+
+/// A collection behind its word.
+#[cycle(term)]
+fn collection_behind(
+    reader: &mut Reader,
+    version: Version,
+    start: Mark,
+    head: CollectionHead,
+    left: u32,
+) -> Result<Rc<CollExpr>, Stop>
+    requires shallow { left ≤ 63 }
+    ensures reads { (whole : List Tok) → ReadsCollection reader.old reader.new result (parse_behind_collection_head left version (parse_term left version) (parse_collection left version) (counts_of reader.old.program) (Some head) whole (ahead reader.old.cursor)) }
+    ensures placed { StandsFrom start (λ c. CollectionPlaced version reader.new.program c.value) result reader.old.cursor reader.new.cursor }
+{
+    match head {
+        CollectionHead::Empty => empty(reader, version, start, left),
+        CollectionHead::Used => used(reader, start),
+        CollectionHead::Added => added(reader, version, start, left),
+        CollectionHead::Dropped => dropped(reader, version, start, left),
+        CollectionHead::Kept => kept(reader, version, start, left),
+        CollectionHead::Chosen => chosen(reader, version, start, left),
+    }
+}
+
+/// A collection with a term under a key, behind `add`.
+#[cycle(term)]
+#[tactic(auto, unfolding(sf_grammar::specs::Reading::parse_added))]
+fn added(
+    reader: &mut Reader,
+    version: Version,
+    start: Mark,
+    left: u32,
+) -> Result<Rc<CollExpr>, Stop>
+    requires shallow { left ≤ 63 }
+    ensures reads { ReadsCollection reader.old reader.new result (parse_added left version (parse_term left version) (parse_collection left version) (counts_of reader.old.program) (ahead reader.old.cursor)) }
+    ensures placed { StandsFrom start (λ c. CollectionPlaced version reader.new.program c.value) result reader.old.cursor reader.new.cursor }
+{
+    reader.cursor.symbol(Symbol::Open)?;
+    let rest = collection(reader, version, left)?;
+    reader.cursor.symbol(Symbol::Comma)?;
+    let key = reader.expression(version, left)?;
+    reader.cursor.symbol(Symbol::Comma)?;
+    let member = term(reader, version, left)?;
+    reader.cursor.symbol(Symbol::Close)?;
+    let made = CollExpr::Added(rest, key, member, start.spot);
+    shared(reader.cursor.alloc, made)
+}
+
+/// A collection without what stands under a key, behind `drop`.
+#[cycle(term)]
+#[tactic(auto, unfolding(sf_grammar::specs::Reading::parse_dropped))]
+fn dropped(
+    reader: &mut Reader,
+    version: Version,
+    start: Mark,
+    left: u32,
+) -> Result<Rc<CollExpr>, Stop>
+    requires shallow { left ≤ 63 }
+    ensures reads { ReadsCollection reader.old reader.new result (parse_dropped left version (parse_collection left version) (counts_of reader.old.program) (ahead reader.old.cursor)) }
+    ensures placed { StandsFrom start (λ c. CollectionPlaced version reader.new.program c.value) result reader.old.cursor reader.new.cursor }
+{
+    reader.cursor.symbol(Symbol::Open)?;
+    let rest = collection(reader, version, left)?;
+    reader.cursor.symbol(Symbol::Comma)?;
+    let key = reader.expression(version, left)?;
+    reader.cursor.symbol(Symbol::Close)?;
+    let made = CollExpr::Dropped(rest, key, start.spot);
+    shared(reader.cursor.alloc, made)
+}
+
+/// The members of a collection whose keys a function keeps, behind `keep`.
+#[cycle(term)]
+#[tactic(auto, unfolding(sf_grammar::specs::Reading::parse_kept))]
+fn kept(reader: &mut Reader, version: Version, start: Mark, left: u32) -> Result<Rc<CollExpr>, Stop>
+    requires shallow { left ≤ 63 }
+    ensures reads { ReadsCollection reader.old reader.new result (parse_kept left version (parse_collection left version) (counts_of reader.old.program) (ahead reader.old.cursor)) }
+    ensures placed { StandsFrom start (λ c. CollectionPlaced version reader.new.program c.value) result reader.old.cursor reader.new.cursor }
+{
+    reader.cursor.symbol(Symbol::Open)?;
+    let rest = collection(reader, version, left)?;
+    reader.cursor.symbol(Symbol::Comma)?;
+    let function = reader.function(version, left)?;
+    reader.cursor.symbol(Symbol::Close)?;
+    let made = CollExpr::Kept(rest, function, start.spot);
+    shared(reader.cursor.alloc, made)
+}
+
+/// One of two collections by a condition, behind `if`.
+#[cycle(term)]
+#[tactic(auto, unfolding(sf_grammar::specs::Reading::parse_chosen))]
+fn chosen(
+    reader: &mut Reader,
+    version: Version,
+    start: Mark,
+    left: u32,
+) -> Result<Rc<CollExpr>, Stop>
+    requires shallow { left ≤ 63 }
+    ensures reads { ReadsCollection reader.old reader.new result (parse_chosen left version (parse_collection left version) (counts_of reader.old.program) (ahead reader.old.cursor)) }
+    ensures placed { StandsFrom start (λ c. CollectionPlaced version reader.new.program c.value) result reader.old.cursor reader.new.cursor }
+{
+    let condition = reader.expression(version, left)?;
+    reader.cursor.keyword(Keyword::Then)?;
+    let one = collection(reader, version, left)?;
+    reader.cursor.keyword(Keyword::Else)?;
+    let two = collection(reader, version, left)?;
+    let made = CollExpr::Chosen(condition, one, two, start.spot);
+    shared(reader.cursor.alloc, made)
+}
+
+/// A collection of so much depth at most, which is then among those of the program.
+#[cycle(term)]
+fn members(reader: &mut Reader, version: Version, left: u32) -> Result<CollectionId, Stop>
+    requires shallow { left ≤ 63 }
+    ensures reads { ReadsMembers reader.old reader.new result (parse_collection left version (counts_of reader.old.program) (ahead reader.old.cursor)) }
+    ensures placed { StandsOn (MembersPlaced version reader.new.program) result reader.old.cursor reader.new.cursor }
+{
+    let ahead = reader.cursor.tokens.len();
+    let read = collection(reader, version, left)?;
+    match reader.program.add_collection(read) {
+        Ok(id) => Ok(id),
+        Err(refusal) => Err(refused(refusal, ahead)),
+    }
+}
+
+/// The members of a collection, behind `parB`.
+#[cycle(term)]
+#[tactic(auto, unfolding(sf_grammar::specs::Reading::parse_gathered))]
+fn gathered(reader: &mut Reader, version: Version, start: Mark, left: u32) -> Result<TermId, Stop>
+    requires shallow { left ≤ 63 }
+    ensures reads { ReadsTermForm reader.old reader.new start result (parse_gathered (parse_collection left version) (counts_of reader.old.program)) }
+    ensures placed { StandsFrom start (TermPlaced version reader.new.program) result reader.old.cursor reader.new.cursor }
+{
+    let collection = members(reader, version, left)?;
+    start.built(reader.program.add(Node::Gathered(collection), start.spot))
+}
+
+/// Members that give way to a term, which knows them by a name, behind their word.
+#[cycle(term)]
+#[tactic(auto, unfolding(sf_grammar::specs::Reading::parse_releasing))]
+fn releasing(
+    reader: &mut Reader,
+    version: Version,
+    start: Mark,
+    kind: Observation,
+    left: u32,
+) -> Result<TermId, Stop>
+    requires shallow { left ≤ 63 }
+    ensures reads { ReadsTermForm reader.old reader.new start result (parse_releasing left (parse_term left version) (parse_collection left version) (counts_of reader.old.program) kind) }
+    ensures placed { StandsFrom start (TermPlaced version reader.new.program) result reader.old.cursor reader.new.cursor }
+{
+    reader.cursor.symbol(Symbol::Open)?;
+    let source = members(reader, version, left)?;
+    reader.cursor.symbol(Symbol::Comma)?;
+    let observer = term(reader, version, left)?;
+    reader.cursor.symbol(Symbol::Comma)?;
+    let label = reader.cursor.name()?;
+    reader.cursor.symbol(Symbol::Comma)?;
+    let (pattern, body) = body(reader, version, left)?;
+    reader.cursor.symbol(Symbol::Close)?;
+    let known = String::from_str(reader.cursor.alloc, label.name.as_str())?;
+    let added = reader.program.releasing(
+        kind, source, observer, known, label.spot, pattern, body, start.spot,
+    );
+    start.built(added)
+}
+
+/// The pattern and the collection of an edit, of so much depth at most.
+#[cycle(term)]
+fn edit(reader: &mut Reader, version: Version, left: u32) -> Result<(Pat, CollectionId), Stop>
+    requires shallow { left ≤ 63 }
+    ensures reads { ReadsEdit reader.old reader.new result (parse_edit left (parse_collection left version) (counts_of reader.old.program) (ahead reader.old.cursor)) }
+    ensures placed { StandsOn (λ x. Parted (PatternPlaced x.0) (MembersPlaced version reader.new.program x.1)) result reader.old.cursor reader.new.cursor }
+{
+    let pattern = reader.cursor.pattern(left)?;
+    reader.cursor.symbol(Symbol::MapsTo)?;
+    let id = members(reader, version, left)?;
+    Ok((pattern, id))
+}
+
+/// Members that are edited, behind their word.
+#[cycle(term)]
+#[tactic(auto, unfolding(sf_grammar::specs::Reading::parse_editing))]
+fn editing(
+    reader: &mut Reader,
+    version: Version,
+    start: Mark,
+    kind: Observation,
+    left: u32,
+) -> Result<TermId, Stop>
+    requires shallow { left ≤ 63 }
+    ensures reads { ReadsTermForm reader.old reader.new start result (parse_editing left (parse_collection left version) (counts_of reader.old.program) kind) }
+    ensures placed { StandsFrom start (TermPlaced version reader.new.program) result reader.old.cursor reader.new.cursor }
+{
+    reader.cursor.symbol(Symbol::Open)?;
+    let source = members(reader, version, left)?;
+    reader.cursor.symbol(Symbol::Comma)?;
+    let label = reader.cursor.name()?;
+    reader.cursor.symbol(Symbol::Comma)?;
+    let (pattern, edit) = edit(reader, version, left)?;
+    reader.cursor.symbol(Symbol::Close)?;
+    let known = String::from_str(reader.cursor.alloc, label.name.as_str())?;
+    let added = reader
+        .program
+        .editing(kind, source, known, label.spot, pattern, edit, start.spot);
+    start.built(added)
+}
+
 /// Two terms joined, behind their opening bracket.
 #[cycle(term)]
 #[tactic(auto, unfolding(sf_grammar::specs::Reading::parse_joined))]
@@ -435,18 +723,23 @@ fn joined(reader: &mut Reader, version: Version, start: Mark, left: u32) -> Resu
 #[tactic(auto, unfolding(sf_grammar::specs::Reading::parse_argument))]
 fn argument(reader: &mut Reader, version: Version, left: u32) -> Result<Argument, Stop>
     requires shallow { left ≤ 63 }
-    ensures reads { ReadsArgument reader.old reader.new result (parse_argument left version (parse_term left version) (counts_of reader.old.program) (ahead reader.old.cursor)) }
+    ensures reads { ReadsArgument reader.old reader.new result (parse_argument left version (parse_term left version) (parse_collection left version) (counts_of reader.old.program) (ahead reader.old.cursor)) }
     ensures placed { StandsOn (ArgumentPlaced version reader.new.program) result reader.old.cursor reader.new.cursor }
 {
-    match behind_sf(&reader.cursor) {
-        Some(behind) => {
+    match argument_front(&reader.cursor) {
+        ArgumentFront::Value => {
+            let value = reader.expression(version, left)?;
+            Ok(Argument::Value(value))
+        }
+        ArgumentFront::Process(behind) => {
             reader.cursor = behind;
             let process = term(reader, version, left)?;
             Ok(Argument::Process(process))
         }
-        None => {
-            let value = reader.expression(version, left)?;
-            Ok(Argument::Value(value))
+        ArgumentFront::Members(behind) => {
+            reader.cursor = behind;
+            let collection = members(reader, version, left)?;
+            Ok(Argument::Collection(collection))
         }
     }
 }
@@ -455,7 +748,7 @@ fn argument(reader: &mut Reader, version: Version, left: u32) -> Result<Argument
 #[cycle(term)]
 fn some_arguments(reader: &mut Reader, version: Version, left: u32) -> Result<Vec<Argument>, Stop>
     requires shallow { left ≤ 63 }
-    ensures reads { ReadsArguments reader.old reader.new result (parse_arguments (suc (length (ahead reader.old.cursor))) left version (parse_term left version) (counts_of reader.old.program) (ahead reader.old.cursor)) }
+    ensures reads { ReadsArguments reader.old reader.new result (parse_arguments (suc (length (ahead reader.old.cursor))) left version (parse_term left version) (parse_collection left version) (counts_of reader.old.program) (ahead reader.old.cursor)) }
     ensures some { IfOk result (λ x. x.items ≢ []) }
     ensures placed { StandsOn (λ x. EachArgumentPlaced version reader.new.program x.items) result reader.old.cursor reader.new.cursor }
 {
@@ -473,7 +766,7 @@ fn some_arguments(reader: &mut Reader, version: Version, left: u32) -> Result<Ve
 #[cycle(term)]
 fn arguments(reader: &mut Reader, version: Version, left: u32) -> Result<Vec<Argument>, Stop>
     requires shallow { left ≤ 63 }
-    ensures reads { ReadsArguments reader.old reader.new result (parse_listed no_arguments (λ ts. parse_arguments (suc (length ts)) left version (parse_term left version) (counts_of reader.old.program) ts) (ahead reader.old.cursor)) }
+    ensures reads { ReadsArguments reader.old reader.new result (parse_listed no_arguments (λ ts. parse_arguments (suc (length ts)) left version (parse_term left version) (parse_collection left version) (counts_of reader.old.program) ts) (ahead reader.old.cursor)) }
     ensures placed { StandsOn (λ x. ArgumentsPlaced version reader.new.program x.items) result reader.old.cursor reader.new.cursor }
 {
     match reader.cursor.behind_close() {
@@ -497,7 +790,7 @@ fn call<'a>(
 ) -> Result<TermId, Stop>
     requires shallow { left ≤ 63 }
     ensures reads { let whole = name_token (name_bytes name.entry) ∷ ahead reader.old.cursor in length whole ≡ start.ahead →
-        ReadsTerm reader.old reader.new result (parse_call left version (parse_term left version) (counts_of reader.old.program) whole) }
+        ReadsTerm reader.old reader.new result (parse_call left version (parse_term left version) (parse_collection left version) (counts_of reader.old.program) whole) }
     ensures placed { StandsFrom start (TermPlaced version reader.new.program) result reader.old.cursor reader.new.cursor }
 {
     reader.cursor.symbol(Symbol::Open)?;

@@ -1,19 +1,35 @@
-use Rattle.std.proofs.Common.{inl, inr, subst, IfOk, IfErr}
+use Rattle.std.proofs.Common.{◌≡◌, ◌≤◌, All, [], length, ◌∙◌, ap, inl, inr, subst, sym, refl, IfOk, IfErr, arith}
+use Rattle.std.specs.Iterator.Adapters.{zip_first, zip_second}
+use Rattle.std.specs.Slice.Iter.{iter_rest}
+use Rattle.std.proofs.lemmas.List.Elements.{All-same, All-rest, All-head}
+use Rattle.std.proofs.lemmas.List.{length-map}
+use Rattle.std.proofs.lemmas.Slice.Zip.{Zip-more, either_empty_from_Zip}
 use mathlib.Core.Path.{subst₂}
-use Rattle.sf_value.specs.Values.{Kind, pair_kind}
+use Rattle.sf_value.specs.Values.{Kind, pair_kind, table_kind}
+use Rattle.sf_value.specs.KindView.{key_kind_of}
+use Rattle.sf_expr.specs.Arena.{expression}
+use Rattle.sf_expr.specs.Typing.{HasType}
+use Rattle.sf_term.specs.declared.node.Node.TheVariants as nodes
 use Rattle.sf_term.specs.declared.program.Program.{Program}
-use Rattle.sf_term.specs.Arena.{tree}
-use Rattle.sf_mean.specs.Contexts.{Context}
-use Rattle.sf_mean.specs.Typing.{Takes}
+use Rattle.sf_term.specs.ParameterView.{kind_of_form}
+use Rattle.sf_term.specs.Parameters.{binding_of, parameters_of}
+use Rattle.sf_term.specs.Trees.{arguments_depth, collection_depth}
+use Rattle.sf_term.specs.Arena.{tree, term_number, expressions_of, arguments_under, arguments_of, collection_under, collection_of, collection_at, ArgumentBelow, CollectionBelow}
+use Rattle.sf_mean.specs.Contexts.{Context, names_of_values, inside_pattern}
+use Rattle.sf_mean.specs.Typing.{Takes, Collects}
 use Rattle.sf_expr.proofs.Bound.{on_err}
 use Rattle.sf_differ.specs.Differences.{Explains, tells_nothing, lacks_room}
 use Rattle.sf_differ.proofs.Told.{told_as, told_on, room_on}
 use Rattle.sf_operator.proofs.SameKinds.{payload_is}
 use Rattle.sf_check.specs.Contexts.{program_in, context_in}
-use Rattle.sf_check.specs.Breaking.{sequence_left, sequence_right, fan_left, fan_right, head_part, transformed_part, switch_source, switch_body, keeping_source, keeping_body}
-use Rattle.sf_check.specs.Differing.{BodyStops, TermDiffers, body_pattern, body_output, both_inputs, side_inputs, head_within, fed_output, initial_output, followed_output, replaced_input, transform_within, transformed_input, source_output, event_beside, switch_body_differs, observer_output, keeping_body_differs}
+use Rattle.sf_check.specs.Breaking.{pattern_in, members_inside, ArgumentKeeps, value_keeps, process_keeps, collection_keeps, ArgumentsLeft, all_left, sequence_left, sequence_right, fan_left, fan_right, head_part, transformed_part, switch_source, switch_body, keeping_source, keeping_body, releasing_body, ReachesMembers, gathered_members, releasing_members, their_edit}
+use Rattle.sf_check.specs.Differing.{BodyStops, EditUnfit, FormDiffers, TermDiffers, CollectionDiffers, ArgumentDiffersWithin, within_value, within_process, within_members, body_pattern, body_output, edit_pattern, edit_tables, both_inputs, side_inputs, head_within, fed_output, initial_output, followed_output, replaced_input, transform_within, transformed_input, source_output, event_beside, switch_body_differs, observer_output, keeping_body_differs, their_observer_output, released_body_differs, event_beside_members, members_edit_differs, added_members, added_key_within, member_within, added_key, member_output, dropped_members, dropped_key_within, dropped_key, kept_members, kept_within, kept_truth, choice_within, one_members, other_members, choice_truth, choice_tables}
 use Rattle.sf_check.proofs.Terms.{sided_there, left_reached, right_reached, first_reached, second_reached, loop_reached, first_term_reached, source_wants, input_wants, observer_reached}
-use Rattle.sf_check.proofs.Apart.{part_tells, form_tells, form_last, stops_last, exactly_as, fed_takes, watched_takes}
+use Rattle.sf_reach.proofs.Shallow.{arguments_shallow, members_shallow, released_shallow, edited_shallow, first_shallow, rest_shallow, found_there, absent_there}
+use Rattle.sf_check.proofs.Arguments.{rest_length, one_less}
+use Rattle.sf_check.proofs.Members.{empty_collects, absent_collects, added_collects, dropped_collects, kept_collects, chosen_collects, their_observer_reached, their_observer_seen, editing_members_reached}
+use Rattle.sf_check.proofs.Unlike.{found_same, argument_as, walk_first, walk_next, walk_end, collection_tells}
+use Rattle.sf_check.proofs.Apart.{part_tells, members_tell, argument_tells, call_tells, form_tells, form_last, stops_last, stops_as, edit_last, exactly_as, fed_takes, watched_takes, table_made}
 use Rattle.sf_check.proofs.differing.+explain.Goals as goal
 
 -- ## A part
@@ -195,6 +211,393 @@ explain_keeping-returns t c =
     let seen = watched_takes c.args.context.now.program.now c.args.observer c.spot-spot.result c.in-Ok.ensures c.in_ok-seen.ensures.ok in
     let event = subst (λ (e : Kind). Takes Γ (tree p c.args.observer) (pair_kind c.args.input.now c.in_ok-value.value) e) (payload_is c.in_ok-seen.seen c.in-Ok-payload.ensures.ok) seen in
     stops_last p Γ c.args.term _ c.args.input.now c.requires.there _ c.spot-spot.ensures _ _ _ _ _ _ _ (λ d k. keeping_body_differs c.in_ok-value.ensures.ok event k) (λ binds. keeping_body c.in_ok-value.ensures.ok event binds) c.explain_kept.ensures
+
+-- ## Calls
+
+pub explain_argument-returns-in_err-constant-in-Value-default-clause-err : goal.explain_argument-returns-in_err-constant-in-Value-default-clause-err
+explain_argument-returns-in_err-constant-in-Value-default-clause-err t c =
+    told_on _ _ c.from_residual.ensures.1 (argument_as (λ v k. Explains (ArgumentDiffersWithin (program_in c.args.context.now) (context_in c.args.context.now) v k) c.in_err-constant-in-Value-default.field-0.0) c.in-Value-default.is-0 refl (told_as (λ d k. within_value k) c.in_err-constant-in-Value-default.ensures.err))
+
+pub explain_argument-returns-in_ok-constant-in-Value-default-clause-ok : goal.explain_argument-returns-in_ok-constant-in-Value-default-clause-ok
+explain_argument-returns-in_ok-constant-in-Value-default-clause-ok t c =
+    argument_as (ArgumentKeeps (program_in c.args.context.now) (context_in c.args.context.now)) c.in-Value-default.is-0 refl (value_keeps c.in_ok-constant-in-Value-default.ensures.ok)
+
+pub explain_argument-returns-in_err-part-in-Process-Process-clause-err : goal.explain_argument-returns-in_err-part-in-Process-Process-clause-err
+explain_argument-returns-in_err-part-in-Process-Process-clause-err t c =
+    told_on _ _ c.from_residual-in_err-part-in-Process-Process.ensures.1
+    (argument_as (λ v k. Explains (ArgumentDiffersWithin (program_in c.args.context.now) (context_in c.args.context.now) v k) c.in_err-part-in-Process-Process.field-0.0) c.in-Process-Process.is-0 (ap kind_of_form c.in-Process-Process.is-1) (told_as (λ d k. within_process k) c.in_err-part-in-Process-Process.ensures.err))
+
+pub explain_argument-returns-in_ok-part-in-Process-Process-clause-ok : goal.explain_argument-returns-in_ok-part-in-Process-Process-clause-ok
+explain_argument-returns-in_ok-part-in-Process-Process-clause-ok t c =
+    argument_as (ArgumentKeeps (program_in c.args.context.now) (context_in c.args.context.now)) c.in-Process-Process.is-0 (ap kind_of_form c.in-Process-Process.is-1) (process_keeps c.in_ok-part-in-Process-Process.ensures.ok)
+
+pub explain_argument-members_at_part-requires : goal.explain_argument-members_at_part-requires
+explain_argument-members_at_part-requires t c =
+    let is = c.in-Collection-Collection.is-0 in
+    (omega arith, (omega (arith, c.nodes-in-Collection-Collection.ensures.count, c.nodes-in-Collection-Collection.ensures.small), (subst (ArgumentBelow (program_in c.args.context.now) (term_number c.args.term)) is c.requires.below, c.requires.shallow _ is)))
+
+pub explain_argument-returns-in_err-members_at_part-in-Collection-Collection-clause-err : goal.explain_argument-returns-in_err-members_at_part-in-Collection-Collection-clause-err
+explain_argument-returns-in_err-members_at_part-in-Collection-Collection-clause-err t c =
+    told_on _ _ c.from_residual-in_err-members_at_part-in-Collection-Collection.ensures.1
+    (argument_as (λ v k. Explains (ArgumentDiffersWithin (program_in c.args.context.now) (context_in c.args.context.now) v k) c.in_err-members_at_part-in-Collection-Collection.field-0.0) c.in-Collection-Collection.is-0 (ap kind_of_form c.in-Collection-Collection.is-1) (told_as (λ d k. within_members k) c.in_err-members_at_part-in-Collection-Collection.ensures.err))
+
+pub explain_argument-returns-in_ok-members_at_part-in-Collection-Collection-clause-ok : goal.explain_argument-returns-in_ok-members_at_part-in-Collection-Collection-clause-ok
+explain_argument-returns-in_ok-members_at_part-in-Collection-Collection-clause-ok t c =
+    argument_as (ArgumentKeeps (program_in c.args.context.now) (context_in c.args.context.now)) c.in-Collection-Collection.is-0 (ap kind_of_form c.in-Collection-Collection.is-1) (collection_keeps c.in_ok-members_at_part-in-Collection-Collection.ensures.ok)
+
+pub explain_argument-returns-in-Process-Value-clause-err : goal.explain_argument-returns-in-Process-Value-clause-err
+explain_argument-returns-in-Process-Value-clause-err t c = tells_nothing
+
+pub explain_argument-returns-in-Process-Collection-clause-err : goal.explain_argument-returns-in-Process-Collection-clause-err
+explain_argument-returns-in-Process-Collection-clause-err t c = tells_nothing
+
+pub explain_argument-returns-in-Collection-Value-clause-err : goal.explain_argument-returns-in-Collection-Value-clause-err
+explain_argument-returns-in-Collection-Value-clause-err t c = tells_nothing
+
+pub explain_argument-returns-in-Collection-Process-clause-err : goal.explain_argument-returns-in-Collection-Process-clause-err
+explain_argument-returns-in-Collection-Process-clause-err t c = tells_nothing
+
+pub explain_call-loop-argument-init : goal.explain_call-loop-argument-init
+explain_call-loop-argument-init t c =
+    let p = program_in c.args.context.now in
+    let gives = c.into_iter-argument-iterator.ensures.into_iter_gives in
+    let first : iter_rest (zip_first c.into_iter-argument-iterator.result) ≡ arguments_under p c.args.arguments =
+    ap (λ z. iter_rest (zip_first z)) gives ∙ ap iter_rest c.zip-argument-items.ensures.first ∙ c.iter.ensures.rest ∙ c.arguments-arguments.ensures in
+    let given : iter_rest (zip_second c.zip-argument-items.result) ≡ c.parameters-parameters.result.now = c.zip-argument-items.ensures.second.0 in
+    let second : iter_rest (zip_second c.into_iter-argument-iterator.result) ≡ c.in-Some.template.now.parameters =
+    ap (λ z. iter_rest (zip_second z)) gives ∙ given ∙ c.parameters-parameters.ensures in
+    let count = ap length (sym c.arguments-arguments.ensures) ∙ c.if-arguments-parameters.false ∙ ap length c.parameters-parameters.ensures ∙ sym (length-map c.in-Some.template.now.parameters binding_of) in
+    record {
+      so = walk_first (ArgumentsLeft p (context_in c.args.context.now) (arguments_under p c.args.arguments) (parameters_of c.in-Some.template.now.parameters)) first second (all_left count);
+      below = All-same (ArgumentBelow p (term_number c.args.term)) _ _ first c.requires.below;
+      shallow = subst (λ vs. arguments_depth (arguments_of p vs) ≤ 64) (sym first) (arguments_shallow p c.args.term _ _ (sym c.requires.there));
+    }
+
+pub explain_call-explain_argument-requires : goal.explain_call-explain_argument-requires
+explain_call-explain_argument-requires t c =
+    let p = program_in c.args.context.now in
+    let step = Zip-more c.loop-argument.argument-iterator c.next.new.self _ _ c.in-Some-2.is c.next.ensures.steps in
+    (omega arith, (All-head (ArgumentBelow p (term_number c.args.term)) _ _ (subst (All (ArgumentBelow p (term_number c.args.term))) step.0 c.loop-argument.invariant.below), λ i is. first_shallow p _ _ i is (subst (λ vs. arguments_depth (arguments_of p vs) ≤ 64) step.0 c.loop-argument.invariant.shallow)))
+
+pub explain_call-loop-argument-preserved : goal.explain_call-loop-argument-preserved
+explain_call-loop-argument-preserved t c =
+    let p = program_in c.args.context.now in
+    let Γ = context_in c.args.context.now in
+    let step = Zip-more c.loop-argument.argument-iterator c.next.new.self _ _ c.in-Some-2.is c.next.ensures.steps in
+    let whole = ArgumentsLeft p Γ (arguments_under p c.args.arguments) (parameters_of c.in-Some.template.now.parameters) in
+    record {
+      so = one_less (walk_next whole step.0 step.1 c.loop-argument.invariant.so) (subst (ArgumentKeeps p Γ c.in-Some-2.argument.now) c.form.ensures c.in_ok-explain_argument.ensures.ok);
+      below = All-rest (ArgumentBelow p (term_number c.args.term)) _ _ _ step.0 c.loop-argument.invariant.below;
+      shallow = rest_shallow p _ _ (subst (λ vs. arguments_depth (arguments_of p vs) ≤ 64) step.0 c.loop-argument.invariant.shallow);
+    }
+
+pub explain_call-returns-in_err-explain_argument : goal.explain_call-returns-in_err-explain_argument
+explain_call-returns-in_err-explain_argument t c =
+    let p = program_in c.args.context.now in
+    let Γ = context_in c.args.context.now in
+    let step = Zip-more c.loop-argument.argument-iterator c.next.new.self _ _ c.in-Some-2.is c.next.ensures.steps in
+    let whole = ArgumentsLeft p Γ (arguments_under p c.args.arguments) (parameters_of c.in-Some.template.now.parameters) in
+    told_on _ _ c.from_residual.ensures.1
+    (argument_tells p Γ c.args.term _ _ _ c.requires.there _ c.in-Some.ensures.found (walk_next whole step.0 step.1 c.loop-argument.invariant.so) (subst (λ k. Explains (ArgumentDiffersWithin p Γ c.in-Some-2.argument.now k) c.in_err-explain_argument.field-0.0) c.form.ensures c.in_err-explain_argument.ensures.err))
+
+pub explain_call-explain_fit-requires : goal.explain_call-explain_fit-requires
+explain_call-explain_fit-requires t c =
+    let p = program_in c.args.context.now in
+    let Γ = context_in c.args.context.now in
+    let is = sym c.arguments-arguments.ensures in
+    let whole = ArgumentsLeft p Γ (arguments_under p c.args.arguments) (parameters_of c.in-Some.template.now.parameters) in
+    let typed = walk_end whole (rest_length c.loop-argument.invariant.so) c.loop-argument.invariant.so (either_empty_from_Zip c.loop-argument.argument-iterator c.next.new.self _ c.in-None.is c.next.ensures.steps) in
+    record {
+      typed = subst (λ vs. ArgumentsLeft p Γ vs (parameters_of c.in-Some.template.now.parameters) [] []) is typed;
+      below = subst (All (ArgumentBelow p (term_number c.args.term))) is c.requires.below;
+      shallow = subst (λ vs. arguments_depth (arguments_of p vs) ≤ 64) is (arguments_shallow p c.args.term _ _ (sym c.requires.there));
+    }
+
+pub explain_call-returns : goal.explain_call-returns
+explain_call-returns t c =
+    call_tells (program_in c.args.context.now) (context_in c.args.context.now) c.args.term c.args.input.now _ _ c.requires.there _ c.in-Some.ensures.found _ _ c.arguments-arguments.ensures c.explain_fit.ensures
+
+-- ## Members
+
+pub explain_gathered-members_at_part-requires : goal.explain_gathered-members_at_part-requires
+explain_gathered-members_at_part-requires t c = (omega arith, (c.requires.fits, (c.requires.below, members_shallow (program_in c.args.context.now) c.args.term c.args.members (sym c.requires.there))))
+
+pub explain_gathered-returns-in_err-members_at_part : goal.explain_gathered-returns-in_err-members_at_part
+explain_gathered-returns-in_err-members_at_part t c = told_on _ _ c.from_residual.ensures.1 (members_tell _ _ _ _ _ c.requires.there gathered_members c.in_err-members_at_part.ensures.err)
+
+pub explain_releasing-members_at_part-requires : goal.explain_releasing-members_at_part-requires
+explain_releasing-members_at_part-requires t c = (omega arith, (c.requires.fits, (c.requires.below.0, released_shallow (program_in c.args.context.now) c.args.term c.args.form (sym c.requires.there))))
+
+pub explain_releasing-returns-in_err-types : goal.explain_releasing-returns-in_err-types
+explain_releasing-returns-in_err-types t c = told_on _ _ c.from_residual.ensures.1 (members_tell _ _ _ _ _ c.requires.there releasing_members c.in_err-types.ensures.err)
+
+pub explain_releasing-returns-in_err-seen : goal.explain_releasing-returns-in_err-seen
+explain_releasing-returns-in_err-seen t c =
+    told_on _ _ c.from_residual-in_err-seen.ensures.1
+    (part_tells _ _ _ _ _ c.requires.there (their_observer_reached (program_in c.args.context.now) _ c.args.term _ _ c.spot-spot.ensures _ c.requires.there _ _ c.in_ok-types.ensures.ok _ c.in-Ok.ensures _ c.in-Ok-pair_of.ensures) c.in_err-seen.ensures.err)
+
+pub explain_releasing-returns-in_err-suited : goal.explain_releasing-returns-in_err-suited
+explain_releasing-returns-in_err-suited t c =
+    let seen = their_observer_seen (program_in c.args.context.now) _ c.args.term _ _ c.spot-spot.ensures _ c.requires.there _ _ c.in_ok-types.ensures.ok _ c.in-Ok.ensures _ c.in-Ok-pair_of.ensures _ c.in_ok-seen.ensures.ok in
+    told_on _ _ c.from_residual-in_err-suited.ensures.1 (form_tells _ _ _ _ _ c.requires.there _ c.spot-spot.ensures (λ d k. their_observer_output c.in_ok-types.ensures.ok seen k) c.in_err-suited.ensures.err)
+
+pub explain_releasing-returns : goal.explain_releasing-returns
+explain_releasing-returns t c =
+    let p = program_in c.args.context.now in
+    let Γ = context_in c.args.context.now in
+    let types = c.in_ok-types.types in
+    let seen = their_observer_seen p _ c.args.term _ _ c.spot-spot.ensures _ c.requires.there _ _ c.in_ok-types.ensures.ok _ c.in-Ok.ensures _ c.in-Ok-pair_of.ensures _ c.in_ok-seen.ensures.ok in
+    let event = subst (λ (e : Kind). Takes Γ (tree p c.args.form.observer) (pair_kind c.args.input.now (table_kind (key_kind_of types.keys) types.output)) e) (payload_is c.in_ok-seen.seen c.in-Ok-payload.ensures.ok) seen in
+    stops_as p Γ c.args.term _ c.args.input.now c.requires.there _ c.spot-spot.ensures _ _ _ _ _ _ _ _ (table_made c.spot-spot.result c.in-Ok.ensures)
+    (λ d k. released_body_differs c.in_ok-types.ensures.ok event k) (λ binds. releasing_body c.in_ok-types.ensures.ok event binds) c.explain_released.ensures
+
+pub explain_released-returns-in_err-names : goal.explain_released-returns-in_err-names
+explain_released-returns-in_err-names t c = room_on _ _ c.from_residual.ensures.1
+
+pub explain_released-returns : goal.explain_released-returns
+explain_released-returns t c =
+    let form = c.args.form in
+    subst (λ (Γ : Context). IfErr c.explain_inside.result (λ e. Explains (BodyStops (program_in c.args.context.now) Γ c.args.spot form.pattern form.body c.args.input.now c.args.table.now c.args.payload.now) e)) c.in_ok-names.ensures c.explain_inside.ensures
+
+-- ## Edits
+
+pub explain_editing-members_at_part-requires : goal.explain_editing-members_at_part-requires
+explain_editing-members_at_part-requires t c = (omega arith, (c.in-Ok.ensures.fits, (c.requires.below.0, (edited_shallow (program_in c.args.context.now) c.args.term c.args.form (sym c.requires.there)).0)))
+
+pub explain_editing-explain_edited-requires : goal.explain_editing-explain_edited-requires
+explain_editing-explain_edited-requires t c = (omega arith, (c.in-Ok.ensures.fits, (c.requires.below.1, (edited_shallow (program_in c.args.context.now) c.args.term c.args.form (sym c.requires.there)).1)))
+
+pub explain_editing-returns-in_err-suited : goal.explain_editing-returns-in_err-suited
+explain_editing-returns-in_err-suited t c = told_on _ _ c.from_residual.ensures.1 (form_tells _ _ _ _ _ c.requires.there _ c.spot-spot.ensures (λ d k. event_beside_members k) c.in_err-suited.ensures.err)
+
+pub explain_editing-returns-in_err-types : goal.explain_editing-returns-in_err-types
+explain_editing-returns-in_err-types t c =
+    told_on _ _ c.from_residual-in_err-types.ensures.1
+    (members_tell _ _ _ _ _ c.requires.there (editing_members_reached (program_in c.args.context.now) _ c.args.term _ _ c.spot-spot.ensures _ c.requires.there _ _ c.in-Ok.ensures.ok) c.in_err-types.ensures.err)
+
+pub explain_editing-returns : goal.explain_editing-returns
+explain_editing-returns t c =
+    let p = program_in c.args.context.now in
+    let Γ = context_in c.args.context.now in
+    let form = c.args.form in
+    let k = key_kind_of c.in_ok-types.types.keys in
+    let beside = sym c.in-Ok.ensures.ok in
+    let Θ = inside_pattern (pattern_in p form.pattern) c.in-Ok.payload.now (members_inside p form.name k c.in-Ok.value.now c.in_ok-types.types.output Γ) in
+    edit_last p Γ c.args.term _ c.args.input.now c.requires.there _ c.spot-spot.ensures _ _ _ _ _ _ _ _
+    (λ d l. subst (λ a. FormDiffers p Γ c.spot-spot.result (nodes.Editing form) a d) beside (members_edit_differs c.in_ok-types.ensures.ok l))
+    (λ binds. subst (λ a. ReachesMembers p Γ (nodes.Editing form) a Θ form.edit c.in-Ok.value.now) beside (their_edit c.in_ok-types.ensures.ok binds)) c.explain_edited.ensures
+
+pub explain_edited-returns-in_err-names : goal.explain_edited-returns-in_err-names
+explain_edited-returns-in_err-names t c = room_on _ _ c.from_residual.ensures.1
+
+pub explain_edited-returns : goal.explain_edited-returns
+explain_edited-returns t c =
+    let form = c.args.form in
+    let wanted = c.args.wanted.now in
+    subst (λ (Γ : Context). IfErr c.explain_edit_inside.result (λ e. Explains (EditUnfit (program_in c.args.context.now) Γ c.args.spot form.pattern form.edit (key_kind_of wanted.keys) c.args.input.now wanted.output c.args.payload.now) e)) c.in_ok-names.ensures c.explain_edit_inside.ensures
+
+pub explain_edit_inside-explain_edit-requires : goal.explain_edit_inside-explain_edit-requires
+explain_edit_inside-explain_edit-requires t c =
+    let same = sym c.in_ok-inner.ensures.program in
+    (omega arith, (c.requires.fits, (subst (λ p. CollectionBelow (term_number c.args.term) (collection_under p c.args.form.edit)) same c.requires.below, subst (λ p. collection_depth (collection_of p (collection_under p c.args.form.edit)) ≤ 64) same c.requires.shallow)))
+
+pub explain_edit_inside-returns-in_err-inner : goal.explain_edit_inside-returns-in_err-inner
+explain_edit_inside-returns-in_err-inner t c = room_on _ _ c.from_residual.ensures.1
+
+pub explain_edit_inside-returns : goal.explain_edit_inside-returns
+explain_edit_inside-returns t c =
+    let inner = c.in_ok-inner.ensures in
+    let form = c.args.form in
+    let wanted = c.args.wanted.now in
+    subst₂ (λ (p : Program) (Γ : Context). IfErr c.explain_edit.result (λ e. Explains (EditUnfit p Γ c.args.spot form.pattern form.edit (key_kind_of wanted.keys) c.args.input.now wanted.output c.args.payload.now) e)) inner.program inner.context c.explain_edit.ensures
+
+pub explain_edit-returns-in_err-names : goal.explain_edit-returns-in_err-names
+explain_edit-returns-in_err-names t c = told_on _ _ c.from_residual.ensures.1 (told_as (λ d k. inl (edit_pattern k)) c.in_err-names.ensures.err)
+
+pub explain_edit-returns-in_err-given : goal.explain_edit-returns-in_err-given
+explain_edit-returns-in_err-given t c =
+    let p = program_in c.args.context.now in
+    let names = c.in_ok-names.ensures in
+    told_on _ _ c.from_residual-in_err-given.ensures.1
+    (told_as (λ d k. inr (names.bound, subst (λ (Γ : Context). CollectionDiffers p Γ (collection_under p c.args.form.edit) c.args.input.now d) names.inside k)) c.in_err-given.ensures.err)
+
+pub explain_edit-returns : goal.explain_edit-returns
+explain_edit-returns t c =
+    let p = program_in c.args.context.now in
+    let names = c.in_ok-names.ensures in
+    let given = subst (λ (Γ : Context). Collects Γ (collection_at p c.args.form.edit) (key_kind_of c.in_ok-given.given.keys) c.args.input.now c.in_ok-given.given.output) names.inside c.in_ok-given.ensures.ok in
+    on_err c.suits_members.result (λ b h. told_as (λ d k. inl (edit_tables names.bound given k)) h) c.suits_members.ensures.err
+
+-- ## Collections
+
+pub members_part_within-members_at_part-requires : goal.members_part_within-members_at_part-requires
+members_part_within-members_at_part-requires t c =
+    let same = sym c.in_ok-inner.ensures.program in
+    (omega arith, (c.requires.fits, (subst (λ p. CollectionBelow (term_number c.args.form) (collection_under p c.args.members)) same c.requires.below, subst (λ p. collection_depth (collection_of p (collection_under p c.args.members)) ≤ 64) same c.requires.shallow)))
+
+pub members_part_within-returns-in_err-inner-clause-err : goal.members_part_within-returns-in_err-inner-clause-err
+members_part_within-returns-in_err-inner-clause-err t c = room_on _ _ c.from_residual.ensures.1
+
+pub members_part_within-returns-clause-ok : goal.members_part_within-returns-clause-ok
+members_part_within-returns-clause-ok t c =
+    let inner = c.in_ok-inner.ensures in
+    subst₂ (λ (p : Program) (Γ : Context). IfOk c.members_at_part.result (λ m. Collects Γ (collection_at p c.args.members) (key_kind_of m.keys) c.args.input.now m.output)) inner.program inner.context c.members_at_part.ensures.ok
+
+pub members_part_within-returns-clause-err : goal.members_part_within-returns-clause-err
+members_part_within-returns-clause-err t c =
+    let inner = c.in_ok-inner.ensures in
+    subst₂ (λ (p : Program) (Γ : Context). IfErr c.members_at_part.result (λ e. Explains (CollectionDiffers p Γ (collection_under p c.args.members) c.args.input.now) e)) inner.program inner.context c.members_at_part.ensures.err
+
+pub members_at_part-members_part-requires : goal.members_at_part-members_part-requires
+members_at_part-members_part-requires t c =
+    let there = found_there c.collection.ensures c.in-Some.is in
+    let shallow = subst (λ i. collection_depth (collection_of (program_in c.args.context.now) i) ≤ 64) (sym there) c.requires.shallow in
+    (omega (arith, shallow), (c.requires.fits, (subst (CollectionBelow (term_number c.args.form)) (sym there) c.requires.below, shallow)))
+
+pub members_at_part-returns-in-Some-clause-ok : goal.members_at_part-returns-in-Some-clause-ok
+members_at_part-returns-in-Some-clause-ok t c =
+    let p = program_in c.args.context.now in
+    subst (λ i. IfOk c.members_part.result (λ m. Collects (context_in c.args.context.now) (collection_of p i) (key_kind_of m.keys) c.args.input.now m.output)) (found_there c.collection.ensures c.in-Some.is) c.members_part.ensures.ok
+
+pub members_at_part-returns-in-Some-clause-err : goal.members_at_part-returns-in-Some-clause-err
+members_at_part-returns-in-Some-clause-err t c =
+    let p = program_in c.args.context.now in
+    subst (λ i. IfErr c.members_part.result (λ e. Explains (CollectionDiffers p (context_in c.args.context.now) i c.args.input.now) e)) (found_there c.collection.ensures c.in-Some.is) c.members_part.ensures.err
+
+pub members_at_part-returns-in-None-clause-ok : goal.members_at_part-returns-in-None-clause-ok
+members_at_part-returns-in-None-clause-ok t c = absent_collects (program_in c.args.context.now) (context_in c.args.context.now) c.args.input.now _ (absent_there c.collection.ensures c.in-None.is) c.unit.ensures
+
+pub members_part-returns-in_err-new-in-Empty-clause-err : goal.members_part-returns-in_err-new-in-Empty-clause-err
+members_part-returns-in_err-new-in-Empty-clause-err t c =
+    room_on _ _ c.from_residual.ensures.1
+
+pub members_part-returns-in_ok-new-in-Empty-clause-ok : goal.members_part-returns-in_ok-new-in-Empty-clause-ok
+members_part-returns-in_ok-new-in-Empty-clause-ok t c =
+    let types = c.in_ok-new-in-Empty.ensures in
+    rw c.in-Empty.is (empty_collects (program_in c.args.context.now) (context_in c.args.context.now) c.args.input.now _ _ _ _ types.keys types.output)
+
+pub members_part-returns-in-Used-clause-ok : goal.members_part-returns-in-Used-clause-ok
+members_part-returns-in-Used-clause-ok t c =
+    rw c.in-Used.is c.used_part.ensures.ok
+
+pub members_part-returns-in-Used-clause-err : goal.members_part-returns-in-Used-clause-err
+members_part-returns-in-Used-clause-err t c =
+    rw c.in-Used.is c.used_part.ensures.err
+
+pub members_part-members_part-requires : goal.members_part-members_part-requires
+members_part-members_part-requires t c =
+    let same = ap (λ i. collection_depth (collection_of (program_in c.args.context.now) i)) c.deref.ensures in
+    let whole = ap (λ i. collection_depth (collection_of (program_in c.args.context.now) i)) c.in-Added.is in
+    (omega (arith, same, whole), (c.requires.fits, (rw c.deref.ensures ((rw c.in-Added.is at c.requires.below).0), omega (arith, same, whole, c.requires.shallow))))
+
+pub members_part-members_part-requires-in-Dropped : goal.members_part-members_part-requires-in-Dropped
+members_part-members_part-requires-in-Dropped t c =
+    let same = ap (λ i. collection_depth (collection_of (program_in c.args.context.now) i)) c.deref-in-Dropped.ensures in
+    let whole = ap (λ i. collection_depth (collection_of (program_in c.args.context.now) i)) c.in-Dropped.is in
+    (omega (arith, same, whole), (c.requires.fits, (rw c.deref-in-Dropped.ensures ((rw c.in-Dropped.is at c.requires.below)), omega (arith, same, whole, c.requires.shallow))))
+
+pub members_part-members_part-requires-in-Kept : goal.members_part-members_part-requires-in-Kept
+members_part-members_part-requires-in-Kept t c =
+    let same = ap (λ i. collection_depth (collection_of (program_in c.args.context.now) i)) c.deref-in-Kept.ensures in
+    let whole = ap (λ i. collection_depth (collection_of (program_in c.args.context.now) i)) c.in-Kept.is in
+    (omega (arith, same, whole), (c.requires.fits, (rw c.deref-in-Kept.ensures ((rw c.in-Kept.is at c.requires.below)), omega (arith, same, whole, c.requires.shallow))))
+
+pub members_part-members_part-requires-in-Chosen : goal.members_part-members_part-requires-in-Chosen
+members_part-members_part-requires-in-Chosen t c =
+    let same = ap (λ i. collection_depth (collection_of (program_in c.args.context.now) i)) c.deref-in-Chosen.ensures in
+    let whole = ap (λ i. collection_depth (collection_of (program_in c.args.context.now) i)) c.in-Chosen.is in
+    (omega (arith, same, whole), (c.requires.fits, (rw c.deref-in-Chosen.ensures ((rw c.in-Chosen.is at c.requires.below).0), omega (arith, same, whole, c.requires.shallow))))
+
+pub members_part-members_part-requires-in-Chosen-2 : goal.members_part-members_part-requires-in-Chosen-2
+members_part-members_part-requires-in-Chosen-2 t c =
+    let same = ap (λ i. collection_depth (collection_of (program_in c.args.context.now) i)) c.deref-in-Chosen-2.ensures in
+    let whole = ap (λ i. collection_depth (collection_of (program_in c.args.context.now) i)) c.in-Chosen.is in
+    (omega (arith, same, whole), (c.requires.fits, (rw c.deref-in-Chosen-2.ensures ((rw c.in-Chosen.is at c.requires.below).1), omega (arith, same, whole, c.requires.shallow))))
+
+pub members_part-part-requires : goal.members_part-part-requires
+members_part-part-requires t c =
+    let below = (rw c.in-Added.is at c.requires.below).1 in
+    (omega (arith, below), c.requires.fits)
+
+pub members_part-returns-in_err-types-in-Added-clause-err : goal.members_part-returns-in_err-types-in-Added-clause-err
+members_part-returns-in_err-types-in-Added-clause-err t c =
+    told_on _ _ c.from_residual-in_err-types-in-Added.ensures.1 (collection_tells (program_in c.args.context.now) (context_in c.args.context.now) c.args.input.now c.in-Added.is (λ d k. added_members k) (rw c.deref.ensures at c.in_err-types-in-Added.ensures.err))
+
+pub members_part-returns-in_err-given-in-Added-clause-err : goal.members_part-returns-in_err-given-in-Added-clause-err
+members_part-returns-in_err-given-in-Added-clause-err t c =
+    told_on _ _ c.from_residual-in_err-given-in-Added.ensures.1 (collection_tells (program_in c.args.context.now) (context_in c.args.context.now) c.args.input.now c.in-Added.is (λ d k. added_key_within (rw c.deref.ensures at c.in_ok-types-in-Added.ensures.ok) k) (c.in_err-given-in-Added.ensures.err))
+
+pub members_part-returns-in_err-output-in-Added-clause-err : goal.members_part-returns-in_err-output-in-Added-clause-err
+members_part-returns-in_err-output-in-Added-clause-err t c =
+    told_on _ _ c.from_residual-in_err-output-in-Added.ensures.1 (collection_tells (program_in c.args.context.now) (context_in c.args.context.now) c.args.input.now c.in-Added.is (λ d k. member_within (rw c.deref.ensures at c.in_ok-types-in-Added.ensures.ok) c.in_ok-given-in-Added.ensures.ok k) (c.in_err-output-in-Added.ensures.err))
+
+pub members_part-returns-in_err-suits_keys-in-Added-clause-err : goal.members_part-returns-in_err-suits_keys-in-Added-clause-err
+members_part-returns-in_err-suits_keys-in-Added-clause-err t c =
+    told_on _ _ c.from_residual-in_err-suits_keys-in-Added.ensures.1 (collection_tells (program_in c.args.context.now) (context_in c.args.context.now) c.args.input.now c.in-Added.is (λ d k. added_key (rw c.deref.ensures at c.in_ok-types-in-Added.ensures.ok) c.in_ok-given-in-Added.ensures.ok c.in_ok-output-in-Added.ensures.ok k) (c.in_err-suits_keys-in-Added.ensures.err))
+
+pub members_part-returns-in_err-suits_type-in-Added-clause-err : goal.members_part-returns-in_err-suits_type-in-Added-clause-err
+members_part-returns-in_err-suits_type-in-Added-clause-err t c =
+    told_on _ _ c.from_residual-in_err-suits_type-in-Added.ensures.1 (collection_tells (program_in c.args.context.now) (context_in c.args.context.now) c.args.input.now c.in-Added.is (λ d k. member_output (rw c.deref.ensures at c.in_ok-types-in-Added.ensures.ok) (subst (HasType (names_of_values (context_in c.args.context.now)) (expression (expressions_of (program_in c.args.context.now)) _)) c.in_ok-suits_keys-in-Added.ensures.ok c.in_ok-given-in-Added.ensures.ok) c.in_ok-output-in-Added.ensures.ok k) (c.in_err-suits_type-in-Added.ensures.err))
+
+pub members_part-returns-in_ok-suits_type-in-Added-clause-ok : goal.members_part-returns-in_ok-suits_type-in-Added-clause-ok
+members_part-returns-in_ok-suits_type-in-Added-clause-ok t c =
+    rw c.in-Added.is (added_collects (program_in c.args.context.now) (context_in c.args.context.now) c.args.input.now _ _ _ c.in-Added.spot _ _ (rw c.deref.ensures at c.in_ok-types-in-Added.ensures.ok) _ c.in_ok-given-in-Added.ensures.ok _ c.in_ok-output-in-Added.ensures.ok (found_same c.in_ok-suits_keys-in-Added.ensures.ok) (found_same c.in_ok-suits_type-in-Added.ensures.ok))
+
+pub members_part-returns-in_err-types-in-Dropped-clause-err : goal.members_part-returns-in_err-types-in-Dropped-clause-err
+members_part-returns-in_err-types-in-Dropped-clause-err t c =
+    told_on _ _ c.from_residual-in_err-types-in-Dropped.ensures.1 (collection_tells (program_in c.args.context.now) (context_in c.args.context.now) c.args.input.now c.in-Dropped.is (λ d k. dropped_members k) (rw c.deref-in-Dropped.ensures at c.in_err-types-in-Dropped.ensures.err))
+
+pub members_part-returns-in_err-given-in-Dropped-clause-err : goal.members_part-returns-in_err-given-in-Dropped-clause-err
+members_part-returns-in_err-given-in-Dropped-clause-err t c =
+    told_on _ _ c.from_residual-in_err-given-in-Dropped.ensures.1 (collection_tells (program_in c.args.context.now) (context_in c.args.context.now) c.args.input.now c.in-Dropped.is (λ d k. dropped_key_within (rw c.deref-in-Dropped.ensures at c.in_ok-types-in-Dropped.ensures.ok) k) (c.in_err-given-in-Dropped.ensures.err))
+
+pub members_part-returns-in_err-suits_keys-in-Dropped-clause-err : goal.members_part-returns-in_err-suits_keys-in-Dropped-clause-err
+members_part-returns-in_err-suits_keys-in-Dropped-clause-err t c =
+    told_on _ _ c.from_residual-in_err-suits_keys-in-Dropped.ensures.1 (collection_tells (program_in c.args.context.now) (context_in c.args.context.now) c.args.input.now c.in-Dropped.is (λ d k. dropped_key (rw c.deref-in-Dropped.ensures at c.in_ok-types-in-Dropped.ensures.ok) c.in_ok-given-in-Dropped.ensures.ok k) (c.in_err-suits_keys-in-Dropped.ensures.err))
+
+pub members_part-returns-in_ok-suits_keys-in-Dropped-clause-ok : goal.members_part-returns-in_ok-suits_keys-in-Dropped-clause-ok
+members_part-returns-in_ok-suits_keys-in-Dropped-clause-ok t c =
+    rw c.in-Dropped.is (dropped_collects (program_in c.args.context.now) (context_in c.args.context.now) c.args.input.now _ _ c.in-Dropped.spot _ _ (rw c.deref-in-Dropped.ensures at c.in_ok-types-in-Dropped.ensures.ok) _ c.in_ok-given-in-Dropped.ensures.ok (found_same c.in_ok-suits_keys-in-Dropped.ensures.ok))
+
+pub members_part-returns-in_err-types-in-Kept-clause-err : goal.members_part-returns-in_err-types-in-Kept-clause-err
+members_part-returns-in_err-types-in-Kept-clause-err t c =
+    told_on _ _ c.from_residual-in_err-types-in-Kept.ensures.1 (collection_tells (program_in c.args.context.now) (context_in c.args.context.now) c.args.input.now c.in-Kept.is (λ d k. kept_members k) (rw c.deref-in-Kept.ensures at c.in_err-types-in-Kept.ensures.err))
+
+pub members_part-returns-in_err-kept-in-Kept-clause-err : goal.members_part-returns-in_err-kept-in-Kept-clause-err
+members_part-returns-in_err-kept-in-Kept-clause-err t c =
+    told_on _ _ c.from_residual-in_err-kept-in-Kept.ensures.1 (collection_tells (program_in c.args.context.now) (context_in c.args.context.now) c.args.input.now c.in-Kept.is (λ d k. kept_within (rw c.deref-in-Kept.ensures at c.in_ok-types-in-Kept.ensures.ok) k) (rw c.type_of_keys-keys.ensures at c.in_err-kept-in-Kept.ensures.err))
+
+pub members_part-returns-in_err-suits_type-in-Kept-clause-err : goal.members_part-returns-in_err-suits_type-in-Kept-clause-err
+members_part-returns-in_err-suits_type-in-Kept-clause-err t c =
+    told_on _ _ c.from_residual-in_err-suits_type-in-Kept.ensures.1 (collection_tells (program_in c.args.context.now) (context_in c.args.context.now) c.args.input.now c.in-Kept.is (λ d k. kept_truth (rw c.deref-in-Kept.ensures at c.in_ok-types-in-Kept.ensures.ok) (rw c.type_of_keys-keys.ensures at c.in_ok-kept-in-Kept.ensures.ok) k) (rw c.bool.ensures at c.in_err-suits_type-in-Kept.ensures.err))
+
+pub members_part-returns-in_ok-suits_type-in-Kept-clause-ok : goal.members_part-returns-in_ok-suits_type-in-Kept-clause-ok
+members_part-returns-in_ok-suits_type-in-Kept-clause-ok t c =
+    rw c.in-Kept.is (kept_collects (program_in c.args.context.now) (context_in c.args.context.now) c.args.input.now _ _ c.in-Kept.spot _ _ (rw c.deref-in-Kept.ensures at c.in_ok-types-in-Kept.ensures.ok) _ (rw c.type_of_keys-keys.ensures at c.in_ok-kept-in-Kept.ensures.ok) (found_same (rw c.bool.ensures at c.in_ok-suits_type-in-Kept.ensures.ok)))
+
+pub members_part-returns-in_err-given-in-Chosen-clause-err : goal.members_part-returns-in_err-given-in-Chosen-clause-err
+members_part-returns-in_err-given-in-Chosen-clause-err t c =
+    told_on _ _ c.from_residual-in_err-given-in-Chosen.ensures.1 (collection_tells (program_in c.args.context.now) (context_in c.args.context.now) c.args.input.now c.in-Chosen.is (λ d k. choice_within k) (c.in_err-given-in-Chosen.ensures.err))
+
+pub members_part-returns-in_err-types-in-Chosen-clause-err : goal.members_part-returns-in_err-types-in-Chosen-clause-err
+members_part-returns-in_err-types-in-Chosen-clause-err t c =
+    told_on _ _ c.from_residual-in_err-types-in-Chosen.ensures.1 (collection_tells (program_in c.args.context.now) (context_in c.args.context.now) c.args.input.now c.in-Chosen.is (λ d k. one_members c.in_ok-given-in-Chosen.ensures.ok k) (rw c.deref-in-Chosen.ensures at c.in_err-types-in-Chosen.ensures.err))
+
+pub members_part-returns-in_err-others-in-Chosen-clause-err : goal.members_part-returns-in_err-others-in-Chosen-clause-err
+members_part-returns-in_err-others-in-Chosen-clause-err t c =
+    told_on _ _ c.from_residual-in_err-others-in-Chosen.ensures.1 (collection_tells (program_in c.args.context.now) (context_in c.args.context.now) c.args.input.now c.in-Chosen.is (λ d k. other_members c.in_ok-given-in-Chosen.ensures.ok (rw c.deref-in-Chosen.ensures at c.in_ok-types-in-Chosen.ensures.ok) k) (rw c.deref-in-Chosen-2.ensures at c.in_err-others-in-Chosen.ensures.err))
+
+pub members_part-returns-in_err-suits_type-in-Chosen-clause-err : goal.members_part-returns-in_err-suits_type-in-Chosen-clause-err
+members_part-returns-in_err-suits_type-in-Chosen-clause-err t c =
+    told_on _ _ c.from_residual-in_err-suits_type-in-Chosen.ensures.1 (collection_tells (program_in c.args.context.now) (context_in c.args.context.now) c.args.input.now c.in-Chosen.is (λ d k. choice_truth c.in_ok-given-in-Chosen.ensures.ok (rw c.deref-in-Chosen.ensures at c.in_ok-types-in-Chosen.ensures.ok) (rw c.deref-in-Chosen-2.ensures at c.in_ok-others-in-Chosen.ensures.ok) k) (rw c.bool-in-Chosen.ensures at c.in_err-suits_type-in-Chosen.ensures.err))
+
+pub members_part-returns-in_err-suits_members-in-Chosen-clause-err : goal.members_part-returns-in_err-suits_members-in-Chosen-clause-err
+members_part-returns-in_err-suits_members-in-Chosen-clause-err t c =
+    told_on _ _ c.from_residual-in_err-suits_members-in-Chosen.ensures.1 (collection_tells (program_in c.args.context.now) (context_in c.args.context.now) c.args.input.now c.in-Chosen.is (λ d k. choice_tables (subst (HasType (names_of_values (context_in c.args.context.now)) (expression (expressions_of (program_in c.args.context.now)) _)) (rw c.bool-in-Chosen.ensures at c.in_ok-suits_type-in-Chosen.ensures.ok) c.in_ok-given-in-Chosen.ensures.ok) (rw c.deref-in-Chosen.ensures at c.in_ok-types-in-Chosen.ensures.ok) (rw c.deref-in-Chosen-2.ensures at c.in_ok-others-in-Chosen.ensures.ok) k) (c.in_err-suits_members-in-Chosen.ensures.err))
+
+pub members_part-returns-in_ok-suits_members-in-Chosen-clause-ok : goal.members_part-returns-in_ok-suits_members-in-Chosen-clause-ok
+members_part-returns-in_ok-suits_members-in-Chosen-clause-ok t c =
+    rw c.in-Chosen.is (chosen_collects (program_in c.args.context.now) (context_in c.args.context.now) c.args.input.now _ _ _ c.in-Chosen.spot _ c.in_ok-given-in-Chosen.ensures.ok _ _ (rw c.deref-in-Chosen.ensures at c.in_ok-types-in-Chosen.ensures.ok) _ _ (rw c.deref-in-Chosen-2.ensures at c.in_ok-others-in-Chosen.ensures.ok) (found_same (rw c.bool-in-Chosen.ensures at c.in_ok-suits_type-in-Chosen.ensures.ok)) c.in_ok-suits_members-in-Chosen.ensures.ok)
 
 -- ## Bodies
 

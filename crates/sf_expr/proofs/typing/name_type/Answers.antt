@@ -20,5 +20,10 @@ returns-in-Some-Process c =
     stops_broken c.broken.ensures
     (ap (naming_at c.args.at) (named_from c.args.name.now (entries_around c.args.names.now) ∙ ap kind_found c.in-Some-Process.ensures.found ∙ ap (λ (m : Meaning). Some (value_meant (meant m))) c.in-Some-Process.field-0-is))
 
+pub returns-in-Some-Collection : goal.returns-in-Some-Collection
+returns-in-Some-Collection c =
+    stops_broken c.broken-in-Some-Collection.ensures
+    (ap (naming_at c.args.at) (named_from c.args.name.now (entries_around c.args.names.now) ∙ ap kind_found c.in-Some-Collection.ensures.found ∙ ap (λ (m : Meaning). Some (value_meant (meant m))) c.in-Some-Collection.field-0-is))
+
 pub returns-in-None : goal.returns-in-None
 returns-in-None c = stops_broken c.broken-in-None.ensures (ap (naming_at c.args.at) (named_from c.args.name.now (entries_around c.args.names.now) ∙ ap kind_found c.in-None.ensures.absent))

@@ -1,7 +1,8 @@
 use Rattle.std.proofs.Common.{◌∙◌, sym, subst, arith}
 use Rattle.sf_expr.specs.Arena.{Keeps}
 use Rattle.sf_term.specs.Arena.{expressions_of as program_expressions, TermPartsBelow}
-use Rattle.sf_law.proofs.Copied.{shows_next, shows_all, parts_fit, no_pipeline}
+use Rattle.sf_law.specs.Copies.{plan_id}
+use Rattle.sf_law.proofs.Copied.{shows_next, shows_all, stand_same, parts_fit, no_pipeline}
 use Rattle.sf_law.proofs.plain.copy_terms.Goals as goal
 
 pub add-requires-clause-held : goal.add-requires-clause-held
@@ -9,10 +10,10 @@ add-requires-clause-held c =
     let p = c.args.program.now in
     let node = c.node-node.result in
     let below = subst (λ k. TermPartsBelow p node k) c.term.ensures c.node-node.ensures.below in
-    rw c.loop-number.invariant.count (parts_fit p node c.in_ok-copy.copy c.loop-number.number c.in_ok-copy.ensures.same below)
+    rw c.loop-number.invariant.count (parts_fit plan_id c.loop-number.number c.loop-number.number (stand_same c.loop-number.number) p node c.in_ok-copy.copy c.in_ok-copy.ensures.same below)
 
 pub add-requires-clause-whole : goal.add-requires-clause-whole
-add-requires-clause-whole c = no_pipeline c.args.program.now c.node-node.result c.in_ok-copy.copy c.in_ok-copy.ensures.same
+add-requires-clause-whole c = no_pipeline c.args.program.now plan_id c.node-node.result c.in_ok-copy.copy c.in_ok-copy.ensures.same
 
 pub loop-number-preserved : goal.loop-number-preserved
 loop-number-preserved c =

@@ -5,25 +5,25 @@ pub returns-in_ok-primitive-in-Primitive-clause-same : goal.returns-in_ok-primit
 returns-in_ok-primitive-in-Primitive-clause-same c = rw c.in-Primitive.is (copies_primitive c.in_ok-primitive-in-Primitive.ensures.same)
 
 pub returns-in_ok-named-in-Named-clause-same : goal.returns-in_ok-named-in-Named-clause-same
-returns-in_ok-named-in-Named-clause-same c = rw c.in-Named.is (c.in_ok-named-in-Named.ensures.same _)
+returns-in_ok-named-in-Named-clause-same c = rw c.in-Named.is (c.in_ok-named-in-Named.ensures.same _ _)
 
 pub returns-in-Joined-clause-same : goal.returns-in-Joined-clause-same
-returns-in-Joined-clause-same c = rw (c.in-Joined.is, c.plan_id.ensures, c.plan_id-in-Joined.ensures) copies_joined
+returns-in-Joined-clause-same c = rw (c.in-Joined.is, c.id.ensures, c.id-in-Joined.ensures) copies_joined
 
 pub returns-in-Sided-clause-same : goal.returns-in-Sided-clause-same
-returns-in-Sided-clause-same c = rw (c.in-Sided.is, c.plan_id-in-Sided.ensures) copies_sided
+returns-in-Sided-clause-same c = rw (c.in-Sided.is, c.id-in-Sided.ensures) copies_sided
 
 pub returns-in_ok-code-in-Headed-clause-same : goal.returns-in_ok-code-in-Headed-clause-same
-returns-in_ok-code-in-Headed-clause-same c = rw (c.in-Headed.is, c.plan_id-in-Headed.ensures) copies_headed
+returns-in_ok-code-in-Headed-clause-same c = rw (c.in-Headed.is, c.id-in-Headed.ensures) copies_headed
 
 pub returns-in_ok-head-in-Transformed-clause-same : goal.returns-in_ok-head-in-Transformed-clause-same
-returns-in_ok-head-in-Transformed-clause-same c = rw (c.in-Transformed.is, c.plan_id-in-Transformed.ensures) copies_transformed
+returns-in_ok-head-in-Transformed-clause-same c = rw (c.in-Transformed.is, c.id-in-Transformed.ensures) copies_transformed
 
 pub returns-in-Switching-clause-same : goal.returns-in-Switching-clause-same
-returns-in-Switching-clause-same c = rw (c.in-Switching.is, c.plan_id-source.ensures, c.plan_id-in-Switching.ensures) copies_switching
+returns-in-Switching-clause-same c = rw (c.in-Switching.is, c.id-source.ensures, c.id-in-Switching.ensures) copies_switching
 
 pub returns-in-Keeping-clause-same : goal.returns-in-Keeping-clause-same
-returns-in-Keeping-clause-same c = rw (c.in-Keeping.is, c.plan_id-source-in-Keeping.ensures, c.plan_id-observer.ensures, c.plan_id-body.ensures) copies_keeping
+returns-in-Keeping-clause-same c = rw (c.in-Keeping.is, c.id-source-in-Keeping.ensures, c.id-observer.ensures, c.id-body.ensures) copies_keeping
 
 pub returns-in_ok-named-in-Named-clause-coded : goal.returns-in_ok-named-in-Named-clause-coded
 returns-in_ok-named-in-Named-clause-coded c = c.in_ok-named-in-Named.ensures.coded _

@@ -1,4 +1,5 @@
-use Rattle.std.proofs.Common.{◌≡◌, length, ◌-◌, take, drop, sym, ap, ◌∙◌, arith}
+use Rattle.std.proofs.Common.{◌≡◌, List, length, ◌-◌, take, drop, sym, ap, subst, ◌∙◌, arith}
+use Rattle.std.specs.List.{All}
 use Rattle.std.proofs.lemmas.Result.{on_ok_weaker}
 use Rattle.sf_expr.specs.Arena.{name_at}
 use Rattle.sf_term.specs.Arena.{expressions_of, arguments_of}
@@ -6,7 +7,10 @@ use Rattle.sf_lex.specs.declared.symbol.Symbol.TheVariants as symbols
 use Rattle.sf_lex.specs.Tokens.{name, symbol}
 use Rattle.sf_grammar.specs.Spelling.{spell_further, spell_listed, spell_arguments}
 use Rattle.sf_print.specs.Drafts.{Front, append_token, append_tokens}
-use Rattle.sf_print.specs.Arguments.{spell_argument}
+use Rattle.sf_term.specs.declared.node.Argument.{Argument}
+use Rattle.sf_term.specs.declared.node.Node.TheVariants as nodes
+use Rattle.sf_print.specs.Arguments.{spell_argument, ArgumentWithin}
+use Rattle.sf_print.proofs.Within.{parts_within}
 use Rattle.sf_print.proofs.Listing.{part_more, parts_end, listed_end, arguments_map}
 use Rattle.sf_print.proofs.terms.+term.Goals as goal
 
@@ -39,3 +43,17 @@ write_further-returns t c =
     on_ok_weaker c.symbol-2.result (λ e.
     parts_end (spell_argument v p) vs c.loop-argument.argument-index c.args.draft.now c.loop-argument.draft c.symbol-2.new.self all c.loop-argument.invariant e
     ∙ ap (λ xs. append_tokens c.args.draft.now (spell_further xs)) (sym (arguments_map v p vs))) c.symbol-2.ensures
+
+pub write_term-write_call-requires : goal.write_term-write_call-requires
+write_term-write_call-requires t c =
+    let p = c.args.program.now in
+    (omega arith, subst (λ (vs : List Argument). All (ArgumentWithin p c.args.id) vs) (sym c.arguments-arguments.ensures) (parts_within p c.args.id (nodes.Call c.in-Call.name c.in-Call.arguments) c.in-Call.ensures.below c.in-Call.ensures.builds))
+
+pub write_term-write_gathered-requires : goal.write_term-write_gathered-requires
+write_term-write_gathered-requires t c = (omega arith, parts_within c.args.program.now c.args.id (nodes.Gathered c.in-Gathered.members) c.in-Gathered.ensures.below c.in-Gathered.ensures.builds)
+
+pub write_term-write_releasing-requires : goal.write_term-write_releasing-requires
+write_term-write_releasing-requires t c = (omega arith, parts_within c.args.program.now c.args.id (nodes.Releasing c.in-Releasing.form) c.in-Releasing.ensures.below c.in-Releasing.ensures.builds)
+
+pub write_term-write_editing-requires : goal.write_term-write_editing-requires
+write_term-write_editing-requires t c = (omega arith, parts_within c.args.program.now c.args.id (nodes.Editing c.in-Editing.form) c.in-Editing.ensures.below c.in-Editing.ensures.builds)

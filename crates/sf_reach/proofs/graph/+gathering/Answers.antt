@@ -1,13 +1,17 @@
-use Rattle.std.proofs.Common.{◌∙◌, Some, None, sym, ap, subst, inl, inr}
+use Rattle.std.proofs.Common.{◌≡◌, ◌≤◌, All, [], ◌++◌, arith, ◌∙◌, Some, None, sym, ap, subst, inl, inr}
 use Rattle.std.proofs.lemmas.Result.{on_ok_weaker}
 use Rattle.sf_expr.specs.Arena.{name_at}
+use Rattle.std.proofs.lemmas.List.{append-nil}
+use Rattle.sf_term.specs.Trees.{arguments_depth, collection_depth}
+use Rattle.sf_term.specs.Arena.{term_number, arguments_of, collection_of, ArgumentBelow, CollectionBelow, TermPartsBelow}
 use Rattle.sf_term.specs.declared.node.Argument.TheVariants as arguments
 use Rattle.sf_term.specs.declared.node.Node.TheVariants as nodes
-use Rattle.sf_reach.specs.Order.{in_primitive, in_named, in_joined, in_sided, in_headed, in_transformed, in_switching, in_keeping}
-use Rattle.sf_reach.specs.Graphs.{AddsArgumentCalls}
-use Rattle.sf_reach.proofs.Gathered.{adds_none, adds_one, adds_two, name_found, adds_found, adds_absent, no_argument, adds_value, adds_process}
+use Rattle.sf_reach.specs.Order.{CallsInOrder, in_primitive, in_named, in_joined, in_sided, in_headed, in_transformed, in_switching, in_keeping, in_gathered, in_releasing, in_editing, MemberCalls, in_empty, in_used, in_added, in_dropped, in_kept, in_chosen}
+use Rattle.sf_reach.specs.Graphs.{AddsMemberCalls, AddsArgumentCalls}
+use Rattle.sf_reach.proofs.Shallow.{arguments_shallow, members_shallow, released_shallow, edited_shallow, argument_shallow, found_there, absent_there}
+use Rattle.sf_reach.proofs.Gathered.{adds_none, adds_one, adds_two, adds_members, adds_members_and, adds_into, adds_both, adds_nothing, name_found, adds_found, adds_absent, no_argument, adds_value, adds_process, adds_collection}
 use Rattle.sf_reach.proofs.graph.+gathering.Goals as goal
-use Rattle.sf_reach.proofs.graph.+gathering.Goals.{gather-in-Some+in_ok-push-in-Call, gather-in_default, gather_arguments-in-Process+in_ok-gather, gather_arguments-in_default}
+use Rattle.sf_reach.proofs.graph.+gathering.Goals.{gather-in-Some+in_ok-push-in-Call, gather-in_default, gather_arguments-in-Process+in_ok-gather-in-Process, gather_arguments-in-Collection+in_ok-gather_at-in-Collection, gather_arguments-in-Value}
 
 pub gather-returns-in-Primitive : goal.gather-returns-in-Primitive
 gather-returns-in-Primitive t c =
@@ -43,10 +47,10 @@ gather-returns-in_ok-gather-in-Joined t c =
     let old = c.args.calls.now.items in
     let f = c.in-Joined.first in
     let g = c.in-Joined.second in
-    on_ok_weaker c.gather-in-Joined.result (λ h. elim c.in-Joined.is [
+    on_ok_weaker c.gather-in-Joined-2.result (λ h. elim c.in-Joined.is [
       | inl k ↦ adds_two p c.args.term (nodes.Joined k.0 f g) (sym k.1 ∙ c.node.ensures.value) old _ _ f g (λ cs ds l r. in_joined l r) c.in_ok-gather-in-Joined.ensures h
       | inr k ↦ adds_two p c.args.term (nodes.Keeping k.0 f g k.1 k.2 k.3 k.4) (sym k.5 ∙ c.node.ensures.value) old _ _ f g (λ cs ds l r. in_keeping l r) c.in_ok-gather-in-Joined.ensures h
-    ]) c.gather-in-Joined.ensures
+    ]) c.gather-in-Joined-2.ensures
 
 pub gather-returns-in-Sided : goal.gather-returns-in-Sided
 gather-returns-in-Sided t c =
@@ -67,6 +71,139 @@ gather-returns-in-Sided t c =
 pub gather_arguments-loop-argument-init : goal.gather_arguments-loop-argument-init
 gather_arguments-loop-argument-init t c = no_argument c.args.program.now c.args.calls.now.items
 
+pub gather-gather_arguments-requires : goal.gather-gather_arguments-requires
+gather-gather_arguments-requires t c =
+    let p = c.args.program.now in
+    let is = sym c.in-Call.is ∙ c.node.ensures.value in
+    let below = subst (λ n. TermPartsBelow p n (term_number c.args.term)) c.in-Call.is c.node.ensures.below in
+    (omega arith, (c.requires, (subst (All (ArgumentBelow p (term_number c.args.term))) (sym c.arguments.ensures) below, subst (λ vs. arguments_depth (arguments_of p vs) ≤ 64) (sym c.arguments.ensures) (arguments_shallow p c.args.term c.in-Call.name c.in-Call.arguments is))))
+
+pub gather-gather_at-requires : goal.gather-gather_at-requires
+gather-gather_at-requires t c =
+    let p = c.args.program.now in
+    (omega arith, (c.requires, (subst (λ n. TermPartsBelow p n (term_number c.args.term)) c.in-Gathered.is c.node.ensures.below, members_shallow p c.args.term c.in-Gathered.members (sym c.in-Gathered.is ∙ c.node.ensures.value))))
+
+pub gather-gather_at-requires-in-Editing : goal.gather-gather_at-requires-in-Editing
+gather-gather_at-requires-in-Editing t c =
+    let p = c.args.program.now in
+    (omega arith, (c.requires, ((subst (λ n. TermPartsBelow p n (term_number c.args.term)) c.in-Editing.is c.node.ensures.below).0, (edited_shallow p c.args.term c.in-Editing.form (sym c.in-Editing.is ∙ c.node.ensures.value)).0)))
+
+pub gather-gather_at-requires-in-Releasing : goal.gather-gather_at-requires-in-Releasing
+gather-gather_at-requires-in-Releasing t c =
+    let p = c.args.program.now in
+    (omega arith, (c.requires, ((subst (λ n. TermPartsBelow p n (term_number c.args.term)) c.in-Releasing.is c.node.ensures.below).0, released_shallow p c.args.term c.in-Releasing.form (sym c.in-Releasing.is ∙ c.node.ensures.value))))
+
+pub gather-returns-in-Gathered : goal.gather-returns-in-Gathered
+gather-returns-in-Gathered t c =
+    let m = c.in-Gathered.members in
+    on_ok_weaker c.gather_at.result (λ h. adds_members c.args.program.now c.args.term (nodes.Gathered m) (sym c.in-Gathered.is ∙ c.node.ensures.value) c.args.calls.now.items _ m (λ cs l. in_gathered l) h) c.gather_at.ensures
+
+pub gather-returns-in-Editing : goal.gather-returns-in-Editing
+gather-returns-in-Editing t c =
+    let n = c.in-Editing.form in
+    on_ok_weaker c.gather_at-in-Editing.result (λ h. adds_members c.args.program.now c.args.term (nodes.Editing n) (sym c.in-Editing.is ∙ c.node.ensures.value) c.args.calls.now.items _ n.members (λ cs l. in_editing l) h) c.gather_at-in-Editing.ensures
+
+pub gather-returns-in_ok-gather_at-in-Releasing : goal.gather-returns-in_ok-gather_at-in-Releasing
+gather-returns-in_ok-gather_at-in-Releasing t c =
+    let n = c.in-Releasing.form in
+    on_ok_weaker c.gather.result
+    (λ h. adds_members_and c.args.program.now c.args.term (nodes.Releasing n) (sym c.in-Releasing.is ∙ c.node.ensures.value) c.args.calls.now.items _ _ n.members n.observer (λ cs ds l r. in_releasing l r) c.in_ok-gather_at-in-Releasing.ensures h)
+    c.gather.ensures
+
+-- ## A collection
+
+pub gather_at-gather_members-requires : goal.gather_at-gather_members-requires
+gather_at-gather_members-requires t c =
+    let there = found_there c.collection.ensures c.in-Some.is in
+    let shallow = subst (λ i. collection_depth (collection_of c.args.program.now i) ≤ 64) (sym there) c.requires.shallow in
+    (omega (arith, shallow), (c.requires.names, (subst (CollectionBelow (term_number c.args.form)) (sym there) c.requires.below, shallow)))
+
+pub gather_at-returns-in-None : goal.gather_at-returns-in-None
+gather_at-returns-in-None t c =
+    subst (λ i. AddsMemberCalls c.args.program.now i c.args.calls.now.items c.args.calls.now.items) (absent_there c.collection.ensures c.in-None.is) ([], in_empty, sym (append-nil c.args.calls.now.items))
+
+pub gather_members-gather_members-requires : goal.gather_members-gather_members-requires
+gather_members-gather_members-requires t c =
+    let same = ap (λ i. collection_depth (collection_of c.args.program.now i)) c.deref.ensures in
+    let whole = ap (λ i. collection_depth (collection_of c.args.program.now i)) c.in-Added.is in
+    (omega (arith, same, whole), (c.requires.names, (rw c.deref.ensures ((rw c.in-Added.is at c.requires.below).0), omega (arith, same, whole, c.requires.shallow))))
+
+pub gather_members-gather-requires : goal.gather_members-gather-requires
+gather_members-gather-requires t c =
+    let below = (rw c.in-Added.is at c.requires.below).1 in
+    (omega (arith, below), c.requires.names)
+
+pub gather_members-gather_members-requires-in-Dropped : goal.gather_members-gather_members-requires-in-Dropped
+gather_members-gather_members-requires-in-Dropped t c =
+    let same = ap (λ i. collection_depth (collection_of c.args.program.now i)) c.deref-in-Dropped.ensures in
+    let whole = ap (λ i. collection_depth (collection_of c.args.program.now i)) c.in-Dropped.is in
+    (omega (arith, same, whole), (c.requires.names, (rw c.deref-in-Dropped.ensures ((rw c.in-Dropped.is at c.requires.below)), omega (arith, same, whole, c.requires.shallow))))
+
+pub gather_members-gather_members-requires-in-Kept : goal.gather_members-gather_members-requires-in-Kept
+gather_members-gather_members-requires-in-Kept t c =
+    let same = ap (λ i. collection_depth (collection_of c.args.program.now i)) c.deref-in-Kept.ensures in
+    let whole = ap (λ i. collection_depth (collection_of c.args.program.now i)) c.in-Kept.is in
+    (omega (arith, same, whole), (c.requires.names, (rw c.deref-in-Kept.ensures ((rw c.in-Kept.is at c.requires.below)), omega (arith, same, whole, c.requires.shallow))))
+
+pub gather_members-gather_members-requires-in-Chosen : goal.gather_members-gather_members-requires-in-Chosen
+gather_members-gather_members-requires-in-Chosen t c =
+    let same = ap (λ i. collection_depth (collection_of c.args.program.now i)) c.deref-in-Chosen.ensures in
+    let whole = ap (λ i. collection_depth (collection_of c.args.program.now i)) c.in-Chosen.is in
+    (omega (arith, same, whole), (c.requires.names, (rw c.deref-in-Chosen.ensures ((rw c.in-Chosen.is at c.requires.below).0), omega (arith, same, whole, c.requires.shallow))))
+
+pub gather_members-gather_members-requires-in-Chosen-2 : goal.gather_members-gather_members-requires-in-Chosen-2
+gather_members-gather_members-requires-in-Chosen-2 t c =
+    let same = ap (λ i. collection_depth (collection_of c.args.program.now i)) c.deref-in-Chosen-2.ensures in
+    let whole = ap (λ i. collection_depth (collection_of c.args.program.now i)) c.in-Chosen.is in
+    (omega (arith, same, whole), (c.requires.names, (rw c.deref-in-Chosen-2.ensures ((rw c.in-Chosen.is at c.requires.below).1), omega (arith, same, whole, c.requires.shallow))))
+
+pub gather_members-returns-in-Empty : goal.gather_members-returns-in-Empty
+gather_members-returns-in-Empty t c = rw c.in-Empty.is ([], in_empty, sym (append-nil c.args.calls.now.items))
+
+pub gather_members-returns-in-Used : goal.gather_members-returns-in-Used
+gather_members-returns-in-Used t c = rw c.in-Used.is ([], in_used, sym (append-nil c.args.calls.now.items))
+
+pub gather_members-returns-in_ok-gather_members-in-Added : goal.gather_members-returns-in_ok-gather_members-in-Added
+gather_members-returns-in_ok-gather_members-in-Added t c =
+    let p = c.args.program.now in
+    let i = c.in-Added.members.value in
+    on_ok_weaker c.gather.result
+    (λ h. adds_both p (MemberCalls p i) (CallsInOrder p c.in-Added.term) (MemberCalls p c.args.collection.now) c.args.calls.now.items _ _ (λ cs ds l r. subst (λ w. MemberCalls p w (cs ++ ds)) (sym c.in-Added.is) (in_added l r)) (rw c.deref.ensures at c.in_ok-gather_members-in-Added.ensures) h)
+    c.gather.ensures
+
+pub gather_members-returns-in-Dropped : goal.gather_members-returns-in-Dropped
+gather_members-returns-in-Dropped t c =
+    let p = c.args.program.now in
+    let i = c.in-Dropped.members.value in
+    on_ok_weaker c.gather_members-in-Dropped.result
+    (λ h. adds_into p (MemberCalls p i) (MemberCalls p i) (MemberCalls p c.args.collection.now) c.args.calls.now.items _ (λ cs l. subst (λ w. MemberCalls p w cs) (sym c.in-Dropped.is) (in_dropped l)) (rw c.deref-in-Dropped.ensures at h))
+    c.gather_members-in-Dropped.ensures
+
+pub gather_members-returns-in-Kept : goal.gather_members-returns-in-Kept
+gather_members-returns-in-Kept t c =
+    let p = c.args.program.now in
+    let i = c.in-Kept.members.value in
+    on_ok_weaker c.gather_members-in-Kept.result
+    (λ h. adds_into p (MemberCalls p i) (MemberCalls p i) (MemberCalls p c.args.collection.now) c.args.calls.now.items _ (λ cs l. subst (λ w. MemberCalls p w cs) (sym c.in-Kept.is) (in_kept l)) (rw c.deref-in-Kept.ensures at h))
+    c.gather_members-in-Kept.ensures
+
+pub gather_members-returns-in_ok-gather_members-in-Chosen : goal.gather_members-returns-in_ok-gather_members-in-Chosen
+gather_members-returns-in_ok-gather_members-in-Chosen t c =
+    let p = c.args.program.now in
+    let i = c.in-Chosen.first.value in
+    let j = c.in-Chosen.second.value in
+    on_ok_weaker c.gather_members-in-Chosen-2.result
+    (λ h. adds_both p (MemberCalls p i) (MemberCalls p j) (MemberCalls p c.args.collection.now) c.args.calls.now.items _ _ (λ cs ds l r. subst (λ w. MemberCalls p w (cs ++ ds)) (sym c.in-Chosen.is) (in_chosen l r)) (rw c.deref-in-Chosen.ensures at c.in_ok-gather_members-in-Chosen.ensures) (rw c.deref-in-Chosen-2.ensures at h))
+    c.gather_members-in-Chosen-2.ensures
+
+-- ## Arguments
+
+pub gather_arguments-gather_at-requires : goal.gather_arguments-gather_at-requires
+gather_arguments-gather_at-requires t c =
+    let p = c.args.program.now in
+    let i = c.loop-argument.argument-index in
+    (omega arith, (c.requires.names, (subst (ArgumentBelow p (term_number c.args.call)) c.in-Collection.is (c.requires.below i _ c.loop-argument-test.true), argument_shallow p c.args.arguments.now i _ _ c.loop-argument-test.true c.in-Collection.is c.requires.shallow)))
+
 pub gather_arguments-loop-argument-preserved : goal.gather_arguments-loop-argument-preserved
 gather_arguments-loop-argument-preserved t c =
     let p = c.args.program.now in
@@ -74,8 +211,10 @@ gather_arguments-loop-argument-preserved t c =
     let i = c.loop-argument.argument-index in
     let old = c.args.calls.now.items in
     elim c.match-argument.branch [
-      | gather_arguments-in-Process+in_ok-gather w ↦
-          adds_process p vs i c.loop-argument-test.true _ old _ _ c.match-argument.calls.items (ap (λ v. v.items) w.calls-is) w.in-Process.term w.in-Process.is c.loop-argument.invariant w.in_ok-gather.ensures
-      | gather_arguments-in_default w ↦
-          adds_value p vs i c.loop-argument-test.true _ old _ c.match-argument.calls.items (ap (λ v. v.items) w.calls-is) (arguments.Value w.in_default.field-0) w.in_default.is (λ t e. cc) c.loop-argument.invariant
+      | gather_arguments-in-Process+in_ok-gather-in-Process w ↦
+          subst (AddsArgumentCalls p _ old) (sym (ap (λ v. v.items) w.calls-is)) (adds_process p vs i c.loop-argument-test.true _ old _ _ w.in-Process.term w.in-Process.is c.loop-argument.invariant w.in_ok-gather-in-Process.ensures)
+      | gather_arguments-in-Collection+in_ok-gather_at-in-Collection w ↦
+          subst (AddsArgumentCalls p _ old) (sym (ap (λ v. v.items) w.calls-is)) (adds_collection p vs i c.loop-argument-test.true _ old _ _ w.in-Collection.members w.in-Collection.is c.loop-argument.invariant w.in_ok-gather_at-in-Collection.ensures)
+      | gather_arguments-in-Value w ↦
+          subst (AddsArgumentCalls p _ old) (sym (ap (λ v. v.items) w.calls-is)) (adds_value p vs i c.loop-argument-test.true _ old _ w.in-Value.field-0 w.in-Value.is c.loop-argument.invariant)
     ]

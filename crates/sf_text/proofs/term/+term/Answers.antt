@@ -1,13 +1,15 @@
-use Rattle.std.proofs.Common.{true, List, sym, subst, ◌∙◌}
+use Rattle.std.proofs.Common.{true, List, length, Err, sym, ap, subst, ◌∙◌}
 use Rattle.sf_lex.specs.Words.{IsName}
 use Rattle.sf_lex.specs.Tokens.{name_bytes}
 use Rattle.sf_term.specs.declared.node.Argument.{Argument}
-use Rattle.sf_parse.specs.Answers.{ahead}
+use Rattle.sf_grammar.specs.Reading.{parse_collection}
+use Rattle.sf_parse.specs.declared.stop.Stop.{Stop}
+use Rattle.sf_parse.specs.Answers.{StopsReading, counts_of, ahead}
 use Rattle.sf_parse.specs.Consuming.{spots_ahead, Consumes}
 use Rattle.sf_grammar.specs.Placing.{ArgumentsPlaced}
-use Rattle.sf_term.proofs.Kept.{keeps_trans}
-use Rattle.sf_text.proofs.Found.{term_built, headed_ready, transformed_ready, joined_ready, sided_ready, switching_ready, keeping_ready, call_ready, body_found}
-use Rattle.sf_text.proofs.Placed.{headed_read, transformed_read, joined_read, sided_read, switching_read, keeping_read, call_read, value_read, process_read, no_arguments_placed_behind, each_argument_placed}
+use Rattle.sf_term.proofs.Kept.{keeps_trans, collection_at_kept}
+use Rattle.sf_text.proofs.Found.{term_built, headed_ready, transformed_ready, joined_ready, sided_ready, switching_ready, keeping_ready, call_ready, body_found, collection_shared, added_found, dropped_found, kept_found, chosen_found, members_found, members_refused, gathered_ready, releasing_ready, edit_found, editing_ready, value_found, process_found, collection_found}
+use Rattle.sf_text.proofs.Placed.{headed_read, transformed_read, joined_read, sided_read, switching_read, keeping_read, call_read, value_read, process_read, collection_read, shared_placed, added_read, dropped_read, kept_read, chosen_read, members_read, gathered_read, releasing_read, editing_read, no_arguments_placed_behind, each_argument_placed}
 use Rattle.sf_text.proofs.Lists.{ReadArguments, arguments_go_on, no_arguments_read, next_argument, argument_stops, argument_separator_stops, all_arguments, arguments_stopped_as}
 use Rattle.sf_parse.proofs.Found.{if_built, if_built_on}
 use Rattle.sf_parse.proofs.Placed.{parted_read}
@@ -91,11 +93,23 @@ body-returns-clause-reads t c =
 pub body-returns-clause-placed : goal.body-returns-clause-placed
 body-returns-clause-placed t c = parted_read c.in_ok-pattern.ensures.placed c.in_ok-symbol.ensures.behind c.in_ok-id.ensures.placed
 
-pub argument-returns-in_ok-process-in-Some-clause-placed : goal.argument-returns-in_ok-process-in-Some-clause-placed
-argument-returns-in_ok-process-in-Some-clause-placed t c = process_read c.in-Some.ensures.1 c.in_ok-process-in-Some.ensures.placed
+pub argument-returns-in_ok-value-in-Value-clause-reads : goal.argument-returns-in_ok-value-in-Value-clause-reads
+argument-returns-in_ok-value-in-Value-clause-reads t c = value_found c.args.version c.args.left (ahead c.args.reader.now.cursor) c.in-Value.ensures c.in_ok-value-in-Value.ensures.reads
 
-pub argument-returns-in_ok-value-in-None-clause-placed : goal.argument-returns-in_ok-value-in-None-clause-placed
-argument-returns-in_ok-value-in-None-clause-placed t c = value_read c.in_ok-value-in-None.ensures.placed
+pub argument-returns-in_ok-value-in-Value-clause-placed : goal.argument-returns-in_ok-value-in-Value-clause-placed
+argument-returns-in_ok-value-in-Value-clause-placed t c = value_read c.in_ok-value-in-Value.ensures.placed
+
+pub argument-returns-in_ok-process-in-Process-clause-reads : goal.argument-returns-in_ok-process-in-Process-clause-reads
+argument-returns-in_ok-process-in-Process-clause-reads t c = process_found c.args.version c.args.left (ahead c.args.reader.now.cursor) c.in-Process.ensures.0 c.in-Process.ensures.1 c.in_ok-process-in-Process.ensures.reads
+
+pub argument-returns-in_ok-process-in-Process-clause-placed : goal.argument-returns-in_ok-process-in-Process-clause-placed
+argument-returns-in_ok-process-in-Process-clause-placed t c = process_read c.in-Process.ensures.2 c.in_ok-process-in-Process.ensures.placed
+
+pub argument-returns-in_ok-collection-in-Members-clause-reads : goal.argument-returns-in_ok-collection-in-Members-clause-reads
+argument-returns-in_ok-collection-in-Members-clause-reads t c = collection_found c.args.version c.args.left (ahead c.args.reader.now.cursor) c.in-Members.ensures.0 c.in-Members.ensures.1 c.in_ok-collection-in-Members.ensures.reads
+
+pub argument-returns-in_ok-collection-in-Members-clause-placed : goal.argument-returns-in_ok-collection-in-Members-clause-placed
+argument-returns-in_ok-collection-in-Members-clause-placed t c = collection_read c.in-Members.ensures.2 c.in_ok-collection-in-Members.ensures.placed
 
 pub arguments-returns-in-Some-clause-placed : goal.arguments-returns-in-Some-clause-placed
 arguments-returns-in-Some-clause-placed t c =
@@ -132,3 +146,95 @@ some_arguments-loop-more-preserved t c =
 pub some_arguments-returns-clause-reads : goal.some_arguments-returns-clause-reads
 some_arguments-returns-clause-reads t c =
     (all_arguments c.args.version c.args.left c.args.reader.now.program c.loop-more.reader.program c.args.reader.now.cursor.tokens.now c.loop-more.arguments.items c.loop-more.more c.loop-more.reader.cursor.tokens.now c.loop-more-test.false c.loop-more.invariant).found
+
+pub added-returns-clause-reads : goal.added-returns-clause-reads
+added-returns-clause-reads t c = collection_shared c.shared.result c.shared.ensures.ok c.shared.ensures.err
+    (added_found c.args.version c.args.left (ahead c.args.reader.now.cursor) c.in_ok-symbol.ensures.reads c.in_ok-rest.ensures.reads c.in_ok-symbol-2.ensures.reads c.in_ok-key.ensures.reads c.in_ok-symbol-3.ensures.reads c.in_ok-member.ensures.reads c.in_ok-symbol-4.ensures.reads)
+
+pub added-returns-clause-placed : goal.added-returns-clause-placed
+added-returns-clause-placed t c = shared_placed c.shared.result c.shared.ensures.ok
+    (added_read c.in_ok-key.ensures.reads.kept.trees c.in_ok-member.ensures.reads.kept.trees c.in_ok-symbol.ensures.behind c.in_ok-rest.ensures.placed c.in_ok-symbol-2.ensures.behind c.in_ok-key.ensures.placed c.in_ok-symbol-3.ensures.behind
+    c.in_ok-member.ensures.placed c.in_ok-symbol-4.ensures.behind)
+
+pub dropped-returns-clause-reads : goal.dropped-returns-clause-reads
+dropped-returns-clause-reads t c = collection_shared c.shared.result c.shared.ensures.ok c.shared.ensures.err
+    (dropped_found c.args.version c.args.left (ahead c.args.reader.now.cursor) c.in_ok-symbol.ensures.reads c.in_ok-rest.ensures.reads c.in_ok-symbol-2.ensures.reads c.in_ok-key.ensures.reads c.in_ok-symbol-3.ensures.reads)
+
+pub dropped-returns-clause-placed : goal.dropped-returns-clause-placed
+dropped-returns-clause-placed t c = shared_placed c.shared.result c.shared.ensures.ok
+    (dropped_read c.in_ok-key.ensures.reads.kept.trees c.in_ok-symbol.ensures.behind c.in_ok-rest.ensures.placed c.in_ok-symbol-2.ensures.behind c.in_ok-key.ensures.placed c.in_ok-symbol-3.ensures.behind)
+
+pub kept-returns-clause-reads : goal.kept-returns-clause-reads
+kept-returns-clause-reads t c = collection_shared c.shared.result c.shared.ensures.ok c.shared.ensures.err
+    (kept_found c.args.version c.args.left (ahead c.args.reader.now.cursor) c.in_ok-symbol.ensures.reads c.in_ok-rest.ensures.reads c.in_ok-symbol-2.ensures.reads c.in_ok-function.ensures.reads c.in_ok-symbol-3.ensures.reads)
+
+pub kept-returns-clause-placed : goal.kept-returns-clause-placed
+kept-returns-clause-placed t c = shared_placed c.shared.result c.shared.ensures.ok
+    (kept_read c.in_ok-function.ensures.reads.kept.trees c.in_ok-symbol.ensures.behind c.in_ok-rest.ensures.placed c.in_ok-symbol-2.ensures.behind c.in_ok-function.ensures.placed c.in_ok-symbol-3.ensures.behind)
+
+pub chosen-returns-clause-reads : goal.chosen-returns-clause-reads
+chosen-returns-clause-reads t c = collection_shared c.shared.result c.shared.ensures.ok c.shared.ensures.err
+    (chosen_found c.args.version c.args.left (ahead c.args.reader.now.cursor) c.in_ok-condition.ensures.reads c.in_ok-keyword.ensures.reads c.in_ok-one.ensures.reads c.in_ok-keyword-2.ensures.reads c.in_ok-two.ensures.reads)
+
+pub chosen-returns-clause-placed : goal.chosen-returns-clause-placed
+chosen-returns-clause-placed t c = shared_placed c.shared.result c.shared.ensures.ok
+    (chosen_read c.in_ok-one.ensures.reads.kept.trees c.in_ok-two.ensures.reads.kept.trees c.in_ok-condition.ensures.placed c.in_ok-keyword.ensures.behind c.in_ok-one.ensures.placed c.in_ok-keyword-2.ensures.behind c.in_ok-two.ensures.placed)
+
+pub members-returns-in-Ok-clause-reads : goal.members-returns-in-Ok-clause-reads
+members-returns-in-Ok-clause-reads t c = members_found c.in_ok-read.ensures.reads c.in-Ok.ensures.ok
+
+pub members-returns-in-Ok-clause-placed : goal.members-returns-in-Ok-clause-placed
+members-returns-in-Ok-clause-placed t c = members_read c.in-Ok.ensures.ok c.in_ok-read.ensures.placed
+
+pub members-returns-in-Err-clause-reads : goal.members-returns-in-Err-clause-reads
+members-returns-in-Err-clause-reads t c =
+    subst (λ (s : Stop). StopsReading s (parse_collection c.args.left c.args.version (counts_of c.args.reader.now.program) (ahead c.args.reader.now.cursor))) (sym c.refused.ensures)
+    (members_refused c.args.version c.args.left (ahead c.args.reader.now.cursor) c.in-Err.refusal (length c.args.reader.now.cursor.tokens.now) c.requires.shallow c.in_ok-read.ensures.reads (λ same. c.in-Err.ensures.no_name (ap Err same))
+    (λ same. c.in-Err.ensures.not_many (ap Err same)) (λ same. c.in-Err.ensures.deep.0 (ap Err same)))
+
+pub gathered-returns-clause-reads : goal.gathered-returns-clause-reads
+gathered-returns-clause-reads t c = λ whole counted.
+    term_built _ _ _ c.args.start.ahead c.add.result c.built.result
+    (gathered_ready c.args.version c.args.left (ahead c.args.reader.now.cursor) c.requires.shallow c.in_ok-collection.ensures.reads)
+    c.in_ok-collection.ensures.reads.kept counted c.built.ensures c.add.ensures.ok c.add.ensures.many (λ same. (c.add.ensures.deep.0 same).1) c.add.ensures.no_name
+
+pub gathered-returns-clause-placed : goal.gathered-returns-clause-placed
+gathered-returns-clause-placed t c = if_built _ _ c.args.start.ahead c.add.result c.built.result c.built.ensures c.add.ensures.ok (λ id added.
+    gathered_read added c.in_ok-collection.ensures.placed)
+
+pub releasing-releasing-added-requires-clause-members_held : goal.releasing-releasing-added-requires-clause-members_held
+releasing-releasing-added-requires-clause-members_held t c =
+    (collection_at_kept _ _ c.in_ok-source.source (keeps_trans _ _ _ c.in_ok-observer.ensures.reads.kept c.in_ok-pattern.ensures.reads.kept).trees c.in_ok-source.ensures.reads.held).1
+
+pub releasing-returns-clause-reads : goal.releasing-returns-clause-reads
+releasing-returns-clause-reads t c = λ whole counted.
+    term_built _ _ _ c.args.start.ahead c.releasing-added.result c.built.result
+    (releasing_ready c.args.version c.args.left (ahead c.args.reader.now.cursor) c.requires.shallow c.in_ok-symbol.ensures.reads c.in_ok-source.ensures.reads c.in_ok-symbol-2.ensures.reads c.in_ok-observer.ensures.reads c.in_ok-symbol-3.ensures.reads c.in_ok-label.ensures.reads c.in_ok-symbol-4.ensures.reads c.in_ok-pattern.ensures.reads c.in_ok-symbol-5.ensures.reads (c.in_ok-known.ensures.ok ∙ c.as_str.ensures.text))
+    (keeps_trans _ _ _ c.in_ok-source.ensures.reads.kept (keeps_trans _ _ _ c.in_ok-observer.ensures.reads.kept c.in_ok-pattern.ensures.reads.kept)) counted c.built.ensures c.releasing-added.ensures.ok c.releasing-added.ensures.many (λ same. (c.releasing-added.ensures.deep.0 same).1) (λ same. (c.releasing-added.ensures.bad_name.0 same).2 (subst IsName (sym c.in_ok-known.ensures.ok) c.as_str.ensures.named, c.in_ok-pattern.ensures.reads.names))
+
+pub releasing-returns-clause-placed : goal.releasing-returns-clause-placed
+releasing-returns-clause-placed t c = if_built_on _ _ _ c.args.start.ahead c.releasing-added.result c.built.result c.built.ensures c.releasing-added.ensures.ok c.releasing-added.ensures.placed (λ id added there.
+    releasing_read c.in_ok-observer.ensures.reads.kept.trees c.in_ok-pattern.ensures.reads.kept.trees added there c.in_ok-symbol.ensures.behind c.in_ok-source.ensures.placed c.in_ok-symbol-2.ensures.behind c.in_ok-observer.ensures.placed c.in_ok-symbol-3.ensures.behind
+    c.in_ok-label.ensures.placed c.in_ok-symbol-4.ensures.behind c.in_ok-pattern.ensures.placed c.in_ok-symbol-5.ensures.behind)
+
+pub edit-returns-clause-reads : goal.edit-returns-clause-reads
+edit-returns-clause-reads t c =
+    edit_found c.args.version c.args.left (ahead c.args.reader.now.cursor) c.in_ok-pattern.ensures.reads c.in_ok-symbol.ensures.reads c.in_ok-pattern.ensures.names c.in_ok-id.ensures.reads
+
+pub edit-returns-clause-placed : goal.edit-returns-clause-placed
+edit-returns-clause-placed t c = parted_read c.in_ok-pattern.ensures.placed c.in_ok-symbol.ensures.behind c.in_ok-id.ensures.placed
+
+pub editing-editing-added-requires-clause-members_held : goal.editing-editing-added-requires-clause-members_held
+editing-editing-added-requires-clause-members_held t c =
+    (collection_at_kept _ _ c.in_ok-source.source c.in_ok-pattern.ensures.reads.kept.trees c.in_ok-source.ensures.reads.held).1
+
+pub editing-returns-clause-reads : goal.editing-returns-clause-reads
+editing-returns-clause-reads t c = λ whole counted.
+    term_built _ _ _ c.args.start.ahead c.editing-added.result c.built.result
+    (editing_ready c.args.version c.args.left (ahead c.args.reader.now.cursor) c.requires.shallow c.in_ok-symbol.ensures.reads c.in_ok-source.ensures.reads c.in_ok-symbol-2.ensures.reads c.in_ok-label.ensures.reads c.in_ok-symbol-3.ensures.reads c.in_ok-pattern.ensures.reads c.in_ok-symbol-4.ensures.reads (c.in_ok-known.ensures.ok ∙ c.as_str.ensures.text))
+    (keeps_trans _ _ _ c.in_ok-source.ensures.reads.kept c.in_ok-pattern.ensures.reads.kept) counted c.built.ensures c.editing-added.ensures.ok c.editing-added.ensures.many (λ same. (c.editing-added.ensures.deep.0 same).1) (λ same. (c.editing-added.ensures.bad_name.0 same).2 (subst IsName (sym c.in_ok-known.ensures.ok) c.as_str.ensures.named, c.in_ok-pattern.ensures.reads.names))
+
+pub editing-returns-clause-placed : goal.editing-returns-clause-placed
+editing-returns-clause-placed t c = if_built_on _ _ _ c.args.start.ahead c.editing-added.result c.built.result c.built.ensures c.editing-added.ensures.ok c.editing-added.ensures.placed (λ id added there.
+    editing_read c.in_ok-pattern.ensures.reads.kept.trees added there c.in_ok-symbol.ensures.behind c.in_ok-source.ensures.placed c.in_ok-symbol-2.ensures.behind c.in_ok-label.ensures.placed c.in_ok-symbol-3.ensures.behind
+    c.in_ok-pattern.ensures.placed c.in_ok-symbol-4.ensures.behind)

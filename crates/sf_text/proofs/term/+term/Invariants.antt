@@ -13,6 +13,42 @@ decreases-form l = 8 * l.left + 7
 abbrev pub decreases-behind_head : goal.decreases-behind_head
 decreases-behind_head l = 8 * l.left + 6
 
+abbrev pub decreases-collection : goal.decreases-collection
+decreases-collection l = 8 * l.left
+
+abbrev pub decreases-collection_form : goal.decreases-collection_form
+decreases-collection_form l = 8 * l.left + 7
+
+abbrev pub decreases-collection_behind : goal.decreases-collection_behind
+decreases-collection_behind l = 8 * l.left + 6
+
+abbrev pub decreases-added : goal.decreases-added
+decreases-added l = 8 * l.left + 5
+
+abbrev pub decreases-dropped : goal.decreases-dropped
+decreases-dropped l = 8 * l.left + 5
+
+abbrev pub decreases-kept : goal.decreases-kept
+decreases-kept l = 8 * l.left + 5
+
+abbrev pub decreases-chosen : goal.decreases-chosen
+decreases-chosen l = 8 * l.left + 5
+
+abbrev pub decreases-members : goal.decreases-members
+decreases-members l = 8 * l.left + 1
+
+abbrev pub decreases-gathered : goal.decreases-gathered
+decreases-gathered l = 8 * l.left + 5
+
+abbrev pub decreases-releasing : goal.decreases-releasing
+decreases-releasing l = 8 * l.left + 5
+
+abbrev pub decreases-edit : goal.decreases-edit
+decreases-edit l = 8 * l.left + 2
+
+abbrev pub decreases-editing : goal.decreases-editing
+decreases-editing l = 8 * l.left + 5
+
 abbrev pub decreases-sided : goal.decreases-sided
 decreases-sided l = 8 * l.left + 5
 

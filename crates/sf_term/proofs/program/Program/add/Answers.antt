@@ -1,9 +1,13 @@
-use Rattle.std.proofs.Common.{◌∙◌, ap, refl, arith}
+use Rattle.std.proofs.Common.{◌∙◌, ◌^◌, ◌-◌, min, ◌≤◌, ℕ, ap, refl, arith}
 use Rattle.sf_arena.specs.Arenas.{entries_of}
-use Rattle.sf_arena.proofs.Grown.{more_put}
+use Rattle.sf_arena.proofs.Grown.{more_put, shallow_entries, shallow_at, added_item}
+use Rattle.sf_arena.specs.Items.{Added}
+use Rattle.sf_arena.specs.declared.entry.Entry.{Entry}
+use Rattle.sf_term.specs.declared.node.Node.{Node}
+use Rattle.sf_term.specs.Entries.{identity_entry}
 use Rattle.sf_term.specs.Trees.{term_depth}
 use Rattle.sf_term.specs.Arena.{base_of, headers_of, term_count}
-use Rattle.sf_term.proofs.Entered.{arena_put, same_arguments}
+use Rattle.sf_term.proofs.Entered.{arena_put, same_lists}
 use Rattle.sf_term.proofs.Refused.{many_as, deep_with}
 use Rattle.sf_term.proofs.Kept.{node-made, parts_needed, adds_added, unchanged, same_expressions}
 use Rattle.sf_term.proofs.program.Program.add.Goals as goal
@@ -12,8 +16,10 @@ pub invariant_of-self : goal.invariant_of-self
 invariant_of-self c =
     let p = c.args.self.now in
     let needed = parts_needed p c.args.node c.requires in
+    let shallow : (n : ℕ) → Added (entries_of p.terms) (entries_of c.add.new.self) (record { node = c.args.node; depth = c.depth_with-depth.result; spot = c.args.spot }) n → c.depth_with-depth.result ≤ 64 =
+    λ n added. omega (arith, shallow_at (entries_of c.add.new.self) identity_entry n (shallow_entries c.add.new.self) (omega arith), ap (λ (e : Entry Node). e.depth) (added_item _ _ _ _ added identity_entry)) in
     record {
-      arena = arena_put (base_of p) (entries_of p.terms) (entries_of c.add.new.self) (record { node = c.args.node; depth = c.depth_with-depth.result; spot = c.args.spot }) c.add.result c.add.ensures.ok c.add.ensures.err p.arena needed (c.depth_with-depth.ensures ∙ ap term_depth (node-made p c.args.node));
+      arena = arena_put (base_of p) (entries_of p.terms) (entries_of c.add.new.self) (record { node = c.args.node; depth = c.depth_with-depth.result; spot = c.args.spot }) c.add.result c.add.ensures.ok c.add.ensures.err shallow p.arena needed (c.depth_with-depth.ensures ∙ ap (λ t. min (term_depth t) (2 ^ 32 - 1)) (node-made p c.args.node));
       bodies = omega (arith, p.bodies, more_put _ _ _ c.add.result c.add.ensures.ok c.add.ensures.err);
     }
 
@@ -31,4 +37,4 @@ returns-in-Err-clause-deep c = deep_with _ _ _ _ c.from.ensures c.depth_with-dep
 
 pub returns-in-Err-clause-err : goal.returns-in-Err-clause-err
 unfolding headers_of
-returns-in-Err-clause-err c = unchanged c.args.self.now _ (same_expressions c.args.self.now.expressions) (same_arguments _) c.in-Err.ensures.err refl
+returns-in-Err-clause-err c = unchanged c.args.self.now _ (same_expressions c.args.self.now.expressions) (same_lists _) c.in-Err.ensures.err refl

@@ -3,8 +3,8 @@ use Rattle.sf_expr.specs.declared.exprs.ConstantId.{ConstantId}
 use Rattle.sf_expr.specs.declared.exprs.ExprNode.TheVariants as expressions
 use Rattle.sf_expr.specs.Expressions.{literal}
 use Rattle.sf_arena.specs.Arenas.{entries_of}
-use Rattle.sf_term.specs.Arena.{headers_of, expressions_of}
-use Rattle.sf_term.proofs.Entered.{arena_with, constant_grown_by, same_arguments}
+use Rattle.sf_term.specs.Arena.{lists_of, headers_of, expressions_of}
+use Rattle.sf_term.proofs.Entered.{arena_with, constant_grown_by, same_lists}
 use Rattle.sf_term.proofs.Kept.{adds_with, constant_beside, put_beside, unchanged, unchanged_after}
 use Rattle.sf_term.proofs.program.Program.constant.Goals as goal
 
@@ -13,7 +13,7 @@ invariant_of-self c =
     let p = c.args.self.now in
     let x = p.expressions in
     record {
-      arena = arena_with x c.constant.new.self p.arguments.items (entries_of p.terms) (constant_grown_by x c.constant.new.self c.constant.result c.args.value c.constant.ensures.ok c.constant.ensures.err) p.arena;
+      arena = arena_with x c.constant.new.self (lists_of p) (entries_of p.terms) (constant_grown_by x c.constant.new.self c.constant.result c.args.value c.constant.ensures.ok c.constant.ensures.err) p.arena;
       bodies = p.bodies;
     }
 
@@ -21,15 +21,15 @@ pub returns-in-Ok-clause-ok : goal.returns-in-Ok-clause-ok
 unfolding headers_of expressions_of
 returns-in-Ok-clause-ok c =
     let added = c.in-Ok.ensures.ok in
-    adds_with c.args.self.now _ _ c.add_expression.result _ _ (λ (n : ConstantId). expressions.Constant n) _ c.args.spot added.next (put_beside c.args.self.now _ (constant_beside _ _ _ _ added) (same_arguments _) refl refl) (ap literal added.is) c.add_expression.ensures.ok
+    adds_with c.args.self.now _ _ c.add_expression.result _ _ (λ (n : ConstantId). expressions.Constant n) _ c.args.spot added.next (put_beside c.args.self.now _ (constant_beside _ _ _ _ added) (same_lists _) refl refl) (ap literal added.is) c.add_expression.ensures.ok
 
 pub returns-in-Ok-clause-err : goal.returns-in-Ok-clause-err
 unfolding headers_of
-returns-in-Ok-clause-err c = unchanged_after c.args.self.now _ _ c.add_expression.result (put_beside c.args.self.now _ (constant_beside _ _ _ _ c.in-Ok.ensures.ok) (same_arguments _) refl refl) c.add_expression.ensures.err
+returns-in-Ok-clause-err c = unchanged_after c.args.self.now _ _ c.add_expression.result (put_beside c.args.self.now _ (constant_beside _ _ _ _ c.in-Ok.ensures.ok) (same_lists _) refl refl) c.add_expression.ensures.err
 
 pub returns-in-Err-clause-err : goal.returns-in-Err-clause-err
 unfolding headers_of
-returns-in-Err-clause-err c = unchanged c.args.self.now _ c.in-Err.ensures.err (same_arguments _) refl refl
+returns-in-Err-clause-err c = unchanged c.args.self.now _ c.in-Err.ensures.err (same_lists _) refl refl
 
 pub add_expression-requires : goal.add_expression-requires
 unfolding expressions_of

@@ -1,7 +1,7 @@
 use Rattle.std.proofs.Common.{refl, string_bytes}
 use Rattle.sf_arena.specs.Arenas.{entries_of}
-use Rattle.sf_term.specs.Arena.{headers_of, expressions_of, HoldsPatternIn}
-use Rattle.sf_term.proofs.Entered.{arena_with, grown_trans, name_grown_by, pattern_grown_by, same_arguments}
+use Rattle.sf_term.specs.Arena.{lists_of, headers_of, expressions_of, HoldsPatternIn}
+use Rattle.sf_term.proofs.Entered.{arena_with, grown_trans, name_grown_by, pattern_grown_by, unchanged_grown, same_lists}
 use Rattle.sf_term.proofs.Kept.{name_and_pattern, adds_keeping, keeping_deep, term_pattern_there, name_beside, beside_trans, unchanged_beside, put_beside, unchanged, unchanged_after, unchanged_keeps}
 use Rattle.sf_term.proofs.program.Program.keeping.Goals as goal
 
@@ -12,7 +12,15 @@ invariant_of-self c =
     let y = c.name.new.self in
     let z = c.pattern_in.new.self in
     record {
-      arena = arena_with x z p.arguments.items (entries_of p.terms) (grown_trans x y z (name_grown_by x y c.name.result (string_bytes c.args.process) c.name.ensures.ok c.name.ensures.err) (pattern_grown_by y z c.pattern_in.result c.args.pattern c.pattern_in.ensures.ok c.pattern_in.ensures.err)) p.arena;
+      arena = arena_with x z (lists_of p) (entries_of p.terms) (grown_trans x y z (name_grown_by x y c.name.result (string_bytes c.args.process) c.name.ensures.ok c.name.ensures.err) (pattern_grown_by y z c.pattern_in.result c.args.pattern c.pattern_in.ensures.ok c.pattern_in.ensures.err)) p.arena;
+      bodies = p.bodies;
+    }
+
+pub invariant_of-self-in-Err : goal.invariant_of-self-in-Err
+invariant_of-self-in-Err c =
+    let p = c.args.self.now in
+    record {
+      arena = arena_with p.expressions c.name.new.self (lists_of p) (entries_of p.terms) (unchanged_grown p.expressions c.name.new.self c.in-Err.ensures.err) p.arena;
       bodies = p.bodies;
     }
 
@@ -20,18 +28,18 @@ pub add-requires : goal.add-requires
 unfolding headers_of expressions_of HoldsPatternIn
 add-requires c =
     let added = name_and_pattern _ _ _ _ _ _ _ c.in-Ok.ensures.ok c.in-Ok-pattern_in.ensures.ok in
-    let kept = (unchanged_keeps c.args.self.now _ (put_beside c.args.self.now _ added.beside (same_arguments _) refl refl)).trees in
+    let kept = (unchanged_keeps c.args.self.now _ (put_beside c.args.self.now _ added.beside (same_lists _) refl refl)).trees in
     (kept.terms c.args.source c.requires.source_held, kept.terms c.args.observer c.requires.observer_held, added.name_within, added.pattern_within, kept.terms c.args.body c.requires.body_held)
 
 pub returns-in-Ok-pattern_in-clause-ok : goal.returns-in-Ok-pattern_in-clause-ok
 unfolding headers_of expressions_of
 returns-in-Ok-pattern_in-clause-ok c =
-    adds_keeping c.args.self.now _ _ c.add.result _ _ _ _ c.args.form c.args.source c.args.observer c.args.body c.args.place c.args.spot (name_and_pattern _ _ _ _ _ _ _ c.in-Ok.ensures.ok c.in-Ok-pattern_in.ensures.ok) (same_arguments _) refl refl c.add.ensures.ok
+    adds_keeping c.args.self.now _ _ c.add.result _ _ _ _ c.args.form c.args.source c.args.observer c.args.body c.args.place c.args.spot (name_and_pattern _ _ _ _ _ _ _ c.in-Ok.ensures.ok c.in-Ok-pattern_in.ensures.ok) (same_lists _) refl refl c.add.ensures.ok
 
 pub returns-in-Ok-pattern_in-clause-deep : goal.returns-in-Ok-pattern_in-clause-deep
 unfolding headers_of
 returns-in-Ok-pattern_in-clause-deep c =
-    keeping_deep c.args.self.now _ c.add.result _ _ _ _ c.args.form c.args.source c.args.observer c.args.body c.args.place (name_and_pattern _ _ _ _ _ _ _ c.in-Ok.ensures.ok c.in-Ok-pattern_in.ensures.ok) (same_arguments _) refl refl c.add.ensures.deep
+    keeping_deep c.args.self.now _ c.add.result _ _ _ _ c.args.form c.args.source c.args.observer c.args.body c.args.place (name_and_pattern _ _ _ _ _ _ _ c.in-Ok.ensures.ok c.in-Ok-pattern_in.ensures.ok) (same_lists _) refl refl c.add.ensures.deep
 
 pub returns-in-Ok-pattern_in-clause-placed : goal.returns-in-Ok-pattern_in-clause-placed
 unfolding headers_of expressions_of
@@ -43,13 +51,13 @@ pub returns-in-Ok-pattern_in-clause-err : goal.returns-in-Ok-pattern_in-clause-e
 unfolding headers_of
 returns-in-Ok-pattern_in-clause-err c =
     let added = name_and_pattern _ _ _ _ _ _ _ c.in-Ok.ensures.ok c.in-Ok-pattern_in.ensures.ok in
-    unchanged_after c.args.self.now _ _ c.add.result (put_beside c.args.self.now _ added.beside (same_arguments _) refl refl) c.add.ensures.err
+    unchanged_after c.args.self.now _ _ c.add.result (put_beside c.args.self.now _ added.beside (same_lists _) refl refl) c.add.ensures.err
 
 pub returns-in-Err-pattern_in-clause-err : goal.returns-in-Err-pattern_in-clause-err
 unfolding headers_of
 returns-in-Err-pattern_in-clause-err c =
-    put_beside c.args.self.now _ (beside_trans _ _ _ (name_beside _ _ _ _ c.in-Ok.ensures.ok) (unchanged_beside _ _ c.in-Err-pattern_in.ensures.err)) (same_arguments _) refl refl
+    put_beside c.args.self.now _ (beside_trans _ _ _ (name_beside _ _ _ _ c.in-Ok.ensures.ok) (unchanged_beside _ _ c.in-Err-pattern_in.ensures.err)) (same_lists _) refl refl
 
 pub returns-in-Err-clause-err : goal.returns-in-Err-clause-err
 unfolding headers_of
-returns-in-Err-clause-err c = unchanged c.args.self.now _ c.in-Err.ensures.err (same_arguments _) refl refl
+returns-in-Err-clause-err c = unchanged c.args.self.now _ c.in-Err.ensures.err (same_lists _) refl refl

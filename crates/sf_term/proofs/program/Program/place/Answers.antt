@@ -1,23 +1,23 @@
 use Rattle.std.proofs.Common.{refl}
 use Rattle.sf_arena.specs.Arenas.{entries_of}
-use Rattle.sf_term.specs.Arena.{headers_of}
-use Rattle.sf_term.proofs.Entered.{arena_with, pattern_grown_by, same_arguments}
+use Rattle.sf_term.specs.Arena.{lists_of, headers_of}
+use Rattle.sf_term.proofs.Entered.{arena_with, pattern_grown_by, same_lists}
 use Rattle.sf_term.proofs.Kept.{pattern_beside, put_beside, unchanged}
 use Rattle.sf_term.proofs.program.Program.place.Goals as goal
 
 pub returns-in-Ok-clause-same : goal.returns-in-Ok-clause-same
 unfolding headers_of
-returns-in-Ok-clause-same c = put_beside c.args.self.now _ (pattern_beside _ _ _ _ c.in-Ok.ensures.ok) (same_arguments _) refl refl
+returns-in-Ok-clause-same c = put_beside c.args.self.now _ (pattern_beside _ _ _ _ c.in-Ok.ensures.ok) (same_lists _) refl refl
 
 pub returns-in-Err-clause-same : goal.returns-in-Err-clause-same
 unfolding headers_of
-returns-in-Err-clause-same c = unchanged c.args.self.now _ c.in-Err.ensures.err (same_arguments _) refl refl
+returns-in-Err-clause-same c = unchanged c.args.self.now _ c.in-Err.ensures.err (same_lists _) refl refl
 
 pub invariant_of-self : goal.invariant_of-self
 invariant_of-self c =
     let p = c.args.self.now in
     let x = p.expressions in
     record {
-      arena = arena_with x c.pattern_in.new.self p.arguments.items (entries_of p.terms) (pattern_grown_by x c.pattern_in.new.self c.pattern_in.result c.args.pattern c.pattern_in.ensures.ok c.pattern_in.ensures.err) p.arena;
+      arena = arena_with x c.pattern_in.new.self (lists_of p) (entries_of p.terms) (pattern_grown_by x c.pattern_in.new.self c.pattern_in.result c.args.pattern c.pattern_in.ensures.ok c.pattern_in.ensures.err) p.arena;
       bodies = p.bodies;
     }

@@ -1,0 +1,14 @@
+pub mod Onward
+pub mod Local
+pub mod Stops
+pub mod Spells
+pub mod Pieces
+pub mod Values
+pub mod Forms
+pub mod Terms
+pub mod Headers
+pub mod Limits
+pub mod Networks
+pub mod Bytes
+pub mod Only
+pub mod Beyond
