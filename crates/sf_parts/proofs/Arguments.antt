@@ -37,13 +37,16 @@ use Rattle.sf_law.specs.Arena.{plan_tree, plan_collection, plan_expressions, pla
 use Rattle.sf_law.proofs.Called.{argued_closed}
 use Rattle.sf_state.specs.declared.state.State.{State}
 use Rattle.sf_state.specs.declared.state.State.TheVariants.{Unborn}
-use Rattle.sf_state.specs.declared.state.Live.{Live}
+use Rattle.sf_state.specs.declared.state.Live.{items_hidden-the_row-State-0 as states_are}
+use Rattle.sf_state.specs.declared.state.Gathered.{Gathered}
+use Rattle.sf_state.proofs.Copies.{held_shown, held_hidden}
+use Rattle.sf_parts.specs.Collecting.{HasMembers, MakesMembers}
 use Rattle.sf_state.specs.declared.env.Env.{Env}
 use Rattle.sf_state.specs.Names.{values_around}
 use Rattle.sf_state.specs.declared.env.Handed.{Handed}
 use Rattle.sf_state.specs.declared.env.Given.{Given}
 use Rattle.sf_state.specs.declared.env.Given.TheVariants.{Value as GValue, Process as GProcess, Members as GMembers}
-use Rattle.sf_state.specs.Standing.{IsNames, AreGiven, nothing_given, value_is_given, process_is_given, members_are_given, Gathers, IsHanded, Stands, itself, unborn, is_closure, closed_over}
+use Rattle.sf_state.specs.Standing.{IsNames, AreGiven, nothing_given, value_is_given, process_is_given, members_are_given, IsHanded, Stands, itself, unborn, is_closure, closed_over}
 use Rattle.sf_state.proofs.Scopes.{scope_is}
 use Rattle.sf_parts.specs.Answering.{fault_from}
 use Rattle.sf_parts.specs.Beginning.{Makes, makes, makes_fault, makes_nothing, GivesOne}
@@ -120,17 +123,17 @@ module _ (φ : AnswersByName) (p : Plan) where
 
     module _ (r : Rc PlanCollection Global) where
       -- what its collection makes
-      abbrev AreMade : Environment → Result Live Fault → Type 0
-      AreMade e o = Makes (λ l ms. Gathers φ p l ms []) (collect φ (plan_collection p r.value) e) o
+      abbrev AreMade : Environment → Result Gathered Fault → Type 0
+      AreMade e o = MakesMembers φ p (collect φ (plan_collection p r.value) e) o
 
-      members_made : (l : Live) (e d : Environment) → AreMade e (Ok l) → Makes (λ g b. AreGiven φ p (name ∷ []) (g ∷ []) d b) (argued φ (plan_binding p q ∷ []) (plan_arguments p (Collected r ∷ [])) e d) (Ok (GMembers l))
-      members_made l e d (makes h G) = makes (ap (λ w. w >>= λ ms. answer (collected name ms d)) h) (members_are_given G nothing_given)
+      members_made : (l : Gathered) (e d : Environment) → AreMade e (Ok l) → Makes (λ g b. AreGiven φ p (name ∷ []) (g ∷ []) d b) (argued φ (plan_binding p q ∷ []) (plan_arguments p (Collected r ∷ [])) e d) (Ok (GMembers l))
+      members_made l e d (makes h G) = makes (ap (λ w. w >>= λ ms. answer (collected name ms d)) h) (members_are_given (held_hidden φ p l (states_are l.states.value) G) nothing_given)
 
       members_fail : (x : Fault) (e d : Environment) → AreMade e (Err x) → Makes (λ g b. AreGiven φ p (name ∷ []) (g ∷ []) d b) (argued φ (plan_binding p q ∷ []) (plan_arguments p (Collected r ∷ [])) e d) (Err x)
       members_fail x e d (makes_fault h) = makes_fault (ap (λ w. w >>= λ ms. answer (collected name ms d)) h)
       members_fail x e d makes_nothing = makes_nothing
 
-      pub collected_given : (l : Live) → ((e : Environment) → IsNames φ p names e → AreMade e (Ok l)) → GivesOne φ p q (Collected r) names (Ok (GMembers l))
+      pub collected_given : (l : Gathered) → ((e : Environment) → IsNames φ p names e → AreMade e (Ok l)) → GivesOne φ p q (Collected r) names (Ok (GMembers l))
       collected_given l f e d N = members_made l e d (f e N)
 
       pub collected_fails : (x : Fault) → ((e : Environment) → IsNames φ p names e → AreMade e (Err x)) → GivesOne φ p q (Collected r) names (Err x)
@@ -144,8 +147,8 @@ module _ (φ : AnswersByName) (p : Plan) where
     pub process_inside : (h : Handed) → ((d : Environment) (P : Process) → IsNames φ p bound d → IsHanded φ p x h P → IsNames φ p inner (running x P d)) → (d e : Environment) → IsNames φ p bound d → AreGiven φ p (x ∷ []) (GProcess h ∷ []) d e → IsNames φ p inner e
     process_inside h f d e M (process_is_given {P = P} A B nothing_given) = f d P M (A, B)
 
-    pub members_inside : (l : Live) → ((d : Environment) (ms : Members) → IsNames φ p bound d → Gathers φ p l ms [] → IsNames φ p inner (collected x ms d)) → (d e : Environment) → IsNames φ p bound d → AreGiven φ p (x ∷ []) (GMembers l ∷ []) d e → IsNames φ p inner e
-    members_inside l f d e M (members_are_given {ms = ms} G nothing_given) = f d ms M G
+    pub members_inside : (l : Gathered) → ((d : Environment) (ms : Members) → IsNames φ p bound d → HasMembers φ p l ms → IsNames φ p inner (collected x ms d)) → (d e : Environment) → IsNames φ p bound d → AreGiven φ p (x ∷ []) (GMembers l ∷ []) d e → IsNames φ p inner e
+    members_inside l f d e M (members_are_given {ms = ms} G nothing_given) = f d ms M (held_shown φ p l (states_are l.states.value) G)
 
   -- what is given stands before what is given after it
   given_before : (x : Name) (g : Given) (xs : List Name) (gs : List Given) (d b e : Environment) → AreGiven φ p (x ∷ []) (g ∷ []) d b → AreGiven φ p xs gs b e → AreGiven φ p (x ∷ xs) (g ∷ gs) d e

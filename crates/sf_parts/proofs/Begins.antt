@@ -51,20 +51,22 @@ use Rattle.sf_prim.specs.declared.prim_state.PrimState.{PrimState}
 use Rattle.sf_prim.specs.Keeping.{Begins, begins, begins_with_fault}
 use Rattle.sf_state.specs.declared.state.State.{State}
 use Rattle.sf_state.specs.declared.state.State.TheVariants.{Unborn, Primitive as SPrimitive, Live' as Alive', Switch' as Watching', Keeping', Gathering'}
-use Rattle.sf_state.specs.declared.state.Live.{Live}
-use Rattle.sf_state.specs.declared.state.Live.TheVariants.{Probe as LProbe, Join as LJoin, Wrap as LWrap, Pipeline as LPipeline}
+use Rattle.sf_state.specs.declared.state.Live.{Live, items_hidden-the_row-State-0 as states_are}
+use Rattle.sf_state.specs.declared.state.Live.TheVariants.{Probe as LProbe, Join as LJoin, Wrap as LWrap, Pipeline as LPipeline, Gathered as LGathered}
+use Rattle.sf_state.specs.declared.state.Gathered.{Gathered}
 use Rattle.sf_state.specs.declared.state.Switch.{Switch}
 use Rattle.sf_state.specs.declared.state.Keeping.{Keeping}
 use Rattle.sf_state.specs.declared.state.Gathering.{Gathering}
-use Rattle.sf_state.specs.declared.state.Gathering.TheVariants.{Releasing' as GReleasing', Editing' as GEditing'}
+use Rattle.sf_state.specs.declared.state.Gathering.TheVariants.{Releasing as GReleasing, Editing as GEditing}
 use Rattle.sf_state.specs.declared.state.Wrap.{Wrap}
 use Rattle.sf_state.specs.declared.state.Wrap.TheVariants.{Replaced}
 use Rattle.sf_state.specs.declared.env.Env.{Env}
 use Rattle.sf_state.specs.Names.{values_around}
-use Rattle.sf_state.specs.Standing.{closed_over as SClosure, Stands, itself, unborn, recalls, waits_so, recurs_so, keeps_so, releases_so, edits_so, ready, AreJoined, as_join, as_pipeline, Lives, lives_probe, lives_join, lives_wrap, lives_gathered, Gathers, gathers, Wraps, wraps_transformed, StagesStand, last_stands, stage_stands, is_closure, IsNames, IsProcess}
+use Rattle.sf_state.specs.Standing.{closed_over as SClosure, Stands, itself, unborn, recalls, waits_so, recurs_so, keeps_so, releases_so, edits_so, ready, AreJoined, as_join, as_pipeline, Lives, lives_probe, lives_join, lives_wrap, Wraps, wraps_transformed, StagesStand, last_stands, stage_stands, is_closure, IsNames, IsProcess}
 use Rattle.sf_state.specs.declared.state.Process.{Process as SProcess}
 use Rattle.sf_state.proofs.Scopes.{scope_is}
-use Rattle.sf_state.proofs.Copies.{pipeline_lives}
+use Rattle.sf_state.proofs.Copies.{pipeline_lives, members_live, held_hidden}
+use Rattle.sf_parts.specs.Collecting.{MakesMembers}
 use Rattle.sf_parts.specs.declared.opening.Opened.{Opened}
 use Rattle.sf_parts.specs.declared.opening.Opened.TheVariants as opened
 use Rattle.sf_parts.specs.declared.opening.Begun.{Begun}
@@ -198,14 +200,11 @@ module _ (φ : AnswersByName) (p : Plan) where
   -- ## Members
 
   -- what a collection makes among names
-  abbrev AreMade : PlanCollection → Environment → Result Live Fault → Type 0
-  AreMade i e r = Makes (λ l ms. Gathers φ p l ms []) (collect φ (plan_collection p i) e) r
+  abbrev AreMade : PlanCollection → Environment → Result Gathered Fault → Type 0
+  AreMade i e r = MakesMembers φ p (collect φ (plan_collection p i) e) r
 
-  members_live : {i : Collection} {e : Environment} {l : Live} {ms : Members} → Gathers φ p l ms [] → Lives φ p l (gathered i) e (members_made ms) []
-  members_live (gathers K S) = lives_gathered no_tables (gathers K S)
-
-  pub open_gathered : (i : PlanCollection) (live : Live) (l : Rc Live Global) → l.value ≡ live → (x : Data) (e : Environment) → AreMade i e (Ok live) → Opens φ p (gathered (plan_collection p i)) e x (Ok (opened.Live l))
-  open_gathered i live l same x e (makes h G) = opens same (ready (ap (λ w. w >>= λ ms. answer (members_made ms)) h) not_begun (members_live G))
+  pub open_gathered : (i : PlanCollection) (g : Gathered) (l : Rc Live Global) → l.value ≡ LGathered g → (x : Data) (e : Environment) → AreMade i e (Ok g) → Opens φ p (gathered (plan_collection p i)) e x (Ok (opened.Live l))
+  open_gathered i g l same x e (makes h G) = opens same (ready (ap (λ w. w >>= λ ms. answer (members_made ms)) h) not_begun (members_live φ p g no_tables G))
 
   -- a form whose members are not made
   open_members_fails : (t : Term) (i : PlanCollection) (x : Data) (e : Environment) (f : Fault) → make net t e x ≡ (collect φ (plan_collection p i) e >>= λ ms. answer (members_made ms)) → AreMade i e (Err f) → Opens φ p t e x (Err f)
@@ -220,32 +219,32 @@ module _ (φ : AnswersByName) (p : Plan) where
   open_builds_gathered i t names r (builds_gathered C) h x e N = h x e C N
 
   module _ (s : PlanReleasing) where
-    abbrev ReleasedMade : Environment → Result Live Fault → Type 0
+    abbrev ReleasedMade : Environment → Result Gathered Fault → Type 0
     ReleasedMade e r = IsCodedCollection (plan_expressions p) s.members.value → AreMade s.members.value e r
 
-    pub open_releasing : (t : Term) (members before : Live) (around : Env) (l : Rc Gathering Global) → l.value ≡ GReleasing' s.shown members before (Unborn (SClosure s.observer around)) s.name s.pattern s.body → BuildsPlan p (NReleasing s) t
+    pub open_releasing : (t : Term) (members before : Gathered) (around : Env) (l : Rc Gathering Global) → l.value ≡ GReleasing (record { shown = s.shown; members = members; before = before; observer = Unborn (SClosure s.observer around); name = s.name; pattern = s.pattern; body = s.body }) → BuildsPlan p (NReleasing s) t
         → (x : Data) (e : Environment) → ReleasedMade e (Ok members) → IsNames φ p around e → Opens φ p t e x (Ok (opened.Gathering l))
     open_releasing t members before around l same (builds_releasing C) x e f N = by (f C)
       where
         by : AreMade s.members.value e (Ok members) → Opens φ p (releasing s.shown (plan_collection p s.members.value) (plan_tree p s.observer) (name_at (plan_expressions p) s.name) (pattern_of (placed_at (plan_expressions p) s.pattern)) (plan_tree p s.body)) e x (Ok (opened.Gathering l))
-        by (makes h G) = opens_gathering same (releases_so h at_start not_begun no_tables G (itself (unborn (is_closure (alike_itself _) N))))
+        by (makes h G) = opens_gathering same (releases_so h at_start not_begun no_tables (held_hidden φ p members (states_are members.states.value) G) (itself (unborn (is_closure (alike_itself _) N))))
 
     pub open_releasing_fails : (t : Term) (f : Fault) → BuildsPlan p (NReleasing s) t → (x : Data) (e : Environment) → ReleasedMade e (Err f) → Opens φ p t e x (Err f)
     open_releasing_fails t f (builds_releasing C) x e h = open_members_fails _ s.members.value x e f refl (h C)
 
   module _ (s : PlanEditing) where
-    abbrev EditedMade : Environment → Result Live Fault → Type 0
+    abbrev EditedMade : Environment → Result Gathered Fault → Type 0
     EditedMade e r = IsCodedCollection (plan_expressions p) s.members.value → AreMade s.members.value e r
 
     abbrev edited_by : PlanCollection → Term
     edited_by i = editing s.shown (plan_collection p s.members.value) (name_at (plan_expressions p) s.name) (pattern_of (placed_at (plan_expressions p) s.pattern)) (plan_collection p i)
 
-    pub open_editing : (t : Term) (members : Live) (edit : Rc PlanCollection Global) (l : Rc Gathering Global) → edit.value ≡ s.edit.value → l.value ≡ GEditing' s.shown members s.name s.pattern edit → BuildsPlan p (NEditing s) t
+    pub open_editing : (t : Term) (members : Gathered) (edit : Rc PlanCollection Global) (l : Rc Gathering Global) → edit.value ≡ s.edit.value → l.value ≡ GEditing (record { shown = s.shown; members = members; name = s.name; pattern = s.pattern; edit = edit }) → BuildsPlan p (NEditing s) t
         → (x : Data) (e : Environment) → EditedMade e (Ok members) → Opens φ p t e x (Ok (opened.Gathering l))
     open_editing t members edit l shared same (builds_editing C) x e f = by (f C.0)
       where
         by : AreMade s.members.value e (Ok members) → Opens φ p (edited_by s.edit.value) e x (Ok (opened.Gathering l))
-        by (makes h G) = subst (λ i. Opens φ p (edited_by i) e x (Ok (opened.Gathering l))) shared (opens_gathering same (edits_so (subst (λ i. IsCodedCollection (plan_expressions p) i) (sym shared) C.1) h refl not_begun no_tables G))
+        by (makes h G) = subst (λ i. Opens φ p (edited_by i) e x (Ok (opened.Gathering l))) shared (opens_gathering same (edits_so (subst (λ i. IsCodedCollection (plan_expressions p) i) (sym shared) C.1) h refl not_begun no_tables (held_hidden φ p members (states_are members.states.value) G)))
 
     pub open_editing_fails : (t : Term) (f : Fault) → BuildsPlan p (NEditing s) t → (x : Data) (e : Environment) → EditedMade e (Err f) → Opens φ p t e x (Err f)
     open_editing_fails t f (builds_editing C) x e h = open_members_fails _ s.members.value x e f refl (h C.0)

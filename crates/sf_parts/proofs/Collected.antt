@@ -1,9 +1,7 @@
 -- What a collection makes, and what goes on after it.
-use Rattle.std.proofs.Common.{◌≡◌, ℕ, Bool, true, false, cond, List, [], ◌∷◌, ◌++◌, map, length, Result, Ok, Err, refl, sym, ap, ◌∙◌, subst, arith, ◌⊎◌, inl, inr, Vec}
-use Rattle.std.specs.declared.alloc.Global.{Global}
-use Rattle.std.specs.declared.rc.Rc.{Rc}
+use Rattle.std.proofs.Common.{◌≡◌, ℕ, Bool, true, false, cond, List, [], ◌∷◌, ◌++◌, map, length, Option, Result, Ok, Err, refl, sym, ap, ◌∙◌, subst, arith, append_assoc, ◌⊎◌, inl, inr}
 use Rattle.sf_value.specs.Values.{KeyData, Data}
-use Rattle.sf_value.specs.View.{key_of}
+use Rattle.sf_value.specs.Keys.{key_of, AreDifferentKeys}
 use Rattle.sf_value.specs.declared.fault.Fault.{Fault}
 use Rattle.sf_value.specs.declared.value.Key.{Key}
 use Rattle.sf_func.specs.Registries.{AnswersByName}
@@ -11,9 +9,11 @@ use Rattle.sf_operator.specs.Answers.{Evaluates}
 use Rattle.sf_operator.specs.FunctionForms.{value_of_key}
 use Rattle.sf_operator.specs.declared.fault.EvalFault.{EvalFault}
 use Rattle.sf_operator.specs.declared.fault.EvalFault.TheVariants.{Value as EValue, Memory as EMemory}
-use Rattle.sf_expr.specs.Expressions.{Expression}
+use Rattle.sf_expr.specs.Expressions.{Expression, Function}
 use Rattle.sf_expr.specs.Evaluation.{Evaluated, Scope, answer, failed, ◌>>=◌, eval}
 use Rattle.sf_code.specs.Names.{scope_with}
+use Rattle.sf_code.specs.Worth.{frame_around, IsCodeOfFunction, IsCodeOfFunctionIn}
+use Rattle.sf_code.specs.declared.open.OpenCode.{OpenCode}
 use Rattle.sf_term.specs.Trees.{Term}
 use Rattle.sf_mean.specs.Lives.{Process, closure, Environment, Members, no_members, member, scope_around}
 use Rattle.sf_mean.specs.Formulas.{is_high}
@@ -22,11 +22,10 @@ use Rattle.sf_law.specs.declared.plan.Plan.{Plan}
 use Rattle.sf_state.specs.declared.state.State.{State}
 use Rattle.sf_state.specs.declared.env.Env.{Env}
 use Rattle.sf_state.specs.Names.{values_around}
-use Rattle.sf_state.specs.Standing.{IsNames, Stands, Gathers, EachStands, none_stands, one_stands, keys_in}
-use Rattle.sf_state.specs.declared.state.Live.TheVariants.{Gathered as LGathered}
-use Rattle.sf_state.proofs.Copies.{gathers_where}
+use Rattle.sf_state.specs.Standing.{IsNames, gathers, EachStands, none_stands, one_stands, StandsAmong, AllFollow, keys_in}
+use Rattle.sf_state.specs.declared.state.Gathered.{Gathered}
+use Rattle.sf_state.proofs.Copies.{each_follows}
 use Rattle.sf_state.proofs.Scopes.{scope_is}
-use Rattle.sf_parts.specs.declared.placing.Gathered.{Gathered}
 use Rattle.sf_parts.specs.Answering.{fault_from}
 use Rattle.sf_parts.specs.Beginning.{Makes, makes, makes_fault, makes_nothing}
 use Rattle.sf_parts.specs.Collecting.{HasMembers, MakesMembers}
@@ -46,6 +45,15 @@ module _ {A B C : Type 0} (stands : A → B → Type 0) (w : Evaluated C) (f : C
     pub after_fault : (x : Fault) → Makes before w (Err x) → Makes stands (w >>= f) (Err x)
     after_fault x (makes_fault h) = makes_fault (ap (λ w. w >>= f) h)
     after_fault x makes_nothing = makes_nothing
+
+-- what is not told is a fault
+pub not_told : {A : Type 0} {w : Evaluated Data} (stands : A → Data → Type 0) (x : EvalFault) → Evaluates (Err x) w → Makes stands w (Err (fault_from x))
+not_told stands (EValue y) h = makes_fault h
+not_told stands EMemory h = makes_nothing
+
+-- code over the frame of the names in a scope
+pub coded_over : {f : Function} {c : OpenCode} → IsCodeOfFunction f c → (s : Scope) (around : List Data) → around ≡ frame_around c.around s → IsCodeOfFunctionIn s f around c.code
+coded_over {f} {c} C s around e = subst (λ (a : List Data). IsCodeOfFunctionIn s f a c.code) (sym e) (record { worth = λ d. C.worth s d })
 
 module _ (φ : AnswersByName) (p : Plan) (names : Env) (e : Environment) (N : IsNames φ p names e) where
   -- ## What is evaluated among names
@@ -120,34 +128,35 @@ first_same e = cc
 rest_same : {A : Type 0} {a b : A} {xs ys : List A} → a ∷ xs ≡ b ∷ ys → xs ≡ ys
 rest_same e = cc
 
-map_last : {A B : Type 0} (f : A → B) (xs : List A) (x : A) → map f (xs ++ x ∷ []) ≡ map f xs ++ f x ∷ []
-map_last f [] x = refl
-map_last f (y ∷ xs) x = ap (λ ys. f y ∷ ys) (map_last f xs x)
+-- keys that are different, of which one goes over to those that are kept
+pub different_kept : (xs zs : List KeyData) (k l : KeyData) (ks ys : List KeyData) → ks ≡ k ∷ ys → l ≡ k → zs ≡ xs ++ l ∷ [] → AreDifferentKeys (xs ++ ks) → AreDifferentKeys (zs ++ ys)
+different_kept xs zs k l ks ys e same put h =
+    subst AreDifferentKeys (ap (λ ls. xs ++ ls) e ∙ sym (append_assoc xs (k ∷ []) ys) ∙ ap (λ l. (xs ++ l ∷ []) ++ ys) (sym same) ∙ ap (λ zs. zs ++ ys) (sym put)) h
 
-module _ (φ : AnswersByName) (p : Plan) where
-  stand_ended : {bs : List State} {ms : Members} {a : State} {P : Process} (k : KeyData) → EachStands φ p bs ms [] → Stands φ p a P [] → EachStands φ p (bs ++ a ∷ []) (ended_by ms k P) []
+module _ (φ : AnswersByName) (p : Plan) (w : Option ℕ) where
+  stand_ended : {bs : List State} {ms : Members} {a : State} {P : Process} (k : KeyData) → EachStands φ p w bs ms [] → StandsAmong φ p w a P [] → EachStands φ p w (bs ++ a ∷ []) (ended_by ms k P) []
   stand_ended k none_stands A = one_stands A none_stands
   stand_ended k (one_stands B S) A = one_stands B (stand_ended k S A)
 
   module _ (ask : Data → Evaluated Data) (ms : Members) where
     -- Some keys have been asked for, and these are kept; the others come next.
-    pub record Sifted (ks : List Key) (bs : List State) (under : List Key) (kept : List State) : Type 0 where
+    pub record Sifted (ks : List Key) (bs : List State) (under : List KeyData) (kept : List State) : Type 0 where
       pub next : Members
       pub done : Members
       pub next_keys : map key_of ks ≡ keys_in next
-      pub next_stand : EachStands φ p bs next []
-      pub done_keys : map key_of under ≡ keys_in done
-      pub done_stand : EachStands φ p kept done []
+      pub next_stand : EachStands φ p w bs next []
+      pub done_keys : under ≡ keys_in done
+      pub done_stand : EachStands φ p w kept done []
       pub goes : keep ask ms ≡ (keep ask next >>= λ ns. answer (followed done ns))
 
-    pub none_sifted : (ks : List Key) (bs : List State) (under : List Key) (kept : List State) → map key_of ks ≡ keys_in ms → EachStands φ p bs ms [] → under ≡ [] → kept ≡ [] → Sifted ks bs under kept
+    pub none_sifted : (ks : List Key) (bs : List State) (under : List KeyData) (kept : List State) → map key_of ks ≡ keys_in ms → EachStands φ p w bs ms [] → under ≡ [] → kept ≡ [] → Sifted ks bs under kept
     none_sifted ks bs under kept K S no_key no_state = record {
       next = ms;
       done = no_members;
       next_keys = K;
       next_stand = S;
-      done_keys = ap (map key_of) no_key;
-      done_stand = subst (λ bs. EachStands φ p bs no_members []) (sym no_state) none_stands;
+      done_keys = no_key;
+      done_stand = subst (λ bs. EachStands φ p w bs no_members []) (sym no_state) none_stands;
       goes = same_answer (keep ask ms);
     }
 
@@ -163,24 +172,24 @@ module _ (φ : AnswersByName) (p : Plan) where
         ∙ answers_twice (keep ask rest) (λ ns. cond (is_high v) (member k P ns) ns) (followed done)
 
     -- it is kept
-    one_kept : {k : KeyData} {P : Process} {rest : Members} (key own : Key) (ks under more : List Key) (a : State) (bs kept longer : List State) (done : Members)
-        → key_of key ∷ map key_of ks ≡ k ∷ keys_in rest → Stands φ p a P [] → EachStands φ p bs rest [] → map key_of under ≡ keys_in done → EachStands φ p kept done []
+    one_kept : {k : KeyData} {P : Process} {rest : Members} (key own : Key) (ks : List Key) (under more : List KeyData) (a : State) (bs kept longer : List State) (done : Members)
+        → key_of key ∷ map key_of ks ≡ k ∷ keys_in rest → StandsAmong φ p w a P [] → EachStands φ p w bs rest [] → under ≡ keys_in done → EachStands φ p w kept done []
         → keep ask ms ≡ (keep ask (member k P rest) >>= λ ns. answer (followed done ns))
-        → Told (key_of key) (Ok true) → key_of own ≡ key_of key → more ≡ under ++ own ∷ [] → longer ≡ kept ++ a ∷ [] → Sifted ks bs more longer
+        → Told (key_of key) (Ok true) → key_of own ≡ key_of key → more ≡ under ++ key_of own ∷ [] → longer ≡ kept ++ a ∷ [] → Sifted ks bs more longer
     one_kept {k} {P} {rest} key own ks under more a bs kept longer done K A S D E goes (makes {b = v} h told) same put also = record {
       next = rest;
       done = ended_by done k P;
       next_keys = rest_same K;
       next_stand = S;
-      done_keys = ap (map key_of) put ∙ map_last key_of under own ∙ ap (λ ls. ls ++ key_of own ∷ []) D ∙ ap (λ l. keys_in done ++ l ∷ []) (same ∙ first_same K) ∙ sym (keys_ended done k P);
-      done_stand = subst (λ bs. EachStands φ p bs (ended_by done k P) []) (sym also) (stand_ended k E A);
+      done_keys = put ∙ ap (λ ls. ls ++ key_of own ∷ []) D ∙ ap (λ l. keys_in done ++ l ∷ []) (same ∙ first_same K) ∙ sym (keys_ended done k P);
+      done_stand = subst (λ bs. EachStands φ p w bs (ended_by done k P) []) (sym also) (stand_ended k E A);
       goes = goes ∙ asked_one k P rest done v (ap (λ l. ask (value_of_key l)) (sym (first_same K)) ∙ h)
           ∙ answers_alike (keep ask rest) (λ ns. followed done (cond (is_high v) (member k P ns) ns)) (followed (ended_by done k P)) (λ ns. ap (λ b. followed done (cond b (member k P ns) ns)) (sym told) ∙ followed_by_one done k P ns);
     }
 
     -- it is left out
-    one_left : {k : KeyData} (P : Process) (rest : Members) (key : Key) (ks under : List Key) (bs kept : List State) (done : Members)
-        → key_of key ∷ map key_of ks ≡ k ∷ keys_in rest → EachStands φ p bs rest [] → map key_of under ≡ keys_in done → EachStands φ p kept done []
+    one_left : {k : KeyData} (P : Process) (rest : Members) (key : Key) (ks : List Key) (under : List KeyData) (bs kept : List State) (done : Members)
+        → key_of key ∷ map key_of ks ≡ k ∷ keys_in rest → EachStands φ p w bs rest [] → under ≡ keys_in done → EachStands φ p w kept done []
         → keep ask ms ≡ (keep ask (member k P rest) >>= λ ns. answer (followed done ns))
         → Told (key_of key) (Ok false) → Sifted ks bs under kept
     one_left {k} P rest key ks under bs kept done K S D E goes (makes {b = v} h told) = record {
@@ -201,61 +210,54 @@ module _ (φ : AnswersByName) (p : Plan) where
         makes_fault (goes ∙ ap (λ w. (w >>= λ b. keep ask rest >>= λ ns. answer (cond (is_high b) (member k P ns) ns)) >>= λ ns. answer (followed done ns)) (ap (λ l. ask (value_of_key l)) (sym (first_same K)) ∙ h))
     one_fails P rest done key ks x K goes makes_nothing = makes_nothing
 
-    module _ (ks ks' : List Key) (bs bs' : List State) (under : List Key) (kept : List State) (key : Key) (a : State) (keys_are : ks ≡ key ∷ ks') (states_are : bs ≡ a ∷ bs') (F : Sifted ks bs under kept) where
+    module _ (ks ks' : List Key) (bs bs' : List State) (under : List KeyData) (kept : List State) (key : Key) (a : State) (keys_are : ks ≡ key ∷ ks') (states_are : bs ≡ a ∷ bs') (F : Sifted ks bs under kept) where
       head_keys : map key_of (key ∷ ks') ≡ keys_in F.next
       head_keys = ap (map key_of) (sym keys_are) ∙ F.next_keys
 
-      head_stands : EachStands φ p (a ∷ bs') F.next []
-      head_stands = subst (λ bs. EachStands φ p bs F.next []) states_are F.next_stand
+      head_stands : EachStands φ p w (a ∷ bs') F.next []
+      head_stands = subst (λ bs. EachStands φ p w bs F.next []) states_are F.next_stand
 
-      pub sifted_kept : (own : Key) (more : List Key) (longer : List State) → Told (key_of key) (Ok true) → key_of own ≡ key_of key → more ≡ under ++ own ∷ [] → longer ≡ kept ++ a ∷ [] → Sifted ks' bs' more longer
+      pub sifted_kept : (own : Key) (more : List KeyData) (longer : List State) → Told (key_of key) (Ok true) → key_of own ≡ key_of key → more ≡ under ++ key_of own ∷ [] → longer ≡ kept ++ a ∷ [] → Sifted ks' bs' more longer
       sifted_kept own more longer told same put also = by head_keys head_stands F.goes
         where
-          by : {ns : Members} → map key_of (key ∷ ks') ≡ keys_in ns → EachStands φ p (a ∷ bs') ns [] → keep ask ms ≡ (keep ask ns >>= λ ns. answer (followed F.done ns)) → Sifted ks' bs' more longer
+          by : {ns : Members} → map key_of (key ∷ ks') ≡ keys_in ns → EachStands φ p w (a ∷ bs') ns [] → keep ask ms ≡ (keep ask ns >>= λ ns. answer (followed F.done ns)) → Sifted ks' bs' more longer
           by K (one_stands A S) goes = one_kept key own ks' under more a bs' kept longer F.done K A S F.done_keys F.done_stand goes told same put also
 
       pub sifted_out : Told (key_of key) (Ok false) → Sifted ks' bs' under kept
       sifted_out told = by head_keys head_stands F.goes
         where
-          by : {ns : Members} → map key_of (key ∷ ks') ≡ keys_in ns → EachStands φ p (a ∷ bs') ns [] → keep ask ms ≡ (keep ask ns >>= λ ns. answer (followed F.done ns)) → Sifted ks' bs' under kept
+          by : {ns : Members} → map key_of (key ∷ ks') ≡ keys_in ns → EachStands φ p w (a ∷ bs') ns [] → keep ask ms ≡ (keep ask ns >>= λ ns. answer (followed F.done ns)) → Sifted ks' bs' under kept
           by K (one_stands {P = P} {ms = rest} A S) goes = one_left P rest key ks' under bs' kept F.done K S F.done_keys F.done_stand goes told
 
       pub not_sifted : (x : Fault) → Told (key_of key) (Err x) → MakesMembers φ p (keep ask ms) (Err x)
       not_sifted x told = by head_keys head_stands F.goes
         where
-          by : {ns : Members} → map key_of (key ∷ ks') ≡ keys_in ns → EachStands φ p (a ∷ bs') ns [] → keep ask ms ≡ (keep ask ns >>= λ ns. answer (followed F.done ns)) → MakesMembers φ p (keep ask ms) (Err x)
+          by : {ns : Members} → map key_of (key ∷ ks') ≡ keys_in ns → EachStands φ p w (a ∷ bs') ns [] → keep ask ms ≡ (keep ask ns >>= λ ns. answer (followed F.done ns)) → MakesMembers φ p (keep ask ms) (Err x)
           by K (one_stands {P = P} {ms = rest} A S) goes = one_fails P rest F.done key ks' x K goes told
 
     -- no key comes next
-    none_next : (ks : List Key) (bs : List State) (ns : Members) → map key_of ks ≡ keys_in ns → EachStands φ p bs ns [] → (length ks ≡ 0) ⊎ (length bs ≡ 0) → ns ≡ no_members
+    none_next : (ks : List Key) (bs : List State) (ns : Members) → map key_of ks ≡ keys_in ns → EachStands φ p w bs ns [] → (length ks ≡ 0) ⊎ (length bs ≡ 0) → ns ≡ no_members
     none_next ks bs no_members K S none = refl
     none_next [] bs (member k P ns) K S none = absurd cc
     none_next (k ∷ ks) [] (member l P ns) K S none = elim S [ ]
     none_next (k ∷ ks) (b ∷ bs) (member l P ns) K S (inl h) = absurd (omega arith)
     none_next (k ∷ ks) (b ∷ bs) (member l P ns) K S (inr h) = absurd (omega arith)
 
-    pub all_sifted : (ks : List Key) (bs : List State) (under : Vec Key Global) (keys : Rc (Vec Key Global) Global) (kept : Vec State Global) → Sifted ks bs under.items kept.items → (length ks ≡ 0) ⊎ (length bs ≡ 0) → keys.value ≡ under
-        → MakesMembers φ p (keep ask ms) (Ok (record { keys = keys; states = kept }))
-    all_sifted ks bs under keys kept F none same =
+    pub all_sifted : (ks : List Key) (bs : List State) (under : List KeyData) (kept : List State) (g : Gathered) → Sifted ks bs under kept → (length ks ≡ 0) ⊎ (length bs ≡ 0)
+        → g.keys.value ≡ under → g.states.value.items ≡ kept → g.wait ≡ w → MakesMembers φ p (keep ask ms) (Ok g)
+    all_sifted ks bs under kept g F none keys states wait =
         let last = none_next ks bs F.next F.next_keys F.next_stand none in
+        let all : EachStands φ p w g.states.value.items F.done [] = subst (λ (bs : List State). EachStands φ p w bs F.done []) (sym states) F.done_stand in
         makes (F.goes ∙ ap (λ ns. keep ask ns >>= λ ns. answer (followed F.done ns)) last ∙ ap answer (followed_by_none F.done))
-        (gathers_where φ p keys kept (ap (λ (v : Vec Key Global). map key_of v.items) same ∙ F.done_keys) F.done_stand)
+        (gathers (keys ∙ F.done_keys) (subst (λ v. EachStands φ p v g.states.value.items F.done []) (sym wait) all))
+
+-- no key of members has been asked for
+pub start_sifted : (φ : AnswersByName) (p : Plan) (g : Gathered) (ask : Data → Evaluated Data) (ms : Members) (ks : List Key) (bs : List State) (under : List KeyData) (kept : List State) → map key_of ks ≡ g.keys.value
+    → (own : List State) → bs ≡ own → AllFollow φ p g.states.value.items own → under ≡ [] → kept ≡ [] → HasMembers φ p g ms → Sifted φ p g.wait ask ms ks bs under kept
+start_sifted φ p g ask ms ks bs under kept keys own states fs no_key no_state (gathers K S) =
+    none_sifted φ p g.wait ask ms ks bs under kept (keys ∙ K) (subst (λ (bs : List State). EachStands φ p g.wait bs ms []) (sym states) (each_follows φ p fs S)) no_key no_state
 
 -- ## All of a collection
-
-module _ (φ : AnswersByName) (p : Plan) where
-  -- no keys and no states
-  pub none_gathered : (keys : Rc (Vec Key Global) Global) (under : Vec Key Global) (states : Vec State Global) → keys.value ≡ under → under.items ≡ [] → states.items ≡ [] → HasMembers φ p (record { keys = keys; states = states }) no_members
-  none_gathered keys under states is no_key no_state =
-      gathers_where φ p keys states (ap (λ (v : Vec Key Global). map key_of v.items) is ∙ ap (map key_of) no_key) (subst (λ (bs : List State). EachStands φ p bs no_members []) (sym no_state) none_stands)
-
-module _ (φ : AnswersByName) (p : Plan) (w : Evaluated Members) where
-  pub members_collected : (g : Gathered) → MakesMembers φ p w (Ok g) → Makes (λ l ms. Gathers φ p l ms []) w (Ok (LGathered g.keys g.states))
-  members_collected g (makes h G) = makes h G
-
-  pub collecting_fails : (x : Fault) → MakesMembers φ p w (Err x) → Makes (λ l ms. Gathers φ p l ms []) w (Err x)
-  collecting_fails x (makes_fault h) = makes_fault h
-  collecting_fails x makes_nothing = makes_nothing
 
 -- one of two, by a condition
 module _ (φ : AnswersByName) (p : Plan) (w : Evaluated Data) (first second : Evaluated Members) (b : Bool) (r : Result Gathered Fault) where

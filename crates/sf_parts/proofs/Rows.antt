@@ -1,7 +1,11 @@
 -- What the loop that makes a table holds.
-use Rattle.std.proofs.Common.{◌≡◌, List, [], ◌∷◌, ◌++◌, map, refl, ap}
-use Rattle.sf_value.specs.Values.{Data, Rows, no_rows, row}
+use Rattle.std.proofs.Common.{◌≡◌, ℕ, List, [], ◌∷◌, ◌++◌, map, refl, sym, ap, ◌∙◌, subst, append_assoc}
+use Rattle.std.proofs.lemmas.List.{map-append}
+use Rattle.sf_value.specs.Values.{KeyData, Data, Rows, no_rows, row}
+use Rattle.sf_value.specs.Keys.{AreNew, AreDifferentKeys}
+use Rattle.sf_value.specs.Tables.{IsFirstRepeatedKey}
 use Rattle.sf_value.specs.View.{key_of, rows_of}
+use Rattle.sf_state.proofs.Sought.{none_before}
 use Rattle.sf_value.specs.declared.value.Key.{Key}
 use Rattle.sf_parts.specs.Tables.{rows_under}
 
@@ -24,3 +28,25 @@ then_none (f ∷ es) = ap (λ z. row (key_of f.0) f.1 z) (then_none es)
 pub no_values : (ks : List Key) → rows_under (map key_of ks) [] ≡ no_rows
 no_values [] = refl
 no_values (k ∷ ks) = refl
+
+-- ## The keys of rows are different
+
+abbrev pub keys_of_rows : List (Key × Data) → List KeyData
+keys_of_rows es = map (λ (e : Key × Data). key_of e.0) es
+
+-- a row more is a key less of those that are left
+pub key_over : (es fs : List (Key × Data)) (k l : Key) (y : Data) (ks ls : List Key) → fs ≡ es ++ (l, y) ∷ [] → key_of l ≡ key_of k → ls ≡ k ∷ ks → keys_of_rows fs ++ map key_of ks ≡ keys_of_rows es ++ map key_of ls
+key_over es fs k l y ks ls more same left =
+    ap (λ es. keys_of_rows es ++ map key_of ks) more ∙ ap (λ xs. xs ++ map key_of ks) (map-append (λ (e : Key × Data). key_of e.0) es ((l, y) ∷ []))
+    ∙ append_assoc (keys_of_rows es) (key_of l ∷ []) (map key_of ks) ∙ ap (λ x. keys_of_rows es ++ x ∷ map key_of ks) same ∙ sym (ap (λ ls. keys_of_rows es ++ map key_of ls) left)
+
+front_new : (seen xs ys : List KeyData) → AreNew seen (xs ++ ys) → AreNew seen xs
+front_new seen [] ys h = tt
+front_new seen (x ∷ xs) ys h = (h.0, front_new (x ∷ seen) xs ys h.1)
+
+-- the keys of the first rows of a table stand once
+pub no_repeated : (es : List (Key × Data)) (left all : List KeyData) (i : ℕ) → keys_of_rows es ++ left ≡ all → AreDifferentKeys all → IsFirstRepeatedKey es i → ⊥
+no_repeated es left all i e different h =
+    let own : AreDifferentKeys (keys_of_rows es) = front_new [] (keys_of_rows es) left (subst AreDifferentKeys (sym e) different) in
+    let cut : keys_of_rows es ≡ keys_of_rows h.front ++ key_of h.key ∷ keys_of_rows h.more = ap keys_of_rows h.cut ∙ map-append (λ (e : Key × Data). key_of e.0) h.front ((h.key, h.value) ∷ h.more) in
+    none_before (keys_of_rows h.front) (key_of h.key) (keys_of_rows h.more) (subst AreDifferentKeys cut own) h.again

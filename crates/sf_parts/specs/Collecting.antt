@@ -8,14 +8,14 @@ use Rattle.sf_term.specs.Trees.{Term}
 use Rattle.sf_mean.specs.Lives.{Environment, Members, closure, scope_around}
 use Rattle.sf_mean.specs.Collections.{as_key, add, drop}
 use Rattle.sf_law.specs.declared.plan.Plan.{Plan}
-use Rattle.sf_state.specs.declared.state.Live.TheVariants.{Gathered as LGathered}
+use Rattle.sf_state.specs.declared.state.Gathered.{Gathered}
+use Rattle.sf_state.specs.Held.{held_in}
 use Rattle.sf_state.specs.Standing.{Gathers}
-use Rattle.sf_parts.specs.declared.placing.Gathered.{Gathered}
 use Rattle.sf_parts.specs.Beginning.{Makes}
 
 -- states under keys are these members, of which no step has been lived
 abbrev pub HasMembers : AnswersByName → Plan → Gathered → Members → Type 0
-HasMembers φ p g ms = Gathers φ p (LGathered g.keys g.states) ms []
+HasMembers φ p g ms = Gathers φ p (held_in g) ms []
 
 -- states under keys are the members that are made, or the fault is theirs
 abbrev pub MakesMembers : AnswersByName → Plan → Evaluated Members → Result Gathered Fault → Type 0

@@ -375,8 +375,8 @@ fn gathered<R: Holds>(
     ensures { let p = plan_in context.now in (x : Data) (e : Environment) → IsCodedCollection (plan_expressions p) members.now →
         IsNames (R.answers context.now.functions.now) p names.now e → Opens (R.answers context.now.functions.now) p (gathered_term (plan_collection p members.now)) e x result }
 {
-    let live = collect(context, members, names)?;
-    let node = Rc::new(context.alloc, live)?;
+    let all = collect(context, members, names)?;
+    let node = Rc::new(context.alloc, Live::Gathered(all))?;
     Ok(Opened::Live(node))
 }
 
@@ -391,11 +391,12 @@ fn members_under<R: Holds>(
         IsNames (R.answers context.now.functions.now) (plan_in context.now) names.now e → Opens (R.answers context.now.functions.now) (plan_in context.now) t e x result }
 {
     let members = collect(context, &form.members, names)?;
+    let before = members.share()?;
     let around = names.share()?;
     let releasing = Releasing {
         shown: form.shown,
         members,
-        before: Live::vacant(context.alloc),
+        before,
         observer: State::Unborn(Process {
             term: form.observer,
             names: around,

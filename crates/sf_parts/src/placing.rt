@@ -1,146 +1,101 @@
 //! Where members stand among others.
-ghost use Rattle.std.specs.Prelude.{◌≡◌, [], map, ◌++◌, ◌∷◌, OnOk, IfOk};
-ghost use Rattle.sf_value.specs.View.{key_of};
+ghost use Rattle.std.specs.Prelude.{◌≡◌, ◌<◌, [], length, set, Some, IfOk};
+ghost use Rattle.std.specs.List.{remove};
+ghost use Rattle.sf_value.specs.Values.{KeyData};
+ghost use Rattle.sf_value.specs.Keys.{key_of, key_index};
 ghost use Rattle.sf_func.specs.Registries.{AnswersByName};
 ghost use Rattle.sf_law.specs.declared.plan.Plan.{Plan};
-ghost use Rattle.sf_mean.specs.Lives.{Process as ProcessOf, Members, no_members};
+ghost use Rattle.sf_mean.specs.Lives.{Process as ProcessOf, Members};
 ghost use Rattle.sf_mean.specs.Collections.{add, drop as without};
-ghost use Rattle.sf_state.specs.Standing.{Gathers, Stands};
+ghost use Rattle.sf_state.specs.Standing.{Stands};
 ghost use Rattle.sf_parts.specs.Collecting.{HasMembers};
-ghost use Rattle.sf_parts.specs.Tables.{place_of_key};
 
-use sf_state::{Live, State};
-use sf_value::{Key, same_key};
+use sf_state::{Gathered, Keys, State, own_states};
+use sf_value::Key;
 use std::alloc::{AllocError, Global};
 use std::rc::Rc;
 
-/// States under keys, in order: each stands under the key at its place.
-#[derive(Drop)]
-pub(crate) struct Gathered {
-    /// The keys, which may be shared.
-    pub keys: Rc<Vec<Key>>,
-    /// The states.
-    pub states: Vec<State>,
-}
-
-/// No members.
-pub(crate) fn no_state(alloc: Global) -> Result<Gathered, AllocError>
-    ensures { IfOk result (λ none. (φ : AnswersByName) (p : Plan) → HasMembers φ p none no_members) }
-{
-    let keys = Rc::new(alloc, Vec::new(alloc))?;
-    Ok(Gathered {
-        keys,
-        states: Vec::new(alloc),
-    })
-}
-
-/// One more member before its first sample: at the end, or in the place of the one under its key.
-pub(crate) fn add_member(
+/// Members before their first sample with one more: at the end, or in the place of the one under its key.
+pub(crate) fn with_member(
     alloc: Global,
-    members: &mut Gathered,
+    members: Gathered,
     key: Key,
     state: State,
-) -> Result<(), AllocError>
-    ensures { OnOk result ((φ : AnswersByName) (p : Plan) (ms : Members) (P : ProcessOf) → HasMembers φ p members.old ms → Stands φ p state P [] → HasMembers φ p members.new (add (key_of key) P ms)) }
+) -> Result<Gathered, AllocError>
+    ensures { IfOk result (λ more. (φ : AnswersByName) (p : Plan) (ms : Members) (P : ProcessOf) → HasMembers φ p members ms → Stands φ p state P [] → HasMembers φ p more (add (key_of key) P ms)) }
 {
-    add_to(alloc, &mut members.keys, &mut members.states, key, state)
-}
-
-// The same of states under their keys.
-fn add_to(
-    alloc: Global,
-    keys: &mut Rc<Vec<Key>>,
-    states: &mut Vec<State>,
-    key: Key,
-    state: State,
-) -> Result<(), AllocError>
-    ensures { OnOk result ((φ : AnswersByName) (p : Plan) (ms : Members) (P : ProcessOf) → Gathers φ p (Live.Gathered keys.old states.old) ms [] → Stands φ p state P [] → Gathers φ p (Live.Gathered keys.new states.new) (add (key_of key) P ms) []) }
-{
-    match place_of(&***keys, &key) {
+    let Gathered { keys, states, wait } = members;
+    let mut own = own_states(alloc, states)?;
+    match keys.place(&key) {
         Some(at) => {
-            if at < states.len() {
-                states[at] = state;
-            }
-            Ok(())
+            put_state(&mut own, at, state);
+            let states = Rc::new(alloc, own)?;
+            Ok(Gathered { keys, states, wait })
         }
         None => {
-            put_key_last(alloc, keys, key)?;
-            states.push(state)?;
-            Ok(())
+            let mut more = own_keys(alloc, keys)?;
+            more.push(key)?;
+            own.push(state)?;
+            let keys = Rc::new(alloc, more)?;
+            let states = Rc::new(alloc, own)?;
+            Ok(Gathered { keys, states, wait })
         }
     }
 }
 
 /// Members before their first sample without the one under a key, if there is one.
-pub(crate) fn drop_member(
+pub(crate) fn without_member(
     alloc: Global,
-    members: &mut Gathered,
+    members: Gathered,
     key: &Key,
-) -> Result<(), AllocError>
-    ensures { OnOk result ((φ : AnswersByName) (p : Plan) (ms : Members) → HasMembers φ p members.old ms → HasMembers φ p members.new (without (key_of key.now) ms)) }
+) -> Result<Gathered, AllocError>
+    ensures { IfOk result (λ left. (φ : AnswersByName) (p : Plan) (ms : Members) → HasMembers φ p members ms → HasMembers φ p left (without (key_of key.now) ms)) }
 {
-    drop_from(alloc, &mut members.keys, &mut members.states, key)
+    match members.keys.place(key) {
+        Some(at) => without_place(alloc, members, at),
+        None => Ok(members),
+    }
 }
 
-// The same of states under their keys.
-fn drop_from(
-    alloc: Global,
-    keys: &mut Rc<Vec<Key>>,
-    states: &mut Vec<State>,
-    key: &Key,
-) -> Result<(), AllocError>
-    ensures { OnOk result ((φ : AnswersByName) (p : Plan) (ms : Members) → Gathers φ p (Live.Gathered keys.old states.old) ms [] → Gathers φ p (Live.Gathered keys.new states.new) (without (key_of key.now) ms) []) }
+// Members without the one at a place.
+fn without_place(alloc: Global, members: Gathered, at: usize) -> Result<Gathered, AllocError>
+    requires { at < length members.keys.value }
+    ensures { IfOk result (λ left. (φ : AnswersByName) (p : Plan) (k : KeyData) (ms : Members) → key_index k members.keys.value ≡ Some at → HasMembers φ p members ms → HasMembers φ p left (without k ms)) }
 {
-    let Some(at) = place_of(&***keys, key) else {
-        return Ok(());
-    };
-    let mut under = copied(alloc, &***keys)?;
-    if at >= under.len() {
-        return Ok(());
-    }
-    if at >= states.len() {
-        return Ok(());
-    }
-    under.remove(at);
-    states.remove(at);
-    *keys = Rc::new(alloc, under)?;
-    Ok(())
+    let Gathered { keys, states, wait } = members;
+    let mut less = own_keys(alloc, keys)?;
+    let mut own = own_states(alloc, states)?;
+    less.remove(at);
+    take_state(&mut own, at);
+    let keys = Rc::new(alloc, less)?;
+    let states = Rc::new(alloc, own)?;
+    Ok(Gathered { keys, states, wait })
 }
 
-// One key more, at the end: in the keys' own vector, where nothing else has it.
-fn put_key_last(alloc: Global, keys: &mut Rc<Vec<Key>>, last: Key) -> Result<(), AllocError>
-    ensures { OnOk result (map key_of keys.new.value.items ≡ map key_of keys.old.value.items ++ key_of last ∷ []) }
+// Puts a state in the place of another, if one is there.
+fn put_state(states: &mut Vec<State>, at: usize, state: State)
+    ensures { at < length states.old.items → states.new.items ≡ set states.old.items at state }
 {
-    if let Some(own) = Rc::get_mut(keys) {
-        own.push(last)?;
-        return Ok(());
+    if at < states.len() {
+        states[at] = state;
     }
-    let mut all = copied(alloc, &***keys)?;
-    all.push(last)?;
-    *keys = Rc::new(alloc, all)?;
-    Ok(())
 }
 
-// The same keys.
-fn copied(alloc: Global, keys: &[Key]) -> Result<Vec<Key>, AllocError>
-    ensures { IfOk result (λ ks. map key_of ks.items ≡ map key_of keys.now) }
+// Takes the state at a place out, if one is there.
+fn take_state(states: &mut Vec<State>, at: usize)
+    ensures { at < length states.old.items → states.new.items ≡ remove states.old.items at }
 {
-    let mut all = Vec::with_capacity(alloc, keys.len())?;
-    for key in keys {
-        let own = key.clone_in(alloc)?;
-        all.push(own)?;
+    if at < states.len() {
+        states.remove(at);
     }
-    Ok(all)
 }
 
-// The first place of a key.
-fn place_of(keys: &[Key], key: &Key) -> Option<usize>
-    ensures { result ≡ place_of_key (key_of key.now) (map key_of keys.now) }
+// Keys as their owner's alone: where they were shared, a copy.
+fn own_keys(alloc: Global, keys: Rc<Keys>) -> Result<Keys, AllocError>
+    ensures { IfOk result (λ own. own ≡ keys.value) }
 {
-    for at in 0..keys.len() {
-        if same_key(&keys[at], key) {
-            return Some(at);
-        }
+    match Rc::try_unwrap(keys) {
+        Ok(own) => Ok(own),
+        Err(shared) => shared.clone_in(alloc),
     }
-    None
 }

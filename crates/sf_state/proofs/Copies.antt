@@ -1,5 +1,6 @@
 -- A copy of a node stands for the same.
-use Rattle.std.proofs.Common.{◌≡◌, ℕ, suc, ◌+◌, ◌<◌, Bool, true, false, List, [], ◌∷◌, ◌++◌, length, get_or, set, take, String, string_bytes, Vec, Option, Some, None, Result, Ok, Err, IfOk, refl, subst, sym, ◌∙◌, ap, map, arith}
+use Rattle.std.proofs.Common.{◌≡◌, ℕ, suc, ◌+◌, ◌<◌, Bool, true, false, List, [], ◌∷◌, ◌++◌, length, get_or, set, take, String, string_bytes, Vec, Option, Some, None, Result, Ok, Err, IfOk, refl, subst, sym, ◌∙◌, ap, arith}
+use Rattle.std.specs.Option.{unwrap_or}
 use Rattle.std.proofs.Math.Seq.{take-suc}
 use Rattle.std.proofs.lemmas.List.{take_more_set}
 use Rattle.std.specs.declared.alloc.Global.{Global}
@@ -15,9 +16,7 @@ use Rattle.sf_expr.specs.Patterns.{pattern_of}
 use Rattle.sf_expr.specs.Arena.{placed_at, name_at}
 use Rattle.sf_term.specs.Trees.{whole, rest, Term, Primitive, primitive, probe, staged, gathered, editing, Collection}
 use Rattle.sf_expr.specs.Evaluation.{Scope, answer}
-use Rattle.sf_value.specs.declared.value.Key.{Key}
-use Rattle.sf_value.specs.View.{key_of}
-use Rattle.sf_value.specs.Values.{Name, Data}
+use Rattle.sf_value.specs.Values.{KeyData, Name, Data}
 use Rattle.sf_mean.specs.Lives.{Step, Life, Process, closure, resumed, Environment, after, frozen, Members, no_members, member, each_frozen}
 use Rattle.sf_mean.specs.Meaning.{Network, Made, members_made, Tables, edit_of, which_run, Outputs, Watched, Takeover, fired, stands_after, Since, watched as was_watched, had_fired}
 use Rattle.sf_prim.specs.declared.prim_state.PrimState.{PrimState}
@@ -25,7 +24,8 @@ use Rattle.sf_prim.specs.Keeping.{Remembers}
 use Rattle.sf_state.specs.declared.state.State.{State}
 use Rattle.sf_state.specs.declared.state.State.TheVariants.{Unborn, Primitive as SPrimitive, Live' as Alive', Switch' as Watching', Keeping', Gathering', Frozen'}
 use Rattle.sf_state.specs.declared.state.Live.{Live}
-use Rattle.sf_state.specs.declared.state.Live.{items_hidden-the_row-State-1}
+use Rattle.sf_state.specs.declared.state.Live.{items_hidden-the_row-State-0 as states_are}
+use Rattle.sf_state.specs.declared.state.Gathered.{Gathered}
 use Rattle.sf_state.specs.declared.state.Live.TheVariants.{Probe as LProbe, Join as LJoin, Pipeline as LPipeline, Wrap as LWrap, Gathered as LGathered}
 use Rattle.sf_state.specs.declared.state.Wrap.{Wrap}
 use Rattle.sf_state.specs.declared.state.Process.{Process as SProcess}
@@ -39,7 +39,8 @@ use Rattle.sf_state.specs.declared.state.Frozen.{Frozen}
 use Rattle.sf_state.specs.declared.state.Kept.{Kept}
 use Rattle.sf_state.specs.declared.state.Kept.TheVariants.{Primitive as KPrimitive, Live' as KLive', Switch' as KSwitch', Keeping' as KKeeping', Gathering' as KGathering'}
 use Rattle.sf_state.specs.declared.env.Env.{Env}
-use Rattle.sf_state.specs.Standing.{Wraps, kept_state, Turned, fired_to, kept_to, released_to, ran, went_on, was_alike, Stands, itself, took_over, StandsItself, unborn, recalling, recalls, alive, watching, keeping_on, gathering_on, was_frozen, Waits, waits_so, recurs_so, WaitsKeeping, keeps_so, WaitsGathered, releases_so, edits_so, Settles, settles, Ready, ready, Lives, lives_probe, lives_join, lives_pipeline, lives_wrap, lives_gathered, keys_in, Gathers, gathers, EachStands, none_stands, one_stands, StagesStand, last_stands, stage_stands, IsProcess, is_closure, IsNames, AllFollow, none_follow, more_follow, AllFreeze, none_freeze, more_freeze}
+use Rattle.sf_state.specs.Held.{Holding, held_as, held_in}
+use Rattle.sf_state.specs.Standing.{Wraps, kept_state, Turned, fired_to, kept_to, released_to, ran, went_on, was_alike, Stands, itself, took_over, StandsItself, unborn, recalling, recalls, alive, watching, keeping_on, gathering_on, was_frozen, Waits, waits_so, recurs_so, WaitsKeeping, keeps_so, WaitsGathered, releases_so, edits_so, Settles, settles, Ready, ready, Lives, lives_probe, lives_join, lives_pipeline, lives_wrap, lives_gathered, keys_in, Gathers, gathers, EachStands, none_stands, one_stands, StandsAmong, as_it_stands, as_it_stood, StagesStand, last_stands, stage_stands, IsProcess, is_closure, IsNames, AllFollow, none_follow, more_follow}
 
 -- whether a life has a step
 abbrev pub has_step : Life → Bool
@@ -148,22 +149,32 @@ module _ (φ : AnswersByName) (p : Plan) where
       step P L (gathering_on N W) = gathering_on (n _ N) (f _ _ W)
 
   -- the same members in other nodes
-  abbrev pub MembersFollow : Live → Live → Type 0
-  MembersFollow l m = (ms : Members) (L : Life) → Gathers φ p l ms L → Gathers φ p m ms L
+  abbrev pub MembersFollow : Holding → Holding → Type 0
+  MembersFollow g h = (ms : Members) (L : Life) → Gathers φ p g ms L → Gathers φ p h ms L
 
-  pub releasing_follows : (s : Releasing) (l x : Live) (o : State) → MembersFollow s.members l → Follows s.observer o
+  -- the states of a node's members, as they are matched and as a list
+  pub held_shown : (g : Gathered) {bs : List State} → bs ≡ g.states.value.items → {ms : Members} {L : Life} → Gathers φ p (held_as g.keys bs g.wait) ms L → Gathers φ p (held_in g) ms L
+  held_shown g e {ms} {L} G = subst (λ (bs : List State). Gathers φ p (held_as g.keys bs g.wait) ms L) e G
+
+  pub held_hidden : (g : Gathered) {bs : List State} → bs ≡ g.states.value.items → {ms : Members} {L : Life} → Gathers φ p (held_in g) ms L → Gathers φ p (held_as g.keys bs g.wait) ms L
+  held_hidden g e {ms} {L} G = subst (λ (bs : List State). Gathers φ p (held_as g.keys bs g.wait) ms L) (sym e) G
+
+  pub releasing_follows : (s : Releasing) (l x : Gathered) (o : State) → MembersFollow (held_in s.members) (held_in l) → Follows s.observer o
       → GatheringFollows (GReleasing s) (GReleasing (record { shown = s.shown; members = l; before = x; observer = o; name = s.name; pattern = s.pattern; body = s.body }))
-  releasing_follows s l x o f g P L (releases_so h S Z Y G A) = releases_so h S Z Y (f _ _ G) (g _ _ A)
+  releasing_follows s l x o f g P L (releases_so h S Z Y G A) =
+      releases_so h S Z Y (held_hidden l (states_are l.states.value) (f _ _ (held_shown s.members (states_are s.members.states.value) G))) (g _ _ A)
 
   -- the edit may stand under another pointer
-  pub editing_follows : (s : Editing) (l : Live) (c : Rc PlanCollection Global) → c.value ≡ s.edit.value → MembersFollow s.members l → GatheringFollows (GEditing s) (GEditing (record { shown = s.shown; members = l; name = s.name; pattern = s.pattern; edit = c }))
+  pub editing_follows : (s : Editing) (l : Gathered) (c : Rc PlanCollection Global) → c.value ≡ s.edit.value → MembersFollow (held_in s.members) (held_in l)
+      → GatheringFollows (GEditing s) (GEditing (record { shown = s.shown; members = l; name = s.name; pattern = s.pattern; edit = c }))
   editing_follows s l c same f P L (edits_so {i = i} {e = e} {ms = ms} {qs = qs} {L = K} {zs = zs} C h R Z Y G) =
       let k : Name = name_at (plan_expressions p) s.name in
       let q : Pattern = pattern_of (placed_at (plan_expressions p) s.pattern) in
       let edited : PlanCollection → Process = λ v. closure (editing s.shown i k q (plan_collection p v)) e in
       let waits : PlanCollection → Type 0 = λ v. IsCodedCollection (plan_expressions p) v → which_run (edit_of φ k q (plan_collection p v) e) ms K ≡ answer qs → Outputs (network_of_plan φ p) (edited v) K zs
       → WaitsGathered φ p (GEditing (record { shown = s.shown; members = l; name = s.name; pattern = s.pattern; edit = c })) (edited v) K in
-      subst waits same (λ C R Z. edits_so C h R Z Y (f _ _ G)) C R Z
+      let H = held_hidden l (states_are l.states.value) (f _ _ (held_shown s.members (states_are s.members.states.value) G)) in
+      subst waits same (λ C R Z. edits_so C h R Z Y H) C R Z
 
   -- the same frozen part under another pointer
   pub frozen_follows : {at at' : _} (f g : Frozen) → g ≡ f → Follows (Frozen' at f.wait f.names f.node) (Frozen' at' g.wait g.names g.node)
@@ -200,7 +211,7 @@ module _ (φ : AnswersByName) (p : Plan) where
 
   -- a pipeline lives where its stages stand
   pub pipeline_lives : (v : Vec State Global) {f g : Term} {e : Environment} {m : Made} {L : Life} → StagesStand φ p v.items (staged rest f g) e L → Lives φ p (LPipeline v) (staged whole f g) e m L
-  pipeline_lives v {f = f} {g = g} {e = e} {L = L} S = lives_pipeline (subst (λ (bs : List State). StagesStand φ p bs (staged rest f g) e L) (sym (items_hidden-the_row-State-1 v)) S)
+  pipeline_lives v {f = f} {g = g} {e = e} {L = L} S = lives_pipeline (subst (λ (bs : List State). StagesStand φ p bs (staged rest f g) e L) (sym (states_are v)) S)
 
   stages_follow : {bs cs : List State} {u : Term} {e : Environment} {L : Life} → AllFollow φ p bs cs → StagesStand φ p bs u e L → StagesStand φ p cs u e L
   stages_follow none_follow S = elim S [ ]
@@ -209,58 +220,67 @@ module _ (φ : AnswersByName) (p : Plan) where
 
   pub pipeline_follows : (v w : Vec State Global) → AllFollow φ p v.items w.items → NodeFollows (LPipeline v) (LPipeline w)
   pipeline_follows v w fs P x L (ready h O (lives_pipeline {f = f} {g = g} {e = e} {L = K} S)) =
-      ready h O (pipeline_lives w (stages_follow fs (subst (λ (bs : List State). StagesStand φ p bs (staged rest f g) e K) (items_hidden-the_row-State-1 v) S)))
+      ready h O (pipeline_lives w (stages_follow fs (subst (λ (bs : List State). StagesStand φ p bs (staged rest f g) e K) (states_are v) S)))
 
   -- ## Members
 
-  each_follows : {bs cs : List State} {ms : Members} {L : Life} → AllFollow φ p bs cs → EachStands φ p bs ms L → EachStands φ p cs ms L
+  among_follows : {w : Option ℕ} {a b : State} {P : Process} {L : Life} → Follows a b → StandsAmong φ p w a P L → StandsAmong φ p w b P L
+  among_follows f (as_it_stands A) = as_it_stands (f _ _ A)
+  among_follows f (as_it_stood A e) = as_it_stood (f _ _ A) e
+
+  pub each_follows : {w : Option ℕ} {bs cs : List State} {ms : Members} {L : Life} → AllFollow φ p bs cs → EachStands φ p w bs ms L → EachStands φ p w cs ms L
   each_follows none_follow none_stands = none_stands
-  each_follows (more_follow f fs) (one_stands A S) = one_stands (f _ _ A) (each_follows fs S)
-
-  -- states under keys have the members where each stands for its own
-  pub gathers_where : (keys : Rc (Vec Key Global) Global) (v : Vec State Global) {ms : Members} {L : Life} → map key_of keys.value.items ≡ keys_in ms → EachStands φ p v.items ms L → Gathers φ p (LGathered keys v) ms L
-  gathers_where keys v {ms} {L} K S = gathers K (subst (λ (bs : List State). EachStands φ p bs ms L) (sym (items_hidden-the_row-State-1 v)) S)
-
-  pub each_where : (keys : Rc (Vec Key Global) Global) (v : Vec State Global) {ms : Members} {L : Life} → Gathers φ p (LGathered keys v) ms L → (map key_of keys.value.items ≡ keys_in ms) × EachStands φ p v.items ms L
-  each_where keys v {ms} {L} (gathers K S) = (K, subst (λ (bs : List State). EachStands φ p bs ms L) (items_hidden-the_row-State-1 v) S)
+  each_follows (more_follow f fs) (one_stands A S) = one_stands (among_follows f A) (each_follows fs S)
 
   -- members of which each follows have the same keys
-  pub members_follow : (keys under : Rc (Vec Key Global) Global) (v w : Vec State Global) → under.value ≡ keys.value → AllFollow φ p v.items w.items → MembersFollow (LGathered keys v) (LGathered under w)
-  members_follow keys under v w same fs ms L G =
-      let E = each_where keys v G in
-      gathers_where under w (ap (λ (l : Vec Key Global). map key_of l.items) same ∙ E.0) (each_follows fs E.1)
+  pub held_follow : (g h : Gathered) → h.keys.value ≡ g.keys.value → AllFollow φ p g.states.value.items h.states.value.items → h.wait ≡ g.wait → MembersFollow (held_in g) (held_in h)
+  held_follow g h same fs wait ms L (gathers K S) = gathers (same ∙ K) (subst (λ w. EachStands φ p w h.states.value.items ms L) (sym wait) (each_follows fs S))
+
+  -- members that are held as others are these
+  pub same_held : (g h : Holding) → h ≡ g → MembersFollow g h
+  same_held g h e ms L G = subst (λ (h : Holding). Gathers φ p h ms L) (sym e) G
+
+  -- no keys and no states
+  pub none_held : (g : Gathered) {L : Life} → g.keys.value ≡ [] → g.states.value.items ≡ [] → Gathers φ p (held_in g) no_members L
+  none_held g {L} no_key no_state = gathers no_key (subst (λ (bs : List State). EachStands φ p g.wait bs no_members L) (sym no_state) none_stands)
 
   -- a node with the same members is the same part
-  members_live : {m : Live} {i : Collection} {e : Environment} {ms : Members} {L : Life} {ys : List Data} → Tables (network_of_plan φ p) ms L ys → Gathers φ p m ms L → Lives φ p m (gathered i) e (members_made ms) L
-  members_live Y (gathers K S) = lives_gathered Y (gathers K S)
+  pub members_live : (g : Gathered) {i : Collection} {e : Environment} {ms : Members} {L : Life} {ys : List Data} → Tables (network_of_plan φ p) ms L ys → Gathers φ p (held_in g) ms L → Lives φ p (LGathered g) (gathered i) e (members_made ms) L
+  members_live g Y G = lives_gathered Y (held_hidden g (states_are g.states.value) G)
 
-  pub gathered_follows : (keys : Rc (Vec Key Global) Global) (v : Vec State Global) (m : Live) → MembersFollow (LGathered keys v) m → NodeFollows (LGathered keys v) m
-  gathered_follows keys v m f P x L (ready h O (lives_gathered Y G)) = ready h O (members_live Y (f _ _ G))
+  pub gathered_follows : (g h : Gathered) → MembersFollow (held_in g) (held_in h) → NodeFollows (LGathered g) (LGathered h)
+  gathered_follows g h f P x L (ready m O (lives_gathered Y G)) = ready m O (members_live h Y (f _ _ (held_shown g (states_are g.states.value) G)))
 
   frozen_keys : (ms : Members) (L : Life) (d : ℕ) → keys_in (each_frozen ms L d) ≡ keys_in ms
   frozen_keys no_members L d = refl
   frozen_keys (member k P ms) L d = ap (λ ks. k ∷ ks) (frozen_keys ms L d)
 
-  each_freezes : {d : ℕ} {bs cs : List State} {ms : Members} {L : Life} → AllFreeze φ p d bs cs → EachStands φ p bs ms L → EachStands φ p cs (each_frozen ms L d) []
-  each_freezes none_freeze none_stands = none_stands
-  each_freezes (more_freeze f fs) (one_stands A S) = one_stands (f _ _ A) (each_freezes fs S)
+  -- one that goes on waits from here on, and one that waits goes on waiting
+  among_freezes : {a : State} {P : Process} {L : Life} (d : ℕ) → StandsAmong φ p None a P L → StandsAmong φ p (Some d) a (frozen P L d) []
+  among_freezes d (as_it_stands A) = as_it_stood A refl
 
-  pub members_freeze : (d : ℕ) (keys under : Rc (Vec Key Global) Global) (v w : Vec State Global) → under.value ≡ keys.value → AllFreeze φ p d v.items w.items → (ms : Members) (L : Life) → Gathers φ p (LGathered keys v) ms L → Gathers φ p (LGathered under w) (each_frozen ms L d) []
-  members_freeze d keys under v w same fs ms L G =
-      let E = each_where keys v G in
-      gathers_where under w (ap (λ (l : Vec Key Global). map key_of l.items) same ∙ E.0 ∙ sym (frozen_keys ms L d)) (each_freezes fs E.1)
+  among_stays : {c : ℕ} {a : State} {P : Process} {L : Life} (d : ℕ) → StandsAmong φ p (Some c) a P L → StandsAmong φ p (Some c) a (frozen P L d) []
+  among_stays d (as_it_stood A e) = as_it_stood A e
 
-  freeze_push : {d : ℕ} {bs cs : List State} (a b : State) → AllFreeze φ p d bs cs → ((P : Process) (L : Life) → Stands φ p a P L → Stands φ p b (frozen P L d) []) → AllFreeze φ p d (bs ++ a ∷ []) (cs ++ b ∷ [])
-  freeze_push a b none_freeze f = more_freeze f none_freeze
-  freeze_push a b (more_freeze g fs) f = more_freeze g (freeze_push a b fs f)
+  each_freezes : (w : Option ℕ) (d : ℕ) {bs : List State} {ms : Members} {L : Life} → EachStands φ p w bs ms L → EachStands φ p (Some (unwrap_or w d)) bs (each_frozen ms L d) []
+  each_freezes w d none_stands = none_stands
+  each_freezes None d (one_stands A S) = one_stands (among_freezes d A) (each_freezes None d S)
+  each_freezes (Some c) d (one_stands A S) = one_stands (among_stays d A) (each_freezes (Some c) d S)
 
-  -- one more state is frozen
-  pub freeze_next : (d : ℕ) (bs cs ds : List State) (i : ℕ) (a b : State) → AllFreeze φ p d (take i bs) cs → i < length bs → a ≡ get_or bs i a → ((P : Process) (L : Life) → Stands φ p a P L → Stands φ p b (frozen P L d) []) → ds ≡ cs ++ b ∷ [] → AllFreeze φ p d (take (i + 1) bs) ds
-  freeze_next d bs cs ds i a b fs h e f ed =
-      let n : take (i + 1) bs ≡ take i bs ++ a ∷ [] = let more : i + 1 ≡ suc i = omega arith in ap (λ k. take k bs) more ∙ take-suc bs i a h ∙ ap (λ x. take i bs ++ x ∷ []) (sym e) in
-      rw (n, ed) (freeze_push a b fs f)
+  pub held_freeze : (d : ℕ) (g h : Gathered) → h.keys.value ≡ g.keys.value → h.states.value ≡ g.states.value → h.wait ≡ Some (unwrap_or g.wait d) → (ms : Members) (L : Life) → Gathers φ p (held_in g) ms L → Gathers φ p (held_in h) (each_frozen ms L d) []
+  held_freeze d g h same list wait ms L (gathers K S) =
+      let all : EachStands φ p (Some (unwrap_or g.wait d)) h.states.value.items (each_frozen ms L d) [] = subst (λ (v : Vec State Global). EachStands φ p (Some (unwrap_or g.wait d)) v.items (each_frozen ms L d) []) (sym list) (each_freezes g.wait d S) in
+      gathers (same ∙ K ∙ sym (frozen_keys ms L d)) (subst (λ w. EachStands φ p w h.states.value.items (each_frozen ms L d) []) (sym wait) all)
 
   -- ## States one after another
+
+  all_themselves : (bs : List State) → AllFollow φ p bs bs
+  all_themselves [] = none_follow
+  all_themselves (b ∷ bs) = more_follow (λ P L A. A) (all_themselves bs)
+
+  -- the same list
+  pub list_follows : (v w : Vec State Global) → w ≡ v → AllFollow φ p v.items w.items
+  list_follows v w e = subst (λ (w : Vec State Global). AllFollow φ p v.items w.items) (sym e) (all_themselves v.items)
 
   follow_push : {bs cs : List State} (a b : State) → AllFollow φ p bs cs → Follows a b → AllFollow φ p (bs ++ a ∷ []) (cs ++ b ∷ [])
   follow_push a b none_follow f = more_follow f none_follow
@@ -375,3 +395,9 @@ lived_frozen a b d (Err e) l f g = tt
 pub fresh_frozen : {E : Type 0} (a : State) (d : ℕ) (r : Result State E) → ((φ : AnswersByName) (p : Plan) → IsFresh φ p a) → IfOk r (λ c. (φ : AnswersByName) (p : Plan) → Follows φ p a c) → IfOk r (λ c. (φ : AnswersByName) (p : Plan) → Freezes φ p a c d)
 fresh_frozen a d (Ok c) l f = λ φ p. same_freezes φ p a c (l φ p) (f φ p) d
 fresh_frozen a d (Err e) l f = tt
+
+-- members that share all are held the same
+pub held_same : (g h : Gathered) → h.keys.value ≡ g.keys.value → h.states.value ≡ g.states.value → h.wait ≡ g.wait → held_in h ≡ held_in g
+held_same g h keys list wait =
+    let holding : List KeyData → List State → Option ℕ → Holding = λ ks bs w. record { keys = ks; states = bs; wait = w } in
+    ap (λ ks. holding ks h.states.value.items h.wait) keys ∙ ap (λ (v : Vec State Global). holding g.keys.value v.items h.wait) list ∙ ap (λ w. holding g.keys.value g.states.value.items w) wait

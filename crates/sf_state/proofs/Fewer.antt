@@ -20,8 +20,12 @@ use Rattle.sf_state.specs.declared.env.Env.{Env}
 use Rattle.sf_state.specs.declared.env.Binding.{Binding}
 use Rattle.sf_state.specs.declared.env.Running.{Running}
 use Rattle.sf_state.specs.declared.env.Collected.{Collected}
-use Rattle.sf_state.specs.declared.env.Env.TheVariants.{Empty as SEmpty, Bound', Running', Collected'}
-use Rattle.sf_state.specs.Standing.{closed_over, HasMentioned, has_mentioned, IsNames, is_empty, is_bound, is_running, is_collected, Gathers, IsHanded, IsProcess, is_closure}
+use Rattle.std.specs.declared.alloc.Global.{Global}
+use Rattle.std.specs.declared.rc.Rc.{Rc}
+use Rattle.sf_state.specs.declared.env.Env.TheVariants.{Empty as SEmpty, Bound', Running', Collected as ECollected}
+use Rattle.sf_state.specs.Held.{held_in}
+use Rattle.sf_state.proofs.Scopes.{collected_is, collected_holds}
+use Rattle.sf_state.specs.Standing.{closed_over, HasMentioned, has_mentioned, IsNames, is_empty, is_bound, is_running, Gathers, IsHanded, IsProcess, is_closure}
 
 -- a name that a pattern doesn't bind stands for alike inside it and around it
 outside : {x : Name} {d e : Environment} (q : Pattern) (v : Data) → BindsOthers q x → AlikeAt x d e → AlikeAt x d (bind q v e)
@@ -64,11 +68,6 @@ module _ (φ : AnswersByName) (p : Plan) where
       → (e : Environment) → IsNames φ p (Running' at r.name r.handed.process r.handed.base.term r.handed.base.names r.around) e → C e
   inside_process r C h e (is_running {P = P} {e = around} A B N) = h around P (A, B) N
 
-  -- and inside members under theirs
-  pub inside_members : {at : _} (c : Collected) (C : Environment → Type 0) → ((e : Environment) (ms : Members) → Gathers φ p c.members ms [] → IsNames φ p c.around e → C (collected (name_at (plan_expressions p) c.name) ms e))
-      → (e : Environment) → IsNames φ p (Collected' at c.name c.members c.around) e → C e
-  inside_members c C h e (is_collected {ms = ms} {e = around} G N) = h around ms G N
-
   -- a pattern over fewer names
   pub over_fewer : {at : _} {m l : Mentioned} {e : Environment} (b : Binding) → ((x : Name) → IsTrue (is_mentioned m x) → BindsOthers (pattern_of (placed_at (plan_expressions p) b.pattern)) x → IsTrue (is_mentioned l x))
       → HasMentioned φ p l b.around e → HasMentioned φ p m (Bound' at b.pattern b.value b.around) (bind (pattern_of (placed_at (plan_expressions p) b.pattern)) b.value.value e)
@@ -83,11 +82,11 @@ module _ (φ : AnswersByName) (p : Plan) where
       has_mentioned (is_running H.0 H.1 N) (λ x w. at_running k (alike_itself P) (λ free. A x (h x w (others (named k) x free))))
 
   -- members over fewer names
-  pub members_over_fewer : {at : _} {m l : Mentioned} {e : Environment} {ms : Members} (c : Collected) → ((x : Name) → IsTrue (is_mentioned m x) → BindsOthers (named (name_at (plan_expressions p) c.name)) x → IsTrue (is_mentioned l x))
-      → Gathers φ p c.members ms [] → HasMentioned φ p l c.around e → HasMentioned φ p m (Collected' at c.name c.members c.around) (collected (name_at (plan_expressions p) c.name) ms e)
-  members_over_fewer {ms = ms} c h G (has_mentioned N A) =
-      let k = name_at (plan_expressions p) c.name in
-      has_mentioned (is_collected G N) (λ x w. at_collected k (members_themselves ms) (λ free. A x (h x w (others (named k) x free))))
+  pub members_over_fewer : {m l : Mentioned} {e : Environment} {ms : Members} (r : Rc Collected Global) → ((x : Name) → IsTrue (is_mentioned m x) → BindsOthers (named (name_at (plan_expressions p) r.value.name)) x → IsTrue (is_mentioned l x))
+      → Gathers φ p (held_in r.value.members) ms [] → HasMentioned φ p l r.value.around e → HasMentioned φ p m (ECollected r) (collected (name_at (plan_expressions p) r.value.name) ms e)
+  members_over_fewer {ms = ms} r h G (has_mentioned N A) =
+      let k = name_at (plan_expressions p) r.value.name in
+      has_mentioned (collected_is φ p r G N) (λ x w. at_collected k (members_themselves ms) (λ free. A x (h x w (others (named k) x free))))
 
   -- a binding that was made over fewer names
   pub over_made : {at : _} {m l : Mentioned} {e : Environment} (b c : Binding) → c ≡ b → (d : Data) → b.value.value ≡ d
@@ -106,11 +105,13 @@ module _ (φ : AnswersByName) (p : Plan) where
       subst (λ (c : Running). HasMentioned φ p m (Running' at c.name c.handed.process c.handed.base.term c.handed.base.names c.around) (running (name_at (plan_expressions p) r.name) P e)) (sym same) (process_over_fewer r h H K)
 
   -- and of members under theirs
-  pub members_made : {at : _} {m l : Mentioned} {e : Environment} {ms : Members} (b c : Collected) → c ≡ b
-      → ((x : Name) → IsTrue (is_mentioned m x) → BindsOthers (named (name_at (plan_expressions p) b.name)) x → IsTrue (is_mentioned l x)) → Gathers φ p b.members ms [] → HasMentioned φ p l b.around e
-      → HasMentioned φ p m (Collected' at c.name c.members c.around) (collected (name_at (plan_expressions p) b.name) ms e)
-  members_made {at} {m} {e = e} {ms = ms} b c same h G K =
-      subst (λ (c : Collected). HasMentioned φ p m (Collected' at c.name c.members c.around) (collected (name_at (plan_expressions p) b.name) ms e)) (sym same) (members_over_fewer b h G K)
+  pub members_made : {m l : Mentioned} {e : Environment} {ms : Members} (b : Collected) (r : Rc Collected Global) → r.value ≡ b
+      → ((x : Name) → IsTrue (is_mentioned m x) → BindsOthers (named (name_at (plan_expressions p) b.name)) x → IsTrue (is_mentioned l x)) → Gathers φ p (held_in b.members) ms [] → HasMentioned φ p l b.around e
+      → HasMentioned φ p m (ECollected r) (collected (name_at (plan_expressions p) b.name) ms e)
+  members_made {m} {l} {e} {ms} b r same =
+      let C : Collected → Type 0 = λ c. ((x : Name) → IsTrue (is_mentioned m x) → BindsOthers (named (name_at (plan_expressions p) c.name)) x → IsTrue (is_mentioned l x)) → Gathers φ p (held_in c.members) ms [] → HasMentioned φ p l c.around e
+      → HasMentioned φ p m (ECollected r) (collected (name_at (plan_expressions p) c.name) ms e) in
+      subst C same (members_over_fewer r)
 
   -- what is left, where it is less, is so inside what falls away
   pub pattern_fell : (m : Mentioned) (e : Environment) (q : Pattern) (v : Data) (left : Option Env) → ((x : Name) → IsTrue (is_mentioned m x) → BindsOthers q x) → IfSome left (λ names. HasMentioned φ p m names e) → IfSome left (λ names. HasMentioned φ p m names (bind q v e))

@@ -1,3 +1,4 @@
 pub mod Copies
 pub mod Scopes
 pub mod Fewer
+pub mod Sought

@@ -22,13 +22,17 @@ use Rattle.sf_law.specs.declared.plan.Plan.{Plan}
 use Rattle.sf_law.specs.Arena.{plan_expressions, plan_asks, header_at}
 use Rattle.sf_law.specs.Places.{names_of_parameters, last_parameter}
 use Rattle.sf_state.specs.declared.state.State.{State}
-use Rattle.sf_state.specs.declared.state.Live.{Live}
+use Rattle.sf_state.specs.declared.state.Live.{items-the_row-State, items_hidden-the_row-State-0 as states_are}
+use Rattle.sf_state.specs.declared.state.Gathered.{Gathered}
+use Rattle.sf_state.specs.declared.keys.Keys.{Keys}
+use Rattle.sf_state.specs.Held.{Holding, held_as, held_in}
+use Rattle.sf_state.proofs.Copies.{held_shown, held_hidden}
 use Rattle.sf_state.specs.declared.env.Env.{Env}
-use Rattle.sf_state.specs.declared.env.Env.TheVariants.{Bound', Running', Collected', Called as ECalled}
-use Rattle.sf_state.specs.declared.env.Call.{Call, items-the_row-Given, items_hidden-the_row-Given-0}
+use Rattle.sf_state.specs.declared.env.Env.TheVariants.{Bound', Running', Collected as ECollected, Called as ECalled}
+use Rattle.sf_state.specs.declared.env.Call.{Call, items-the_row-Given, items_hidden-the_row-Given-1}
 use Rattle.sf_state.specs.declared.env.Handed.{Handed}
 use Rattle.sf_state.specs.declared.env.Given.{Given}
-use Rattle.sf_state.specs.declared.env.Given.TheVariants.{Value as GValue, Process' as GProcess', Members as GMembers}
+use Rattle.sf_state.specs.declared.env.Given.TheVariants.{Value as GValue, Process' as GProcess', Members as GMembers, Members' as GMembers'}
 use Rattle.sf_state.specs.declared.env.Binding.{Binding}
 use Rattle.sf_state.specs.declared.env.Running.{Running}
 use Rattle.sf_state.specs.declared.env.Collected.{Collected}
@@ -125,7 +129,7 @@ module _ (φ : AnswersByName) (p : Plan) where
       → ((e : Environment) → IsNames φ p names e → IsFound φ p x found (process_of x e)) → IsNames φ p (Bound' at i v names) e → IsFound φ p x found (process_of x e)
   found_outside x i v names found = under_pattern passing x (process_of x) (λ y d e. refl) φ p (IsFound φ p x found) i v names
 
-  pub members_outside : {at : _} (x : Name) (i : PatternId) (v : Rc Value Global) (names : Env) (found : Option Live) (e : Environment) → part_of i v.value x ≡ None
+  pub members_outside : {at : _} (x : Name) (i : PatternId) (v : Rc Value Global) (names : Env) (found : Option Holding) (e : Environment) → part_of i v.value x ≡ None
       → ((e : Environment) → IsNames φ p names e → AreFound φ p found (members_of x e)) → IsNames φ p (Bound' at i v names) e → AreFound φ p found (members_of x e)
   members_outside x i v names found = under_pattern no_members x (members_of x) (λ y d e. refl) φ p (AreFound φ p found) i v names
 
@@ -141,31 +145,45 @@ module _ (φ : AnswersByName) (p : Plan) where
       → ((e : Environment) → IsNames φ p names e → IsFound φ p x found (process_of x e)) → IsNames φ p (Running' at k a b.term b.names names) e → IsFound φ p x found (process_of x e)
   found_further x k a b names found e h outside (is_running {P = P} {e = around} A B N) = subst (λ c. IsFound φ p x found (cond c P (process_of x around))) (sym h) (outside around N)
 
-  -- under the name of members stands no process
-  pub found_members : {at : _} (x : Name) (k : NameId) (l : Live) (names : Env) (e : Environment) → bytes_eq x (name_at (plan_expressions p) k) ≡ true → IsNames φ p (Collected' at k l names) e → process_of x e ≡ passing
-  found_members x k l names e h (is_collected {e = around} G N) = ap (λ c. cond c passing (process_of x around)) h
+  -- ## Under the name of members
+
+  pub collected_is : (r : Rc Collected Global) {ms : Members} {e : Environment} → Gathers φ p (held_in r.value.members) ms [] → IsNames φ p r.value.around e → IsNames φ p (ECollected r) (collected (name_at (plan_expressions p) r.value.name) ms e)
+  collected_is r G N = is_collected (held_hidden φ p r.value.members (states_are r.value.members.states.value) G) N
+
+  -- what holds of all environments with such members holds of theirs
+  pub collected_holds : (r : Rc Collected Global) (C : Environment → Type 0) → ((e : Environment) (ms : Members) → Gathers φ p (held_in r.value.members) ms [] → IsNames φ p r.value.around e → C (collected (name_at (plan_expressions p) r.value.name) ms e))
+      → (e : Environment) → IsNames φ p (ECollected r) e → C e
+  collected_holds r C h e (is_collected {ms = ms} {e = around} G N) = h around ms (held_shown φ p r.value.members (states_are r.value.members.states.value) G) N
+
+  -- no process stands there
+  pub found_members : (x : Name) (r : Rc Collected Global) (e : Environment) → bytes_eq x (name_at (plan_expressions p) r.value.name) ≡ true → IsNames φ p (ECollected r) e → process_of x e ≡ passing
+  found_members x r e h N = collected_holds r (λ e. process_of x e ≡ passing) (λ d ms G M. ap (λ c. cond c passing (process_of x d)) h) e N
 
   -- behind members of another name
-  pub found_behind : {at : _} (x : Name) (k : NameId) (l : Live) (names : Env) (found : Option Handed) (e : Environment) → bytes_eq x (name_at (plan_expressions p) k) ≡ false
-      → ((e : Environment) → IsNames φ p names e → IsFound φ p x found (process_of x e)) → IsNames φ p (Collected' at k l names) e → IsFound φ p x found (process_of x e)
-  found_behind x k l names found e h outside (is_collected {e = around} G N) = subst (λ c. IsFound φ p x found (cond c passing (process_of x around))) (sym h) (outside around N)
+  pub found_behind : (x : Name) (r : Rc Collected Global) (found : Option Handed) (e : Environment) → bytes_eq x (name_at (plan_expressions p) r.value.name) ≡ false
+      → ((e : Environment) → IsNames φ p r.value.around e → IsFound φ p x found (process_of x e)) → IsNames φ p (ECollected r) e → IsFound φ p x found (process_of x e)
+  found_behind x r found e h outside N =
+      collected_holds r (λ e. IsFound φ p x found (process_of x e)) (λ d ms G M. subst (λ c. IsFound φ p x found (cond c passing (process_of x d))) (sym h) (outside d M)) e N
 
   -- under their name stand members
-  pub members_there : {at : _} (x : Name) (c : Collected) (e : Environment) → bytes_eq x (name_at (plan_expressions p) c.name) ≡ true
-      → IsNames φ p (Collected' at c.name c.members c.around) e → AreFound φ p (Some c.members) (members_of x e)
-  members_there x c e h (is_collected {ms = ms} {e = around} G N) = subst (λ b. AreFound φ p (Some c.members) (cond b ms (members_of x around))) (sym h) G
+  pub members_there : (x : Name) (r : Rc Collected Global) (e : Environment) → bytes_eq x (name_at (plan_expressions p) r.value.name) ≡ true
+      → IsNames φ p (ECollected r) e → AreFound φ p (Some (held_in r.value.members)) (members_of x e)
+  members_there x r e h N =
+      let found : Option Holding = Some (held_in r.value.members) in
+      collected_holds r (λ e. AreFound φ p found (members_of x e)) (λ d ms G M. subst (λ b. AreFound φ p found (cond b ms (members_of x d))) (sym h) G) e N
 
   -- behind members of another name
-  pub members_further : {at : _} (x : Name) (k : NameId) (l : Live) (names : Env) (found : Option Live) (e : Environment) → bytes_eq x (name_at (plan_expressions p) k) ≡ false
-      → ((e : Environment) → IsNames φ p names e → AreFound φ p found (members_of x e)) → IsNames φ p (Collected' at k l names) e → AreFound φ p found (members_of x e)
-  members_further x k l names found e h outside (is_collected {ms = ms} {e = around} G N) = subst (λ c. AreFound φ p found (cond c ms (members_of x around))) (sym h) (outside around N)
+  pub members_further : (x : Name) (r : Rc Collected Global) (found : Option Holding) (e : Environment) → bytes_eq x (name_at (plan_expressions p) r.value.name) ≡ false
+      → ((e : Environment) → IsNames φ p r.value.around e → AreFound φ p found (members_of x e)) → IsNames φ p (ECollected r) e → AreFound φ p found (members_of x e)
+  members_further x r found e h outside N =
+      collected_holds r (λ e. AreFound φ p found (members_of x e)) (λ d ms G M. subst (λ c. AreFound φ p found (cond c ms (members_of x d))) (sym h) (outside d M)) e N
 
   -- under the name of a process stand no members
   pub members_process : {at : _} (x : Name) (k : NameId) (a : State) (b : SProcess) (names : Env) (e : Environment) → bytes_eq x (name_at (plan_expressions p) k) ≡ true → IsNames φ p (Running' at k a b.term b.names names) e → members_of x e ≡ no_members
   members_process x k a b names e h (is_running {e = around} A B N) = ap (λ c. cond c no_members (members_of x around)) h
 
   -- behind a process of another name
-  pub members_behind : {at : _} (x : Name) (k : NameId) (a : State) (b : SProcess) (names : Env) (found : Option Live) (e : Environment) → bytes_eq x (name_at (plan_expressions p) k) ≡ false
+  pub members_behind : {at : _} (x : Name) (k : NameId) (a : State) (b : SProcess) (names : Env) (found : Option Holding) (e : Environment) → bytes_eq x (name_at (plan_expressions p) k) ≡ false
       → ((e : Environment) → IsNames φ p names e → AreFound φ p found (members_of x e)) → IsNames φ p (Running' at k a b.term b.names names) e → AreFound φ p found (members_of x e)
   members_behind x k a b names found e h outside (is_running {e = around} A B N) = subst (λ c. AreFound φ p found (cond c no_members (members_of x around))) (sym h) (outside around N)
 
@@ -182,11 +200,14 @@ module _ (φ : AnswersByName) (p : Plan) where
   pub running_follows : {at at' : _} (b c : Running) → c ≡ b → (e : Environment) → IsNames φ p (Running' at b.name b.handed.process b.handed.base.term b.handed.base.names b.around) e → IsNames φ p (Running' at' c.name c.handed.process c.handed.base.term c.handed.base.names c.around) e
   running_follows {at' = at'} b c same e N = subst (λ (c : Running). IsNames φ p (Running' at' c.name c.handed.process c.handed.base.term c.handed.base.names c.around) e) (sym same) (running_moved N)
 
-  collected_moved : {at at' : _} {b : Collected} {e : Environment} → IsNames φ p (Collected' at b.name b.members b.around) e → IsNames φ p (Collected' at' b.name b.members b.around) e
-  collected_moved (is_collected G N) = is_collected G N
+  -- and of members
+  pub names_collected_inside : (b : Collected) (c : Rc Collected Global) → c.value ≡ b → (e : Environment) (ms : Members) → IsNames φ p b.around e → Gathers φ p (held_in b.members) ms [] → IsNames φ p (ECollected c) (collected (name_at (plan_expressions p) b.name) ms e)
+  names_collected_inside b c same e ms =
+      let C : Collected → Type 0 = λ b. IsNames φ p b.around e → Gathers φ p (held_in b.members) ms [] → IsNames φ p (ECollected c) (collected (name_at (plan_expressions p) b.name) ms e) in
+      subst C same (λ N G. collected_is c G N)
 
-  pub collected_follows : {at at' : _} (b c : Collected) → c ≡ b → (e : Environment) → IsNames φ p (Collected' at b.name b.members b.around) e → IsNames φ p (Collected' at' c.name c.members c.around) e
-  collected_follows {at' = at'} b c same e N = subst (λ (c : Collected). IsNames φ p (Collected' at' c.name c.members c.around) e) (sym same) (collected_moved N)
+  pub collected_follows : (b c : Rc Collected Global) → c.value ≡ b.value → (e : Environment) → IsNames φ p (ECollected b) e → IsNames φ p (ECollected c) e
+  collected_follows b c same e N = collected_holds b (λ e. IsNames φ p (ECollected c) e) (λ d ms G M. names_collected_inside b.value c same d ms M G) e N
 
   -- a pattern's names around a part, once they are bound
   pub names_bound_inside : {at : _} (b c : Binding) → c ≡ b → (e : Environment) → IsNames φ p b.around e → IsNames φ p (Bound' at c.pattern c.value c.around) (bind (pattern_of (placed_at (plan_expressions p) b.pattern)) b.value.value e)
@@ -195,10 +216,6 @@ module _ (φ : AnswersByName) (p : Plan) where
   -- the same of a process under its name
   pub names_running_inside : {at : _} (b c : Running) → c ≡ b → (e : Environment) (P : Process) → IsNames φ p b.around e → IsHanded φ p (name_at (plan_expressions p) b.name) b.handed P → IsNames φ p (Running' at c.name c.handed.process c.handed.base.term c.handed.base.names c.around) (running (name_at (plan_expressions p) b.name) P e)
   names_running_inside {at} b c same e P N H = subst (λ (c : Running). IsNames φ p (Running' at c.name c.handed.process c.handed.base.term c.handed.base.names c.around) (running (name_at (plan_expressions p) b.name) P e)) (sym same) (is_running H.0 H.1 N)
-
-  -- and of members
-  pub names_collected_inside : {at : _} (b c : Collected) → c ≡ b → (e : Environment) (ms : Members) → IsNames φ p b.around e → Gathers φ p b.members ms [] → IsNames φ p (Collected' at c.name c.members c.around) (collected (name_at (plan_expressions p) b.name) ms e)
-  names_collected_inside {at} b c same e ms N G = subst (λ (c : Collected). IsNames φ p (Collected' at c.name c.members c.around) (collected (name_at (plan_expressions p) b.name) ms e)) (sym same) (is_collected G N)
 
 -- ## What is given side by side
 
@@ -263,7 +280,7 @@ module _ (φ : AnswersByName) (p : Plan) (x : Name) {A : Type 0} (none : A) (of_
 
   module _ (value_is : (v : Data) → C (Some (GValue v)) none)
       (process_is : (y : Name) (a : State) (b : PlanId) (inner : Env) (P : Process) → x ≡ y → Stands φ p a P [] → (IsTrue (plan_asks p y) → IsProcess φ p (closed_over b inner) (base P)) → C (Some (GProcess' a b inner)) (of_process P))
-      (members_are : (l : Live) (ms : Members) → Gathers φ p l ms [] → C (Some (GMembers l)) (of_members ms)) where
+      (members_are : (keys : Rc Keys Global) (list shape row : _) (w : Option ℕ) (ms : Members) → Gathers φ p (held_as keys (items-the_row-State _ row) w) ms [] → C (Some (GMembers' keys list shape row w)) (of_members ms)) where
     -- one that has stands for what is given there
     under_placed : (xs : List Name) (gs : List Given) (d e : Environment) (i : ℕ) → AreGiven φ p xs gs d e → last_parameter x xs ≡ Some i → C (slice_get gs i) (under e)
     under_placed xs gs d e i nothing_given h = absurd cc
@@ -273,8 +290,8 @@ module _ (φ : AnswersByName) (p : Plan) (x : Name) {A : Type 0} (none : A) (of_
     under_placed xs gs d e i (process_is_given {x = y} {xs = ys} {a = a} {b = t} {inner = inner} {gs = hs} {P = P} {d = b} A B G) h =
         given_there C (GProcess' a t inner) hs (bytes_eq x y) (last_parameter x ys) i (of_process P) (under b) (under e) h (λ same. process_is y a t inner P ((bytes_eq-Decides x y).0 same) A B)
         (λ n. under_past ys hs (running y P b) e G n ∙ at_process y P b) (λ j. under_placed ys hs (running y P b) e j G)
-    under_placed xs gs d e i (members_are_given {x = y} {xs = ys} {l = l} {gs = hs} {ms = ms} {d = b} M G) h =
-        given_there C (GMembers l) hs (bytes_eq x y) (last_parameter x ys) i (of_members ms) (under b) (under e) h (λ same. members_are l ms M)
+    under_placed xs gs d e i (members_are_given {x = y} {xs = ys} {keys = keys} {list = list} {shape = shape} {row = row} {w = w} {gs = hs} {ms = ms} {d = b} M G) h =
+        given_there C (GMembers' keys list shape row w) hs (bytes_eq x y) (last_parameter x ys) i (of_members ms) (under b) (under e) h (λ same. members_are keys list shape row w ms M)
         (λ n. under_past ys hs (collected y ms b) e G n ∙ at_members y ms b) (λ j. under_placed ys hs (collected y ms b) e j G)
 
     -- a name stands for what is given at its last place
@@ -290,13 +307,13 @@ module _ (φ : AnswersByName) (p : Plan) (x : Name) where
   pub process_of_place : (xs : List Name) (gs : List Given) (e : Environment) → AreGiven φ p xs gs empty e → IsFound φ p x (handed_of (given_at (last_parameter x xs) gs)) (process_of x e)
   process_of_place xs gs e G =
       under_place φ p x passing (λ P. P) (λ ms. passing) (process_of x) (λ o P. IsFound φ p x (handed_of o) P) (λ y d e. refl) (λ y P e. refl) (λ y ms e. refl)
-      (λ v. refl) (λ y a b inner P same A B. (A, λ asked. B (subst (λ k. IsTrue (plan_asks p k)) same asked))) (λ l ms M. refl) xs gs e refl G
+      (λ v. refl) (λ y a b inner P same A B. (A, λ asked. B (subst (λ k. IsTrue (plan_asks p k)) same asked))) (λ keys list shape row w ms M. refl) xs gs e refl G
 
   -- and its members
   pub members_of_place : (xs : List Name) (gs : List Given) (e : Environment) → AreGiven φ p xs gs empty e → AreFound φ p (given_members (given_at (last_parameter x xs) gs)) (members_of x e)
   members_of_place xs gs e G =
       under_place φ p x no_members (λ P. no_members) (λ ms. ms) (members_of x) (λ o ms. AreFound φ p (given_members o) ms) (λ y d e. refl) (λ y P e. refl) (λ y ms e. refl)
-      (λ v. refl) (λ y a b inner P same A B. refl) (λ l ms M. M) xs gs e refl G
+      (λ v. refl) (λ y a b inner P same A B. refl) (λ keys list shape row w ms M. M) xs gs e refl G
 
 -- the names of a call
 abbrev pub names_called : Plan → Call → List Name
@@ -305,10 +322,10 @@ names_called p c = names_of_parameters (plan_expressions p) (header_at p c.templ
 -- what is given in a call
 module _ (φ : AnswersByName) (p : Plan) where
   pub called_is : (r : Rc Call Global) (e : Environment) → AreGiven φ p (names_called p r.value) r.value.arguments.items empty e → IsNames φ p (ECalled r) e
-  called_is r e G = is_called (subst (λ (gs : List Given). AreGiven φ p (names_called p r.value) gs empty e) (sym (items_hidden-the_row-Given-0 r.value.arguments)) G)
+  called_is r e G = is_called (subst (λ (gs : List Given). AreGiven φ p (names_called p r.value) gs empty e) (sym (items_hidden-the_row-Given-1 r.value.arguments)) G)
 
   called_gives : (r : Rc Call Global) (e : Environment) → IsNames φ p (ECalled r) e → AreGiven φ p (names_called p r.value) r.value.arguments.items empty e
-  called_gives r e (is_called G) = subst (λ (gs : List Given). AreGiven φ p (names_called p r.value) gs empty e) (items_hidden-the_row-Given-0 r.value.arguments) G
+  called_gives r e (is_called G) = subst (λ (gs : List Given). AreGiven φ p (names_called p r.value) gs empty e) (items_hidden-the_row-Given-1 r.value.arguments) G
 
   pub called_of : (c : Call) (r : Rc Call Global) → r.value ≡ c → (e : Environment) → AreGiven φ p (names_called p c) c.arguments.items empty e → IsNames φ p (ECalled r) e
   called_of c r same e G = called_is r e (subst (λ (c : Call). AreGiven φ p (names_called p c) c.arguments.items empty e) (sym same) G)
@@ -323,4 +340,8 @@ module _ (φ : AnswersByName) (p : Plan) where
   members_called x r e N = members_of_place φ p x (names_called p r.value) r.value.arguments.items e (called_gives r e N)
 
 pub value_called : (p : Plan) (x : Name) (r : Rc Call Global) → given_value (given_at (last_parameter x (names_called p r.value)) r.value.arguments.items) ≡ value_named (values_around p (ECalled r)) x
-value_called p x r = ap (λ (gs : List Given). given_value (given_at (last_parameter x (names_called p r.value)) gs)) (sym (items_hidden-the_row-Given-0 r.value.arguments)) ∙ value_of_place x (names_called p r.value) _
+value_called p x r = ap (λ (gs : List Given). given_value (given_at (last_parameter x (names_called p r.value)) gs)) (sym (items_hidden-the_row-Given-1 r.value.arguments)) ∙ value_of_place x (names_called p r.value) _
+
+-- what is given as members is found as they are held
+pub members_given : (g : Gathered) → given_members (Some (GMembers g)) ≡ Some (held_in g)
+members_given g = ap (λ (bs : List State). Some (held_as g.keys bs g.wait)) (states_are g.states.value)

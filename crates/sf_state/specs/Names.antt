@@ -13,8 +13,9 @@ use Rattle.sf_state.specs.declared.env.Env.{Env}
 use Rattle.sf_state.specs.declared.env.Call.{items-the_row-Given}
 use Rattle.sf_state.specs.declared.env.Handed.{Handed}
 use Rattle.sf_state.specs.declared.env.Given.{Given}
-use Rattle.sf_state.specs.declared.env.Given.TheVariants.{Value, Process', Members}
-use Rattle.sf_state.specs.declared.state.Live.{Live}
+use Rattle.sf_state.specs.declared.env.Given.TheVariants.{Value, Process', Members'}
+use Rattle.sf_state.specs.declared.state.Live.{items-the_row-State}
+use Rattle.sf_state.specs.Held.{Holding, held_as}
 use Rattle.sf_state.specs.declared.env.Env.TheVariants.{Empty as SEmpty, Bound', Running', Collected', Called'}
 
 -- the first of two that is there
@@ -33,21 +34,21 @@ abbrev pub given_value : Option Given → Option Data
 given_value None = None
 given_value (Some (Value v)) = Some v
 given_value (Some (Process' a b inner)) = None
-given_value (Some (Members l)) = None
+given_value (Some (Members' keys at shape row w)) = None
 
 -- the process that is given, if one is
 abbrev pub handed_of : Option Given → Option Handed
 handed_of None = None
 handed_of (Some (Value v)) = None
 handed_of (Some (Process' a b inner)) = Some (record { process = a; base = record { term = b; names = inner } })
-handed_of (Some (Members l)) = None
+handed_of (Some (Members' keys at shape row w)) = None
 
 -- the members that are given, if they are
-abbrev pub given_members : Option Given → Option Live
+abbrev pub given_members : Option Given → Option Holding
 given_members None = None
 given_members (Some (Value v)) = None
 given_members (Some (Process' a b inner)) = None
-given_members (Some (Members l)) = Some l
+given_members (Some (Members' keys at shape row w)) = Some (held_as keys (items-the_row-State _ row) w)
 
 -- what is given at a place, if there is one
 abbrev pub given_at : Option ℕ → List Given → Option Given
@@ -65,5 +66,5 @@ abbrev pub values_around : Plan → Env → ValuesByName
 values_around p SEmpty = []
 values_around p (Bound' at q v names) = values_inside (pattern_of (placed_at (plan_expressions p) q)) v.value (values_around p names)
 values_around p (Running' at k a b inner names) = (name_at (plan_expressions p) k, None) ∷ values_around p names
-values_around p (Collected' at k l names) = (name_at (plan_expressions p) k, None) ∷ values_around p names
+values_around p (Collected' at k keys list shape row w names) = (name_at (plan_expressions p) k, None) ∷ values_around p names
 values_around p (Called' at g shape row) = values_given (names_of_parameters (plan_expressions p) (header_at p g).parameters) (items-the_row-Given _ row) []

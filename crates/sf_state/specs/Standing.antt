@@ -1,10 +1,8 @@
 -- What states stand for.
-use Rattle.std.specs.Prelude.{◌≡◌, ℕ, Bool, true, false, IsTrue, List, [], ◌∷◌, map, Option, Some, None, Result, Ok, Err, String, string_bytes, Vec}
+use Rattle.std.specs.Prelude.{◌≡◌, ℕ, Bool, true, false, IsTrue, List, [], ◌∷◌, Option, Some, None, Result, Ok, Err, String, string_bytes}
 use Rattle.std.specs.declared.alloc.Global.{Global}
 use Rattle.std.specs.declared.rc.Rc.{Rc}
 use Rattle.sf_value.specs.declared.value.Value.{Value}
-use Rattle.sf_value.specs.declared.value.Key.{Key}
-use Rattle.sf_value.specs.View.{key_of}
 use Rattle.sf_value.specs.Values.{Name, KeyData, Data, first_of}
 use Rattle.sf_value.specs.declared.fault.ValueFault.{ValueFault}
 use Rattle.sf_func.specs.Registries.{AnswersByName}
@@ -55,9 +53,11 @@ use Rattle.sf_state.specs.declared.state.Kept.TheVariants.{Primitive as KPrimiti
 use Rattle.sf_state.specs.declared.env.Env.{Env}
 use Rattle.sf_state.specs.declared.env.Handed.{Handed}
 use Rattle.sf_state.specs.declared.env.Given.{Given}
-use Rattle.sf_state.specs.declared.env.Given.TheVariants.{Value as GValue, Process' as GProcess', Members as GMembers}
+use Rattle.sf_state.specs.declared.env.Given.TheVariants.{Value as GValue, Process' as GProcess', Members' as GMembers'}
 use Rattle.sf_state.specs.declared.env.Call.{items-the_row-Given}
 use Rattle.sf_state.specs.declared.env.Env.TheVariants.{Empty as SEmpty, Bound', Running', Collected', Called'}
+use Rattle.sf_state.specs.declared.keys.Keys.{Keys}
+use Rattle.sf_state.specs.Held.{Holding, held_as}
 
 -- a value or a fault, as what an expression is worth
 abbrev pub worth_given : Result Data ValueFault → Evaluated Data
@@ -158,8 +158,9 @@ mutual
     is_running : {at : _} {k : NameId} {a : State} {b : PlanId} {inner names : Env} {P : Process} {e : Environment}
         → Stands φ p a P [] → (IsTrue (plan_asks p (name_at (plan_expressions p) k)) → IsProcess φ p (closed_over b inner) (base P)) → IsNames φ p names e → IsNames φ p (Running' at k a b inner names) (running (name_at (plan_expressions p) k) P e)
     -- members that have lived no step
-    is_collected : {at : _} {k : NameId} {l : Live} {names : Env} {ms : Members} {e : Environment}
-        → Gathers φ p l ms [] → IsNames φ p names e → IsNames φ p (Collected' at k l names) (collected (name_at (plan_expressions p) k) ms e)
+    is_collected : {at list : _} {k : NameId} {keys : Rc Keys Global} {shape row : _} {w : Option ℕ} {names : Env} {ms : Members} {e : Environment}
+        → Gathers φ p (held_as keys (items-the_row-State _ row) w) ms [] → IsNames φ p names e
+        → IsNames φ p (Collected' at k keys list shape row w names) (collected (name_at (plan_expressions p) k) ms e)
     -- what is given for the parameters of a template
     is_called : {at : _} {g : TemplateId} {shape row : _} {e : Environment}
         → AreGiven φ p (names_of_parameters (plan_expressions p) (header_at p g).parameters) (items-the_row-Given _ row) empty e → IsNames φ p (Called' at g shape row) e
@@ -170,7 +171,8 @@ mutual
     value_is_given : {x : Name} {xs : List Name} {v : Data} {gs : List Given} {d e : Environment} → AreGiven φ p xs gs (known x v d) e → AreGiven φ p (x ∷ xs) (GValue v ∷ gs) d e
     process_is_given : {x : Name} {xs : List Name} {a : State} {b : PlanId} {inner : Env} {gs : List Given} {P : Process} {d e : Environment}
         → Stands φ p a P [] → (IsTrue (plan_asks p x) → IsProcess φ p (closed_over b inner) (base P)) → AreGiven φ p xs gs (running x P d) e → AreGiven φ p (x ∷ xs) (GProcess' a b inner ∷ gs) d e
-    members_are_given : {x : Name} {xs : List Name} {l : Live} {gs : List Given} {ms : Members} {d e : Environment} → Gathers φ p l ms [] → AreGiven φ p xs gs (collected x ms d) e → AreGiven φ p (x ∷ xs) (GMembers l ∷ gs) d e
+    members_are_given : {x : Name} {xs : List Name} {keys : Rc Keys Global} {list shape row : _} {w : Option ℕ} {gs : List Given} {ms : Members} {d e : Environment}
+        → Gathers φ p (held_as keys (items-the_row-State _ row) w) ms [] → AreGiven φ p xs gs (collected x ms d) e → AreGiven φ p (x ∷ xs) (GMembers' keys list shape row w ∷ gs) d e
 
   -- what can be run
   pub data IsProcess (φ : AnswersByName) (p : Plan) : SProcess → Process → Type 0 where
@@ -233,23 +235,25 @@ mutual
   -- Members wait for an event after a life.
   pub data WaitsGathered (φ : AnswersByName) (p : Plan) : Gathering → Process → Life → Type 0 where
     -- those of a collection have led that life, and the observer the same with their tables beside the inputs
-    releases_so : {w : Observation} {l before : Live} {o : State} {k : NameId} {q : PatternId} {b : PlanId} {i : Collection} {r : Term} {e : Environment} {ms : Members} {L : Life} {ys zs : List Data}
+    releases_so : {w : Observation} {keys keys_before : Rc Keys Global} {list shape row list_before shape_before row_before : _} {wait wait_before : Option ℕ} {o : State} {k : NameId} {q : PatternId} {b : PlanId}
+        {i : Collection} {r : Term} {e : Environment} {ms : Members} {L : Life} {ys zs : List Data}
         → collect φ i e ≡ answer ms
         → Since (network_of_plan φ p) (observed_members ms r e) (body_with_members (name_at (plan_expressions p) k) ms (pattern_of (placed_at (plan_expressions p) q)) (plan_tree p b) e) L waits
         → Outputs (network_of_plan φ p) (closure (releasing w i r (name_at (plan_expressions p) k) (pattern_of (placed_at (plan_expressions p) q)) (plan_tree p b)) e) L zs
         → Tables (network_of_plan φ p) ms L ys
-        → Gathers φ p l ms L
+        → Gathers φ p (held_as keys (items-the_row-State _ row) wait) ms L
         → Stands φ p o (closure r e) (observed_life L ys)
-        → WaitsGathered φ p (GReleasing' w l before o k q b) (closure (releasing w i r (name_at (plan_expressions p) k) (pattern_of (placed_at (plan_expressions p) q)) (plan_tree p b)) e) L
+        → WaitsGathered φ p (GReleasing' w keys list shape row wait keys_before list_before shape_before row_before wait_before o k q b)
+        (closure (releasing w i r (name_at (plan_expressions p) k) (pattern_of (placed_at (plan_expressions p) q)) (plan_tree p b)) e) L
     -- those of the last edit have led the life since then
-    edits_so : {w : Observation} {l : Live} {k : NameId} {q : PatternId} {c : Rc PlanCollection Global} {i : Collection} {e : Environment} {ms qs : Members} {L : Life} {ys zs : List Data}
+    edits_so : {w : Observation} {keys : Rc Keys Global} {list shape row : _} {wait : Option ℕ} {k : NameId} {q : PatternId} {c : Rc PlanCollection Global} {i : Collection} {e : Environment} {ms qs : Members} {L : Life} {ys zs : List Data}
         → IsCodedCollection (plan_expressions p) c.value
         → collect φ i e ≡ answer ms
         → which_run (edit_of φ (name_at (plan_expressions p) k) (pattern_of (placed_at (plan_expressions p) q)) (plan_collection p c.value) e) ms L ≡ answer qs
         → Outputs (network_of_plan φ p) (closure (editing w i (name_at (plan_expressions p) k) (pattern_of (placed_at (plan_expressions p) q)) (plan_collection p c.value)) e) L zs
         → Tables (network_of_plan φ p) qs (since_edit L) ys
-        → Gathers φ p l qs (since_edit L)
-        → WaitsGathered φ p (GEditing' w l k q c) (closure (editing w i (name_at (plan_expressions p) k) (pattern_of (placed_at (plan_expressions p) q)) (plan_collection p c.value)) e) L
+        → Gathers φ p (held_as keys (items-the_row-State _ row) wait) qs (since_edit L)
+        → WaitsGathered φ p (GEditing' w keys list shape row wait k q c) (closure (editing w i (name_at (plan_expressions p) k) (pattern_of (placed_at (plan_expressions p) q)) (plan_collection p c.value)) e) L
 
   -- a live part stands for a process and a life that has begun
   pub data Settles (φ : AnswersByName) (p : Plan) : Live → Process → Life → Type 0 where
@@ -281,21 +285,25 @@ mutual
         → Stands φ p a (closure u e) K
         → Lives φ p (LWrap w a) t e m L
     -- members, which have all led the life
-    lives_gathered : {keys : Rc (Vec Key Global) Global} {shape row : _} {i : Collection} {e : Environment} {ms : Members} {L : Life} {ys : List Data}
+    lives_gathered : {keys : Rc Keys Global} {list shape row : _} {wait : Option ℕ} {i : Collection} {e : Environment} {ms : Members} {L : Life} {ys : List Data}
         → Tables (network_of_plan φ p) ms L ys
-        → Gathers φ p (LGathered' keys shape row) ms L
-        → Lives φ p (LGathered' keys shape row) (gathered i) e (members_made ms) L
+        → Gathers φ p (held_as keys (items-the_row-State _ row) wait) ms L
+        → Lives φ p (LGathered' keys list shape row wait) (gathered i) e (members_made ms) L
 
-  -- A node has these members under their keys, and each has led this life.
-  pub data Gathers (φ : AnswersByName) (p : Plan) : Live → Members → Life → Type 0 where
-    gathers : {keys : Rc (Vec Key Global) Global} {shape row : _} {ms : Members} {L : Life}
-        → map key_of keys.value.items ≡ keys_in ms → EachStands φ p (items-the_row-State _ row) ms L → Gathers φ p (LGathered' keys shape row) ms L
+  -- These are held under their keys, and each has led this life.
+  pub data Gathers (φ : AnswersByName) (p : Plan) : Holding → Members → Life → Type 0 where
+    gathers : {h : Holding} {ms : Members} {L : Life} → h.keys ≡ keys_in ms → EachStands φ p h.wait h.states ms L → Gathers φ p h ms L
 
   -- Each state stands for the member at its place, after this life.
-  pub data EachStands (φ : AnswersByName) (p : Plan) : List State → Members → Life → Type 0 where
-    none_stands : {L : Life} → EachStands φ p [] no_members L
-    one_stands : {a : State} {bs : List State} {k : KeyData} {P : Process} {ms : Members} {L : Life}
-        → Stands φ p a P L → EachStands φ p bs ms L → EachStands φ p (a ∷ bs) (member k P ms) L
+  pub data EachStands (φ : AnswersByName) (p : Plan) : Option ℕ → List State → Members → Life → Type 0 where
+    none_stands : {w : Option ℕ} {L : Life} → EachStands φ p w [] no_members L
+    one_stands : {w : Option ℕ} {a : State} {bs : List State} {k : KeyData} {P : Process} {ms : Members} {L : Life}
+        → StandsAmong φ p w a P L → EachStands φ p w bs ms L → EachStands φ p w (a ∷ bs) (member k P ms) L
+
+  -- A state among members stands for one of them: where they wait, for what it was, frozen.
+  pub data StandsAmong (φ : AnswersByName) (p : Plan) : Option ℕ → State → Process → Life → Type 0 where
+    as_it_stands : {a : State} {P : Process} {L : Life} → Stands φ p a P L → StandsAmong φ p None a P L
+    as_it_stood : {d : ℕ} {a : State} {P Q : Process} {M : Life} → Stands φ p a Q M → P ≡ frozen Q M d → StandsAmong φ p (Some d) a P []
 
   -- Stages, each on the values of the one before it: two or more, or the last one alone.
   pub data StagesStand (φ : AnswersByName) (p : Plan) : List State → Term → Environment → Life → Type 0 where
@@ -319,8 +327,8 @@ IsFound φ p x (Some h) P = IsHanded φ p x h P
 IsFound φ p x None P = P ≡ passing
 
 -- the members that were found under a name; where none were, there are none
-abbrev pub AreFound : AnswersByName → Plan → Option Live → Members → Type 0
-AreFound φ p (Some l) ms = Gathers φ p l ms []
+abbrev pub AreFound : AnswersByName → Plan → Option Holding → Members → Type 0
+AreFound φ p (Some h) ms = Gathers φ p h ms []
 AreFound φ p None ms = ms ≡ no_members
 
 -- Each state stands for all that the one at its place stands for.
@@ -328,9 +336,3 @@ pub data AllFollow (φ : AnswersByName) (p : Plan) : List State → List State �
   none_follow : AllFollow φ p [] []
   more_follow : {a b : State} {cs bs : List State}
       → ((P : Process) (L : Life) → Stands φ p a P L → Stands φ p b P L) → AllFollow φ p cs bs → AllFollow φ p (a ∷ cs) (b ∷ bs)
-
--- Each state stands for what the one at its place is once it is frozen, to go on in the time d.
-pub data AllFreeze (φ : AnswersByName) (p : Plan) (d : ℕ) : List State → List State → Type 0 where
-  none_freeze : AllFreeze φ p d [] []
-  more_freeze : {a b : State} {cs bs : List State}
-      → ((P : Process) (L : Life) → Stands φ p a P L → Stands φ p b (frozen P L d) []) → AllFreeze φ p d cs bs → AllFreeze φ p d (a ∷ cs) (b ∷ bs)

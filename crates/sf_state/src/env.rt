@@ -18,13 +18,14 @@ ghost use Rattle.sf_state.specs.declared.env.Handed.{size-Handed};
 ghost use Rattle.sf_state.specs.declared.env.Collected.{size-Collected};
 ghost use Rattle.sf_state.specs.declared.env.Call.{size-Call};
 ghost use Rattle.sf_state.specs.declared.env.Given.{size-Given};
+ghost use Rattle.sf_state.specs.Held.{held_in};
 ghost use Rattle.sf_state.specs.Names.{found_or, given_at, handed_of, given_value, given_members, values_inside, values_around};
 ghost use Rattle.sf_coincidence.specs.Mentions.{BindsOthers};
 ghost use Rattle.sf_law.specs.declared.mentioned.Mentioned.{Mentioned as MentionedOf};
 ghost use Rattle.sf_law.specs.Mentioned.{is_mentioned};
 ghost use Rattle.sf_state.specs.Standing.{closed_over, HasMentioned, IsNames, AreGiven, AreFound, Gathers, IsHanded, IsFound, IsProcess};
 
-use crate::state::{Live, Process, State};
+use crate::state::{Gathered, Process, State};
 use sf_code::Names;
 use sf_expr::{Exprs, NameId, Pat, PatForm, PatternId};
 use sf_law::{Binder, Mentioned, Plan, PlanId, TemplateId};
@@ -181,13 +182,13 @@ impl Collected {
     fn over(&self, alloc: Global, fewer: Option<Env>) -> Result<Option<Env>, AllocError>
         ensures { IfOk result (λ names. (φ : AnswersByName) (p : PlanOf) (m l : MentionedOf) (e : Environment) (ms : MembersOf) →
             ((x : Name) → IsTrue (is_mentioned m x) → BindsOthers (named (name_at (plan_expressions p) self.now.name)) x → IsTrue (is_mentioned l x)) →
-            Gathers φ p self.now.members ms [] → IfSome fewer (λ names. HasMentioned φ p l names e) → IfSome names (λ names. HasMentioned φ p m names (collected (name_at (plan_expressions p) self.now.name) ms e))) }
+            Gathers φ p (held_in self.now.members) ms [] → IfSome fewer (λ names. HasMentioned φ p l names e) → IfSome names (λ names. HasMentioned φ p m names (collected (name_at (plan_expressions p) self.now.name) ms e))) }
     {
         let around = match fewer {
             Some(around) => around,
             None => return Ok(None),
         };
-        let members = self.members.share_members(alloc)?;
+        let members = self.members.share()?;
         let collected = Rc::new(
             alloc,
             Collected {
@@ -336,7 +337,7 @@ pub struct Collected {
     /// The name, in the expressions of the plan.
     pub name: NameId,
     /// The members, of which no step has been lived.
-    pub members: Live,
+    pub members: Gathered,
     /// The names around it.
     pub around: Env,
 }
@@ -360,7 +361,7 @@ pub enum Given {
     /// A process.
     Process(Handed),
     /// Members, of which no step has been lived.
-    Members(Live),
+    Members(Gathered),
 }
 
 impl Call {
@@ -382,8 +383,8 @@ impl Call {
     }
 
     // The same, if that are members.
-    fn members<'r>(&'r self, plan: &Plan, name: &str) -> Option<&'r Live>
-        ensures { option_map (λ l. l.now) result ≡ given_members (given_at (last_parameter name.now (names_of_parameters (plan_expressions plan.now) (header_at plan.now self.now.template).parameters)) self.now.arguments.items) }
+    fn members<'r>(&'r self, plan: &Plan, name: &str) -> Option<&'r Gathered>
+        ensures { option_map (λ l. held_in l.now) result ≡ given_members (given_at (last_parameter name.now (names_of_parameters (plan_expressions plan.now) (header_at plan.now self.now.template).parameters)) self.now.arguments.items) }
     {
         match self.given(plan, name) {
             Some(Given::Members(members)) => Some(members),
@@ -574,9 +575,9 @@ impl Env {
         &self,
         alloc: Global,
         name: NameId,
-        members: Live,
+        members: Gathered,
     ) -> Result<Env, AllocError>
-        ensures { IfOk result (λ names. (φ : AnswersByName) (p : PlanOf) (e : Environment) (ms : MembersOf) → IsNames φ p self.now e → Gathers φ p members ms [] →
+        ensures { IfOk result (λ names. (φ : AnswersByName) (p : PlanOf) (e : Environment) (ms : MembersOf) → IsNames φ p self.now e → Gathers φ p (held_in members) ms [] →
             IsNames φ p names (collected (name_at (plan_expressions p) name) ms e)) }
     {
         let around = self.share()?;
@@ -596,13 +597,13 @@ impl Env {
         &self,
         alloc: Global,
         name: NameId,
-        members: &Live,
+        members: &Gathered,
         wait: u64,
     ) -> Result<Env, AllocError>
-        ensures { IfOk result (λ names. (φ : AnswersByName) (p : PlanOf) (e : Environment) (ms : MembersOf) (L : Life) → IsNames φ p self.now e → Gathers φ p members.now ms L →
+        ensures { IfOk result (λ names. (φ : AnswersByName) (p : PlanOf) (e : Environment) (ms : MembersOf) (L : Life) → IsNames φ p self.now e → Gathers φ p (held_in members.now) ms L →
             IsNames φ p names (collected (name_at (plan_expressions p) name) (each_frozen ms L wait) e)) }
     {
-        let frozen = members.freeze_members(alloc, wait)?;
+        let frozen = members.freeze(wait)?;
         self.with_members(alloc, name, frozen)
     }
 
@@ -658,9 +659,9 @@ impl Env {
 
     /// The members of a name: of the same names the innermost counts, and what is no collection's has none. The names are those of
     /// the plan.
-    pub fn members<'r>(&'r self, plan: &Plan, name: &str) -> Option<&'r Live>
+    pub fn members<'r>(&'r self, plan: &Plan, name: &str) -> Option<&'r Gathered>
         ensures { (φ : AnswersByName) (e : Environment) → IsNames φ plan.now self.now e →
-            AreFound φ plan.now (option_map (λ l. l.now) result) (members_of name.now e) }
+            AreFound φ plan.now (option_map (λ l. held_in l.now) result) (members_of name.now e) }
     {
         match self {
             Env::Empty => None,

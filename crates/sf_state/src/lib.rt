@@ -3,11 +3,14 @@
 
 mod env;
 mod feedback;
+mod keys;
 mod state;
 
 pub use env::{Binding, Call, Collected, Env, Given, Handed, NamesIn, Running};
 pub use feedback::Feedback;
+pub use keys::Keys;
 pub use state::{
-    Editing, Frozen, Gathering, Keeping, Kept, Live, Process, Releasing, State, Switch, Wrap,
-    hold_back_members, share_all, unshare, unshare_gathering, unshare_keeping, unshare_switch,
+    Editing, Frozen, Gathered, Gathering, Keeping, Kept, Live, Process, Releasing, State, Switch,
+    Wrap, hold_back_members, own_states, unshare, unshare_gathering, unshare_keeping,
+    unshare_states, unshare_switch,
 };

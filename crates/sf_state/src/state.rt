@@ -9,15 +9,17 @@ ghost use Rattle.sf_law.specs.Arena.{plan_expressions, plan_tree, plan_asks};
 ghost use Rattle.sf_mean.specs.Lives.{base, bind, closure, resumed, empty, running, collected, frozen as frozen_process, each_frozen, Environment, Step, Life, Process as ProcessOf, Members as MembersOf};
 ghost use Rattle.sf_mean.specs.Meaning.{body_of};
 ghost use Rattle.sf_state.specs.declared.env.Env.{Env as EnvOf};
-ghost use Rattle.sf_state.specs.Standing.{IsNames, Stands, Ready, Waits, WaitsKeeping, WaitsGathered, Gathers, IsProcess, AllFollow, AllFreeze, kept_state, is_frozen};
+ghost use Rattle.sf_state.specs.Held.{held_in};
+ghost use Rattle.sf_state.specs.Standing.{IsNames, Stands, Ready, Waits, WaitsKeeping, WaitsGathered, Gathers, IsProcess, AllFollow, kept_state, is_frozen};
 
 use crate::env::{Env, Handed};
 use crate::feedback::Feedback;
+use crate::keys::Keys;
 use sf_expr::{NameId, PatternId};
 use sf_law::{Plan, PlanCollection, PlanId};
 use sf_prim::PrimState;
 use sf_term::{Join, Observation, Switching};
-use sf_value::{Key, Value, ValueFault};
+use sf_value::{Value, ValueFault};
 use std::alloc::{AllocError, Global};
 use std::mem;
 use std::rc::Rc;
@@ -200,9 +202,9 @@ pub struct Releasing {
     /// Whose value shows at the event.
     pub shown: Observation,
     /// The members that run.
-    pub members: Live,
-    /// The members as they were before the last sample, in nodes that the next sample uses again. At first it is vacant.
-    pub before: Live,
+    pub members: Gathered,
+    /// The members as they were before the last sample, in nodes that the next sample uses again.
+    pub before: Gathered,
     /// What gives the event, on the inputs beside the tables of the members' values.
     pub observer: State,
     /// The name of the members, frozen, in the body.
@@ -220,7 +222,7 @@ pub struct Editing {
     /// Whose value shows at an event.
     pub shown: Observation,
     /// The members that run.
-    pub members: Live,
+    pub members: Gathered,
     /// The name of the members, frozen, in the edit.
     pub name: NameId,
     /// The pattern that is bound to an event's payload.
@@ -268,8 +270,8 @@ pub enum Live {
     Pipeline(Vec<State>),
     /// A form with one part.
     Wrap(Wrap, State),
-    /// The members of a collection, in order: their keys, and what stands under them.
-    Gathered(Rc<Vec<Key>>, Vec<State>),
+    /// The members of a collection.
+    Gathered(Gathered),
 }
 
 impl Drop for Live {
@@ -286,12 +288,22 @@ impl Drop for Live {
                 drop(wrap);
                 drop(part);
             }
-            Live::Gathered(keys, states) => {
-                drop(keys);
-                drop(states);
-            }
+            Live::Gathered(members) => drop(members),
         }
     }
+}
+
+/// The members of a collection, in order: their keys, and what stands under each.
+#[derive(Drop)]
+#[cycle(state)]
+pub struct Gathered {
+    /// The keys. They may be shared.
+    pub keys: Rc<Keys>,
+    /// The states, each under the key at its place. Their list may be shared, and so may their nodes.
+    pub states: Rc<Vec<State>>,
+    /// Where the members were frozen and none has been stepped since: the milliseconds from the last sample of each that had
+    /// lived to the one at which it goes on.
+    pub wait: Option<u64>,
 }
 
 /// A form with one part, with what it keeps.
@@ -464,35 +476,6 @@ fn freeze_node(alloc: Global, wait: u64, names: &Env, node: Kept) -> Result<Stat
 }
 
 impl Live {
-    ghost use Rattle.std.specs.Prelude.{◌≤◌};
-    ghost use Rattle.sf_state.specs.declared.env.Env.{size-Env};
-    ghost use Rattle.sf_state.specs.declared.state.Live.{size-Live};
-
-    // Some of the names around members, once the rest is let go: those that nothing else has, where there are any.
-    #[cycle(state)]
-    pub(crate) fn left(self) -> Env
-        ensures { size-Env result ≤ size-Live self }
-    {
-        match self {
-            Live::Gathered(keys, states) => {
-                drop(keys);
-                let mut states = states;
-                while let Some(state) = states.pop() {
-                    let names = state.left();
-                    if names.is_last() {
-                        return names;
-                    }
-                    drop(names);
-                }
-                Env::Empty
-            }
-            other => {
-                drop(other);
-                Env::Empty
-            }
-        }
-    }
-
     /// A copy of the node over the same parts, which are shared.
     pub fn clone_in(&self, alloc: Global) -> Result<Live, AllocError>
         ensures { IfOk result (λ copy. (φ : AnswersByName) (p : Plan) (P : ProcessOf) (x : Data) (L : Life) → Ready φ p self.now P x L → Ready φ p copy P x L) }
@@ -516,65 +499,11 @@ impl Live {
                 let inner = part.share(alloc)?;
                 Ok(Live::Wrap(kept, inner))
             }
-            Live::Gathered(keys, states) => {
-                let under = keys.clone()?;
-                let all = share_all(alloc, states)?;
-                Ok(Live::Gathered(under, all))
+            Live::Gathered(members) => {
+                let all = members.share()?;
+                Ok(Live::Gathered(all))
             }
         }
-    }
-
-    /// A node that stands for nothing yet. It takes no memory.
-    pub fn vacant(alloc: Global) -> Live {
-        Live::Pipeline(Vec::new(alloc))
-    }
-
-    /// The same members, each over its node. The error is a want of memory, or too many owners.
-    pub fn share_members(&self, alloc: Global) -> Result<Live, AllocError>
-        ensures { IfOk result (λ shared. (φ : AnswersByName) (p : Plan) (ms : MembersOf) (L : Life) → Gathers φ p self.now ms L → Gathers φ p shared ms L) }
-    {
-        match self {
-            Live::Gathered(keys, states) => {
-                let under = keys.clone()?;
-                let all = share_all(alloc, states)?;
-                Ok(Live::Gathered(under, all))
-            }
-            _ => self.clone_in(alloc),
-        }
-    }
-
-    /// Members from here on, each to go on in another place `wait` milliseconds after its last sample. The error is a want of
-    /// memory, or too many owners.
-    pub fn freeze_members(&self, alloc: Global, wait: u64) -> Result<Live, AllocError>
-        ensures { IfOk result (λ frozen. (φ : AnswersByName) (p : Plan) (ms : MembersOf) (L : Life) → Gathers φ p self.now ms L → Gathers φ p frozen (each_frozen ms L wait) []) }
-    {
-        match self {
-            Live::Gathered(keys, states) => {
-                let under = keys.clone()?;
-                let frozen = freeze_all(alloc, wait, states)?;
-                Ok(Live::Gathered(under, frozen))
-            }
-            _ => self.clone_in(alloc),
-        }
-    }
-
-    /// Makes these the members that others are, as `State::renew` does: each is copied into the nodes of the one at its place,
-    /// where there are as many. After an error they stand for nothing.
-    pub fn renew_members(&mut self, alloc: Global, other: &Live) -> Result<(), AllocError>
-        ensures { OnOk result ((φ : AnswersByName) (p : Plan) (ms : MembersOf) (L : Life) → Gathers φ p other.now ms L → Gathers φ p self.new ms L) }
-    {
-        if let Live::Gathered(keys, states) = other {
-            if let Live::Gathered(under, own) = self {
-                if own.len() == states.len() {
-                    let same = keys.clone()?;
-                    *under = same;
-                    return renew_all(alloc, own, states);
-                }
-            }
-        }
-        let shared = other.share_members(alloc)?;
-        *self = shared;
-        Ok(())
     }
 
     // The same of a node.
@@ -601,6 +530,93 @@ impl Live {
         }
         let copy = other.clone_in(alloc)?;
         *self = copy;
+        Ok(())
+    }
+}
+
+impl Gathered {
+    ghost use Rattle.std.specs.Prelude.{◌≤◌};
+    ghost use Rattle.sf_mean.specs.Lives.{no_members};
+    ghost use Rattle.sf_state.specs.declared.env.Env.{size-Env};
+    ghost use Rattle.sf_state.specs.declared.state.Gathered.{size-Gathered};
+
+    // Some of the names around members, once the rest is let go: those that nothing else has, where there are any.
+    #[cycle(state)]
+    pub(crate) fn left(self) -> Env
+        ensures { size-Env result ≤ size-Gathered self }
+    {
+        let Gathered {
+            keys,
+            states,
+            wait: _,
+        } = self;
+        drop(keys);
+        match Rc::into_inner(states) {
+            Some(own) => {
+                let mut states = own;
+                while let Some(state) = states.pop() {
+                    let names = state.left();
+                    if names.is_last() {
+                        return names;
+                    }
+                    drop(names);
+                }
+                Env::Empty
+            }
+            None => Env::Empty,
+        }
+    }
+
+    /// No members.
+    pub fn none(alloc: Global) -> Result<Gathered, AllocError>
+        ensures { IfOk result (λ none. (φ : AnswersByName) (p : Plan) (L : Life) → Gathers φ p (held_in none) no_members L) }
+    {
+        let keys = Rc::new(alloc, Keys::new(alloc))?;
+        let states = Rc::new(alloc, Vec::new(alloc))?;
+        Ok(Gathered {
+            keys,
+            states,
+            wait: None,
+        })
+    }
+
+    /// The same members: they share all, so it takes no memory. The error is too many owners.
+    pub fn share(&self) -> Result<Gathered, AllocError>
+        ensures { IfOk result (λ same. held_in same ≡ held_in self.now) }
+    {
+        let keys = self.keys.clone()?;
+        let states = self.states.clone()?;
+        Ok(Gathered {
+            keys,
+            states,
+            wait: self.wait,
+        })
+    }
+
+    /// The members from here on, each to go on in another place `wait` milliseconds after its last sample. They share all, so
+    /// it takes no memory, and no step of one of the two changes the other. The error is too many owners.
+    pub fn freeze(&self, wait: u64) -> Result<Gathered, AllocError>
+        ensures { IfOk result (λ frozen. (φ : AnswersByName) (p : Plan) (ms : MembersOf) (L : Life) → Gathers φ p (held_in self.now) ms L →
+            Gathers φ p (held_in frozen) (each_frozen ms L wait) []) }
+    {
+        let under = self.keys.clone()?;
+        let all = self.states.clone()?;
+        Ok(Gathered {
+            keys: under,
+            states: all,
+            wait: Some(self.wait.unwrap_or(wait)),
+        })
+    }
+
+    /// Makes these the members that others are, as `State::renew` does: each is copied into the nodes of the one at its place,
+    /// where there are as many and nothing else has their list. Else the list is shared. After an error they stand for nothing.
+    pub fn renew(&mut self, alloc: Global, other: &Gathered) -> Result<(), AllocError>
+        ensures { OnOk result ((φ : AnswersByName) (p : Plan) (ms : MembersOf) (L : Life) → Gathers φ p (held_in other.now) ms L → Gathers φ p (held_in self.new) ms L) }
+    {
+        let keys = other.keys.clone()?;
+        renew_list(alloc, &mut self.states, &other.states)?;
+        self.keys = keys;
+        self.wait = other.wait;
         Ok(())
     }
 }
@@ -698,12 +714,13 @@ impl Gathering {
     {
         match self {
             Gathering::Releasing(releasing) => {
-                let members = releasing.members.share_members(alloc)?;
+                let members = releasing.members.share()?;
+                let before = releasing.members.share()?;
                 let observer = releasing.observer.share(alloc)?;
                 Ok(Gathering::Releasing(Releasing {
                     shown: releasing.shown,
                     members,
-                    before: Live::vacant(alloc),
+                    before,
                     observer,
                     name: releasing.name,
                     pattern: releasing.pattern,
@@ -711,7 +728,7 @@ impl Gathering {
                 }))
             }
             Gathering::Editing(editing) => {
-                let running = editing.members.share_members(alloc)?;
+                let running = editing.members.share()?;
                 let edit = editing.edit.clone()?;
                 Ok(Gathering::Editing(Editing {
                     shown: editing.shown,
@@ -738,7 +755,7 @@ impl Releasing {
         payload: Rc<Value>,
     ) -> Result<State, AllocError>
         ensures { let p = plan.now in
-            IfOk result (λ begun. (φ : AnswersByName) (e : Environment) (ms : MembersOf) (L : Life) → IsNames φ p names.now e → Gathers φ p self.now.before ms L →
+            IfOk result (λ begun. (φ : AnswersByName) (e : Environment) (ms : MembersOf) (L : Life) → IsNames φ p names.now e → Gathers φ p (held_in self.now.before) ms L →
             Stands φ p begun (closure (plan_tree p self.now.body)
             (bind (pattern_of (placed_at (plan_expressions p) self.now.pattern)) payload.value (collected (name_at (plan_expressions p) self.now.name) (each_frozen ms L wait) e))) []) }
     {
@@ -764,7 +781,7 @@ impl Editing {
         payload: Rc<Value>,
     ) -> Result<Env, AllocError>
         ensures { let p = plan.now in
-            IfOk result (λ inside. (φ : AnswersByName) (e : Environment) (ms : MembersOf) (L : Life) → IsNames φ p names.now e → Gathers φ p self.now.members ms L →
+            IfOk result (λ inside. (φ : AnswersByName) (e : Environment) (ms : MembersOf) (L : Life) → IsNames φ p names.now e → Gathers φ p (held_in self.now.members) ms L →
             IsNames φ p inside (bind (pattern_of (placed_at (plan_expressions p) self.now.pattern)) payload.value (collected (name_at (plan_expressions p) self.now.name) (each_frozen ms L wait) e))) }
     {
         let known = names.with_frozen(alloc, self.name, &self.members, wait)?;
@@ -822,8 +839,8 @@ impl Frozen {
     }
 }
 
-/// The same states, each over its node. The error is a want of memory, or too many owners.
-pub fn share_all(alloc: Global, states: &[State]) -> Result<Vec<State>, AllocError>
+// The same states, each over its node. The error is a want of memory, or too many owners.
+fn share_all(alloc: Global, states: &[State]) -> Result<Vec<State>, AllocError>
     ensures { IfOk result (λ shared. (φ : AnswersByName) (p : Plan) → AllFollow φ p states.now shared.items) }
 {
     let mut shared = Vec::with_capacity(alloc, states.len())?;
@@ -831,17 +848,6 @@ pub fn share_all(alloc: Global, states: &[State]) -> Result<Vec<State>, AllocErr
         shared.push(state.share(alloc)?)?;
     }
     Ok(shared)
-}
-
-// Each state from here on, to go on `wait` milliseconds after its last sample.
-fn freeze_all(alloc: Global, wait: u64, states: &[State]) -> Result<Vec<State>, AllocError>
-    ensures { IfOk result (λ frozen. (φ : AnswersByName) (p : Plan) → AllFreeze φ p wait states.now frozen.items) }
-{
-    let mut frozen = Vec::with_capacity(alloc, states.len())?;
-    for state in states {
-        frozen.push(state.freeze(alloc, wait)?)?;
-    }
-    Ok(frozen)
 }
 
 // Makes each of these states stand for all that the one at its place stands for.
@@ -855,18 +861,70 @@ fn renew_all(alloc: Global, own: &mut Vec<State>, states: &[State]) -> Result<()
     Ok(())
 }
 
+// The same of lists: where a list is shared, or has not as many, it becomes the other one, shared.
+fn renew_list(
+    alloc: Global,
+    own: &mut Rc<Vec<State>>,
+    states: &Rc<Vec<State>>,
+) -> Result<(), AllocError>
+    ensures { OnOk result ((φ : AnswersByName) (p : Plan) → AllFollow φ p states.now.value.items own.new.value.items) }
+{
+    if let Some(list) = Rc::get_mut(own) {
+        if list.len() == states.len() {
+            return renew_all(alloc, list, &***states);
+        }
+    }
+    let shared = states.clone()?;
+    *own = shared;
+    Ok(())
+}
+
 /// Before a sample: the members that run go on in nodes of their own, and what they were takes the place of what they were
 /// before. After an error they stand for nothing.
 pub fn hold_back_members(
     alloc: Global,
-    members: &mut Live,
-    before: &mut Live,
+    members: &mut Gathered,
+    before: &mut Gathered,
 ) -> Result<(), AllocError>
     ensures held { OnOk result (before.new ≡ members.old) }
-    ensures runs_on { OnOk result ((φ : AnswersByName) (p : Plan) (ms : MembersOf) (L : Life) → Gathers φ p members.old ms L → Gathers φ p members.new ms L) }
+    ensures runs_on { OnOk result ((φ : AnswersByName) (p : Plan) (ms : MembersOf) (L : Life) → Gathers φ p (held_in members.old) ms L → Gathers φ p (held_in members.new) ms L) }
 {
-    before.renew_members(alloc, members)?;
+    before.renew(alloc, members)?;
     mem::swap(members, before);
+    Ok(())
+}
+
+/// The states of members as a list of their own: where it was shared, each is over its node. The error is a want of memory, or
+/// too many owners.
+pub fn own_states(alloc: Global, states: Rc<Vec<State>>) -> Result<Vec<State>, AllocError>
+    ensures { IfOk result (λ own. (φ : AnswersByName) (p : Plan) → AllFollow φ p states.value.items own.items) }
+{
+    match Rc::try_unwrap(states) {
+        Ok(own) => Ok(own),
+        Err(shared) => share_all(alloc, &**shared),
+    }
+}
+
+/// Makes the list of members its owner's alone: where it is shared, one over the same nodes takes its place, and the other
+/// owners keep the list. After an error, which is a want of memory, it is shared as before.
+#[inline(always)]
+pub fn unshare_states(alloc: Global, states: &mut Rc<Vec<State>>) -> Result<(), AllocError>
+    ensures { (φ : AnswersByName) (p : Plan) → AllFollow φ p states.old.value.items states.new.value.items }
+{
+    if Rc::strong_count(states) == 1 {
+        return Ok(());
+    }
+    put_list(alloc, states)
+}
+
+// Puts a list over the same nodes in the place of a list.
+#[cold]
+#[inline(never)]
+fn put_list(alloc: Global, states: &mut Rc<Vec<State>>) -> Result<(), AllocError>
+    ensures { (φ : AnswersByName) (p : Plan) → AllFollow φ p states.old.value.items states.new.value.items }
+{
+    let all = share_all(alloc, &***states)?;
+    *states = Rc::new(alloc, all)?;
     Ok(())
 }
 

@@ -1,33 +1,38 @@
 -- Members of a collection are stepped one after another, each on the same input.
-use Rattle.std.proofs.Common.{◌≡◌, ℕ, suc, ◌+◌, ◌≤◌, ◌<◌, List, [], ◌∷◌, ◌++◌, length, take, drop, get_or, set, Vec, Result, Ok, Err, refl, sym, ap, ◌∙◌, subst, append_assoc, arith, map, drop-cons}
+use Rattle.std.proofs.Common.{◌≡◌, ℕ, suc, ◌+◌, ◌≤◌, ◌<◌, List, [], ◌∷◌, ◌++◌, length, take, drop, get_or, set, Bool, true, false, Option, Some, None, Vec, Result, Ok, Err, refl, sym, ap, ◌∙◌, subst, append_assoc, arith, drop-cons}
 use mathlib.Core.Path.{ap₂}
 use Rattle.std.proofs.lemmas.List.{drop-set-lt, take_more_set, append-nil}
 use Rattle.std.proofs.Math.Seq.{take-length, drop-length}
+use Rattle.std.specs.Prelude.{IsErr}
 use Rattle.std.specs.declared.alloc.Global.{Global}
-use Rattle.std.specs.declared.rc.Rc.{Rc}
+use Rattle.sf_value.specs.declared.value.Value.{Value}
 use Rattle.sf_value.specs.Values.{KeyData, Data, table}
-use Rattle.sf_value.specs.declared.value.Key.{Key}
 use Rattle.sf_value.specs.declared.fault.Fault.{Fault}
 use Rattle.sf_value.specs.declared.fault.Fault.TheVariants.{Memory}
 use Rattle.sf_func.specs.Registries.{AnswersByName}
 use Rattle.sf_term.specs.Trees.{Collection, gathered}
 use Rattle.sf_mean.specs.Collections.{with_row}
-use Rattle.sf_mean.specs.Lives.{Step, step, Life, Process, Environment, Members, member, first_input}
+use Rattle.sf_mean.specs.Lives.{Step, step, Life, Process, frozen, Environment, Members, member, first_input}
 use Rattle.sf_mean.specs.Meaning.{Network, Outcome, gave, faulted, combined, Cost, no_cost, both_costs, members_made, Gives, gives, and_gave, of_form, Form, of_gathered, Each, no_more, one_more, Others, others_go_on, others_stop, Tables, and_table}
+use Rattle.sf_mean.proofs.Once.{once_each}
 use Rattle.sf_law.specs.declared.plan.Plan.{Plan}
 use Rattle.sf_law.specs.Arena.{network_of_plan}
 use Rattle.sf_state.specs.declared.state.State.{State}
-use Rattle.sf_state.specs.declared.state.Live.{Live}
+use Rattle.sf_state.specs.declared.state.State.TheVariants.{Unborn', Primitive as SPrimitive, Live' as Alive', Switch' as Watching', Keeping', Gathering', Frozen'}
+use Rattle.sf_parts.specs.Beginning.{is_awake}
+use Rattle.sf_state.specs.declared.state.Live.{Live, items_hidden-the_row-State-0 as states_are}
 use Rattle.sf_state.specs.declared.state.Live.TheVariants.{Gathered as LGathered}
-use Rattle.sf_value.specs.View.{key_of}
-use Rattle.sf_state.specs.Standing.{Ready, ready, Lives, lives_gathered, gathers, settles, Gathers, EachStands, none_stands, one_stands}
-use Rattle.sf_state.proofs.Copies.{gathers_where, each_where}
+use Rattle.sf_state.specs.declared.state.Gathered.{Gathered}
+use Rattle.sf_state.specs.Held.{held_in}
+use Rattle.sf_state.specs.Standing.{Stands, Ready, ready, lives_gathered, gathers, settles, Gathers, EachStands, none_stands, one_stands, StandsAmong, as_it_stands, as_it_stood, AllFollow}
+use Rattle.sf_state.proofs.Copies.{each_follows, held_shown, members_live, IsFresh, HasLived, primitive_lived, alive_lived, watching_lived, keeping_lived, gathering_lived, unborn_fresh, frozen_fresh}
 use Rattle.sf_parts.specs.declared.meter.Meter.{Meter}
 use Rattle.sf_parts.specs.Meters.{entered_of, height_of}
 use Rattle.sf_parts.specs.Tables.{rows_under}
 use Rattle.sf_parts.specs.Answering.{Rel, Ticks, StopsFor, memory, Answers, answers, fails, LiveSteps, left_or}
-use Rattle.sf_step.specs.Sampling.{StateSteps, MembersSteps}
-use Rattle.sf_step.proofs.Parts.{Over, counted, Then, then_on, then_stop, Alike, over_spent, both_spent, fails_alike, over_fails, then_fails, rest_fails, answered, failed}
+use Rattle.sf_step.specs.Sampling.{PartSteps, StateSteps, MemberSteps, EachSteps, MembersSteps, left_with}
+use Rattle.sf_step.proofs.Turning.{gone_on}
+use Rattle.sf_step.proofs.Parts.{Over, counted, single, spent_within, Then, then_on, then_stop, Alike, over_spent, both_spent, fails_alike, over_fails, then_fails, rest_fails, answered, failed}
 use Rattle.sf_step.proofs.Forms.{single_gives, form_alike}
 use Rattle.sf_state.specs.Standing.{keys_in}
 
@@ -61,14 +66,13 @@ module _ (n : Network) where
   gathered_alike : {i : Collection} {e : Environment} {ms : Members} {s : Step} {L : Life} → Alike (Over (Each n ms s L)) (Form n (gathered i) e (members_made ms) s L)
   gathered_alike = record { to = gathered_to; back = gathered_back }
 
-module _ (φ : AnswersByName) (p : Plan) where
+module _ (φ : AnswersByName) (p : Plan) (w : Option ℕ) where
   abbrev net : Network
   net = network_of_plan φ p
 
-  -- states step as the members do for which they stand, to values in their order
-  abbrev pub EachSteps : List State → ℕ → Data → Result (List State × List Data) Fault → Meter → Meter → ℕ → Type 0
-  EachSteps bs d x r m n inside = inside ≤ height_of m → (ms : Members) (L : Life) → EachStands φ p bs ms L
-      → Answers (λ y. table (rows_under (keys_in ms) y.1)) (λ y. EachStands φ p y.0 ms (step d x ∷ L)) (Each net ms (step d x) L) r m n inside
+  -- states, which run or wait so long, step as the members do for which they stand, to values in their order
+  abbrev EachAt : List State → ℕ → Data → Result (List State × List Data) Fault → Meter → Meter → ℕ → Type 0
+  EachAt bs d x r m n inside = EachSteps φ p w bs (step d x) r m n inside
 
   -- what those that are left answer, behind those that are done
   abbrev pub behind : List State → List Data → Result (List State × List Data) Fault → Result (List State × List Data) Fault
@@ -76,25 +80,30 @@ module _ (φ : AnswersByName) (p : Plan) where
   behind done ys (Err f) = Err f
 
   -- none are left
-  nobody_steps : (d : ℕ) (x : Data) (n : Meter) (inside : ℕ) → EachSteps [] d x (Ok ([], [])) n n inside
+  nobody_steps : (d : ℕ) (x : Data) (n : Meter) (inside : ℕ) → EachAt [] d x (Ok ([], [])) n n inside
   nobody_steps d x n inside low ms L none_stands = answers no_more (record { entered = omega arith; high = omega (arith, low); recorded = sym (append-nil _) }) none_stands
 
   -- memory runs out before the next one
-  pub memory_now : (bs : List State) (d : ℕ) (x : Data) (n n2 : Meter) (inside : ℕ) → entered_of n2 ≡ entered_of n → height_of n2 ≡ height_of n → EachSteps bs d x (Err Memory) n n2 inside
+  pub memory_now : (bs : List State) (d : ℕ) (x : Data) (n n2 : Meter) (inside : ℕ) → entered_of n2 ≡ entered_of n → height_of n2 ≡ height_of n → EachAt bs d x (Err Memory) n n2 inside
   memory_now bs d x n n2 inside en hn low ms L S = fails (memory (record { most = λ o k G. record { entered = omega (arith, en); high = omega (arith, hn) } }))
+
+  -- a want of memory is the fault, in the list that was stepped
+  pub stopped_at : {bs cs : List State} {d : ℕ} {x : Data} {f : Fault} {m n : Meter} {inside : ℕ} → bs ≡ cs → f ≡ Memory → EachAt bs d x (Err Memory) m n inside → EachAt cs d x (Err f) m n inside
+  stopped_at {bs} {cs} {d} {x} {f} {m} {n} {inside} same e h =
+      subst (λ (f : Fault). EachAt cs d x (Err f) m n inside) (sym e) (subst (λ (bs : List State). EachAt bs d x (Err Memory) m n inside) same h)
 
   module _ (a : State) (d : ℕ) (x : Data) (m n : Meter) (inside : ℕ) where
     -- the next one fails
-    one_fails : (bs : List State) (f : Fault) → StateSteps φ p a (step d x) (Err f) m n inside → EachSteps (a ∷ bs) d x (Err f) m n inside
+    one_fails : (bs : List State) (f : Fault) → MemberSteps φ p w a (step d x) (Err f) m n inside → EachAt (a ∷ bs) d x (Err f) m n inside
     one_fails bs f hs low ms L (one_stands {k = k} {P = P} {ms = qs} A S) = fails (fails_alike (members_alike net k P qs (step d x) L) (then_fails (failed (hs _ _ A))))
 
     -- it steps, and then the others
-    one_steps : (a' : State) (y : Data) → StateSteps φ p a (step d x) (Ok (a', y)) m n inside → (n' : Meter) (bs : List State) (r : Result (List State × List Data) Fault)
-        → EachSteps bs d x r n n' inside → EachSteps (a ∷ bs) d x (behind (a' ∷ []) (y ∷ []) r) m n' inside
+    one_steps : (a' : State) (y : Data) → MemberSteps φ p w a (step d x) (Ok (a', y)) m n inside → (n' : Meter) (bs : List State) (r : Result (List State × List Data) Fault)
+        → EachAt bs d x r n n' inside → EachAt (a ∷ bs) d x (behind (a' ∷ []) (y ∷ []) r) m n' inside
     one_steps a' y hs n' bs (Ok z) h low ms L (one_stands {k = k} {P = P} {ms = qs} A S) =
         let one = answered (hs _ _ A) in
         let two = answered (h (let i = one.spent.high in omega (arith, low)) _ _ S) in
-        answers (members_to net k P qs (step d x) L _ _ (then_on one.given two.given)) (both_spent one.spent two.spent) (one_stands one.holds two.holds)
+        answers (members_to net k P qs (step d x) L _ _ (then_on one.given two.given)) (both_spent one.spent two.spent) (one_stands (as_it_stands one.holds) two.holds)
     one_steps a' y hs n' bs (Err f) h low ms L (one_stands {k = k} {P = P} {ms = qs} A S) =
         let one = answered (hs _ _ A) in
         fails (fails_alike (members_alike net k P qs (step d x) L)
@@ -104,7 +113,7 @@ module _ (φ : AnswersByName) (p : Plan) where
 
   -- what those that are left answer is the answer of all, behind those that are done
   abbrev pub Continues : List State → ℕ → Data → Meter → List State → List Data → List State → Meter → ℕ → Type 0
-  Continues all d x m done ys left n inside = (r : Result (List State × List Data) Fault) (n' : Meter) → EachSteps left d x r n n' inside → EachSteps all d x (behind done ys r) m n' inside
+  Continues all d x m done ys left n inside = (r : Result (List State × List Data) Fault) (n' : Meter) → EachAt left d x r n n' inside → EachAt all d x (behind done ys r) m n' inside
 
   pub each_first : (bs : List State) (d : ℕ) (x : Data) (m : Meter) (inside : ℕ) → Continues bs d x m [] [] bs m inside
   each_first bs d x m inside (Ok y) n' h = h
@@ -124,70 +133,120 @@ module _ (φ : AnswersByName) (p : Plan) where
     left_is : drop i now ≡ a ∷ drop (i + 1) now
     left_is = left_from now i any short
 
-    pub each_next : (a' : State) (z : Data) (n' : Meter) → StateSteps φ p a (step d x) (Ok (a', z)) n n' inside
+    pub each_next : (a' : State) (z : Data) (n' : Meter) → MemberSteps φ p w a (step d x) (Ok (a', z)) n n' inside
         → Continues all d x m (take (i + 1) (set now i a')) (ys ++ z ∷ []) (drop (i + 1) (set now i a')) n' inside
     each_next a' z n' hs r k h =
         let rest_same = drop-set-lt (i + 1) now i a' (omega arith) in
-        let one = one_steps a d x n n' inside a' z hs k (drop (i + 1) now) r (subst (λ (bs : List State). EachSteps bs d x r n' k inside) rest_same h) in
-        let two = c (behind (a' ∷ []) (z ∷ []) r) k (subst (λ (bs : List State). EachSteps bs d x (behind (a' ∷ []) (z ∷ []) r) n k inside) (sym left_is) one) in
-        subst (λ r. EachSteps all d x r m k inside) (behind_one (take i now) ys a' z r ∙ ap (λ (bs : List State). behind bs (ys ++ z ∷ []) r) (sym (take_more_set now i a' short))) two
+        let one = one_steps a d x n n' inside a' z hs k (drop (i + 1) now) r (subst (λ (bs : List State). EachAt bs d x r n' k inside) rest_same h) in
+        let two = c (behind (a' ∷ []) (z ∷ []) r) k (subst (λ (bs : List State). EachAt bs d x (behind (a' ∷ []) (z ∷ []) r) n k inside) (sym left_is) one) in
+        subst (λ r. EachAt all d x r m k inside) (behind_one (take i now) ys a' z r ∙ ap (λ (bs : List State). behind bs (ys ++ z ∷ []) r) (sym (take_more_set now i a' short))) two
 
-    pub each_fails : (f : Fault) (n' : Meter) → StateSteps φ p a (step d x) (Err f) n n' inside → EachSteps all d x (Err f) m n' inside
-    each_fails f n' hs = c (Err f) n' (subst (λ (bs : List State). EachSteps bs d x (Err f) n n' inside) (sym left_is) (one_fails a d x n n' inside (drop (i + 1) now) f hs))
+    pub each_fails : (f : Fault) (n' : Meter) → MemberSteps φ p w a (step d x) (Err f) n n' inside → EachAt all d x (Err f) m n' inside
+    each_fails f n' hs = c (Err f) n' (subst (λ (bs : List State). EachAt bs d x (Err f) n n' inside) (sym left_is) (one_fails a d x n n' inside (drop (i + 1) now) f hs))
 
   -- memory runs out between members, or after them
   pub each_memory : (all : List State) (d : ℕ) (x : Data) (m : Meter) (done : List State) (ys : List Data) (left : List State) (n n2 : Meter) (inside : ℕ) → Continues all d x m done ys left n inside
-      → entered_of n2 ≡ entered_of n → height_of n2 ≡ height_of n → EachSteps all d x (Err Memory) m n2 inside
+      → entered_of n2 ≡ entered_of n → height_of n2 ≡ height_of n → EachAt all d x (Err Memory) m n2 inside
   each_memory all d x m done ys left n n2 inside c en hn = c (Err Memory) n2 (memory_now left d x n n2 inside en hn)
 
   -- all are done
-  pub each_last : (all : List State) (d : ℕ) (x : Data) (m : Meter) (now : List State) (i : ℕ) (ys : List Data) (n : Meter) (inside : ℕ) → i ≡ length now → Continues all d x m (take i now) ys (drop i now) n inside → EachSteps all d x (Ok (now, ys)) m n inside
+  pub each_last : (all : List State) (d : ℕ) (x : Data) (m : Meter) (now : List State) (i : ℕ) (ys : List Data) (n : Meter) (inside : ℕ) → i ≡ length now → Continues all d x m (take i now) ys (drop i now) n inside → EachAt all d x (Ok (now, ys)) m n inside
   each_last all d x m now i ys n inside e c =
       let none : drop i now ≡ [] = ap (λ k. drop k now) e ∙ drop-length now in
       let done : take i now ≡ now = ap (λ k. take k now) e ∙ take-length now in
-      let last = c (Ok ([], [])) n (subst (λ (bs : List State). EachSteps bs d x (Ok ([], [])) n n inside) (sym none) (nobody_steps d x n inside)) in
-      subst (λ (r : List State × List Data). EachSteps all d x (Ok r) m n inside) (ap₂ (λ (bs : List State) (ws : List Data). (bs, ws)) (append-nil (take i now) ∙ done) (append-nil ys)) last
+      let last = c (Ok ([], [])) n (subst (λ (bs : List State). EachAt bs d x (Ok ([], [])) n n inside) (sym none) (nobody_steps d x n inside)) in
+      subst (λ (r : List State × List Data). EachAt all d x (Ok r) m n inside) (ap₂ (λ (bs : List State) (ws : List Data). (bs, ws)) (append-nil (take i now) ∙ done) (append-nil ys)) last
 
-  -- ## Members under their keys
+-- ## Members that run, or wait
+
+-- a `?` that passes a failure on
+pub pass_with : {φ : AnswersByName} {p : Plan} {w : Option ℕ} {bs : List State} {s : Step} {E : Type 0} {m n : Meter} {inside : ℕ} {f : Fault} (r : Result (Vec Value Global) E) (cs : List State) → IsErr r
+    → EachSteps φ p w bs s (Err f) m n inside → EachSteps φ p w bs s (left_with r cs f) m n inside
+pass_with (Ok ys) cs e h = absurd cc
+pass_with (Err q) cs e h = h
+
+module _ (φ : AnswersByName) (p : Plan) where
+  -- states step as those that stand for all that they stand for
+  pub list_alike : {w : Option ℕ} {bs cs : List State} {s : Step} {r : Result (List State × List Data) Fault} {m n : Meter} {inside : ℕ} → AllFollow φ p bs cs → EachSteps φ p w cs s r m n inside → EachSteps φ p w bs s r m n inside
+  list_alike fs h low ms L S = h low ms L (each_follows φ p fs S)
+
+  -- what is awake has lived, and what isn't hasn't
+  pub awake_lived : (a : State) → is_awake a ≡ true → HasLived φ p a
+  awake_lived (Unborn' t names) e = absurd cc
+  awake_lived (SPrimitive i) e = primitive_lived φ p i
+  awake_lived (Alive' names at l) e = alive_lived φ p names l
+  awake_lived (Watching' names at w a q b) e = watching_lived φ p names (record { form = w; running = a; pattern = q; body = b })
+  awake_lived (Keeping' names at w f a x o k q b) e = keeping_lived φ p names (record { shown = w; first = f; source = a; before = x; observer = o; name = k; pattern = q; body = b })
+  awake_lived (Gathering' names at g) e = gathering_lived φ p names g
+  awake_lived (Frozen' at d names k) e = absurd cc
+
+  pub asleep_fresh : (a : State) → is_awake a ≡ false → IsFresh φ p a
+  asleep_fresh (Unborn' t names) e = unborn_fresh φ p (record { term = t; names = names })
+  asleep_fresh (SPrimitive i) e = absurd cc
+  asleep_fresh (Alive' names at l) e = absurd cc
+  asleep_fresh (Watching' names at w a q b) e = absurd cc
+  asleep_fresh (Keeping' names at w f a x o k q b) e = absurd cc
+  asleep_fresh (Gathering' names at g) e = absurd cc
+  asleep_fresh (Frozen' at d names k) e = frozen_fresh φ p d names k
+
+  -- one that runs steps as a state
+  pub runs_among : (a : State) (s : Step) (r : Result (State × Data) Fault) (m n : Meter) (inside : ℕ) → StateSteps φ p a s r m n inside → MemberSteps φ p None a s r m n inside
+  runs_among a s r m n inside h P L (as_it_stands A) = h P L A
+
+  -- one that waits and hadn't lived begins
+  pub begins_among : (a : State) (wait d : ℕ) (x : Data) (r : Result (State × Data) Fault) (m n : Meter) (inside : ℕ) → IsFresh φ p a → StateSteps φ p a (step d x) r m n inside → MemberSteps φ p (Some wait) a (step d x) r m n inside
+  begins_among a wait d x r m n inside fresh h P L (as_it_stood {Q = Q} {M = M} A e) = by M A e
+    where
+      by : (M : Life) → Stands φ p a Q M → P ≡ frozen Q M wait → PartSteps φ p P [] (step d x) r m n inside
+      by [] A e = subst (λ P. PartSteps φ p P [] (step d x) r m n inside) (sym e) (h Q [] A)
+      by (s ∷ M) A e = let none = fresh Q (s ∷ M) A in absurd cc
+
+  -- one that waits and had lived goes on in its own time
+  pub goes_on_among : (a : State) (wait d : ℕ) (x : Data) (r : Result (State × Data) Fault) (m n : Meter) (inside : ℕ) → HasLived φ p a → StateSteps φ p a (step wait x) r m n inside → MemberSteps φ p (Some wait) a (step d x) r m n inside
+  goes_on_among a wait d x r m n inside lived h P L (as_it_stood {Q = Q} {M = M} A e) = by M A e
+    where
+      by : (M : Life) → Stands φ p a Q M → P ≡ frozen Q M wait → PartSteps φ p P [] (step d x) r m n inside
+      by [] A e = let one = lived Q [] A in absurd cc
+      by (s ∷ M) A e = subst (λ P. PartSteps φ p P [] (step d x) r m n inside) (sym e) (gone_on φ p (h Q (s ∷ M) A))
 
   -- a collection steps as its states do
-  pub members_step : (keys : Rc (Vec Key Global) Global) (v w : Vec State Global) (d : ℕ) (x : Data) (m n : Meter) (inside : ℕ) (ys : List Data) (y : Data) → y ≡ table (rows_under (map key_of keys.value.items) ys)
-      → EachSteps v.items d x (Ok (w.items, ys)) m n inside → MembersSteps φ p (LGathered keys v) (step d x) (Ok (LGathered keys w, y)) m n inside
-  members_step keys v w d x m n inside ys y same hs low ms L G =
-      let E = each_where φ p keys v G in
-      let one = answered (hs low ms L E.1) in
-      let value : y ≡ table (rows_under (keys_in ms) ys) = same ∙ ap (λ ks. table (rows_under ks ys)) E.0 in
-      answers (subst (λ v. Each net ms (step d x) L (gave v one.r) one.k) (sym value) one.given) one.spent (gathers_where φ p keys w E.0 one.holds)
+  pub members_step : (g h : Gathered) (d : ℕ) (x : Data) (m n : Meter) (inside : ℕ) (ys : List Data) (y : Data) → y ≡ table (rows_under g.keys.value ys) → h.keys.value ≡ g.keys.value → h.wait ≡ None
+      → EachSteps φ p g.wait g.states.value.items (step d x) (Ok (h.states.value.items, ys)) m n inside → MembersSteps φ p g (step d x) (Ok (h, y)) m n inside
+  members_step g h d x m n inside ys y same keys runs hs low ms L (gathers K S) =
+      let one = answered (hs low ms L S) in
+      let value : y ≡ table (rows_under (keys_in ms) ys) = same ∙ ap (λ ks. table (rows_under ks ys)) K in
+      answers (subst (λ v. Each (network_of_plan φ p) ms (step d x) L (gave v one.r) one.k) (sym value) one.given) one.spent
+      (gathers (keys ∙ K) (subst (λ v. EachStands φ p v h.states.value.items ms (step d x ∷ L)) (sym runs) one.holds))
 
-  pub members_fail : (keys : Rc (Vec Key Global) Global) (v : Vec State Global) (d : ℕ) (x : Data) (m n : Meter) (inside : ℕ) (f : Fault) → EachSteps v.items d x (Err f) m n inside
-      → inside ≤ height_of m → (ms : Members) (L : Life) → Gathers φ p (LGathered keys v) ms L → StopsFor (Each net ms (step d x) L) f m n inside
-  members_fail keys v d x m n inside f hs low ms L G = failed (hs low ms L (each_where φ p keys v G).1)
+  pub members_fail : (g : Gathered) (d : ℕ) (x : Data) (m n : Meter) (inside : ℕ) (f : Fault) → EachSteps φ p g.wait g.states.value.items (step d x) (Err f) m n inside
+      → inside ≤ height_of m → (ms : Members) (L : Life) → Gathers φ p (held_in g) ms L → StopsFor (Each (network_of_plan φ p) ms (step d x) L) f m n inside
+  members_fail g d x m n inside f hs low ms L (gathers K S) = failed (hs low ms L S)
 
-  -- memory runs out while they step
-  pub members_end : (keys : Rc (Vec Key Global) Global) (v : Vec State Global) (d : ℕ) (x : Data) (m n : Meter) (inside : ℕ) {bs : List State} → bs ≡ v.items → {f : Fault} → f ≡ Memory → EachSteps bs d x (Err Memory) m n inside
-      → MembersSteps φ p (LGathered keys v) (step d x) (Err f) m n inside
-  members_end keys v d x m n inside same {f} e h = λ low ms L G. fails (members_fail keys v d x m n inside f (subst (λ (f : Fault). EachSteps v.items d x (Err f) m n inside) (sym e) (subst (λ (bs : List State). EachSteps bs d x (Err Memory) m n inside) same h)) low ms L G)
+  -- memory runs out for their table
+  pub members_end : (g : Gathered) (d : ℕ) (x : Data) (m n n2 : Meter) (inside : ℕ) (cs : List State) (ys : List Data) {f : Fault} → f ≡ Memory → entered_of n2 ≡ entered_of n → height_of n2 ≡ height_of n
+      → EachSteps φ p g.wait g.states.value.items (step d x) (Ok (cs, ys)) m n inside → MembersSteps φ p g (step d x) (Err f) m n2 inside
+  members_end g d x m n n2 inside cs ys e en hn hs low ms L (gathers K S) =
+      let one = answered (hs low ms L S) in
+      let single_each = single (λ a b j k G H. once_each (network_of_plan φ p) G H) in
+      fails (subst (λ (f : Fault). StopsFor (Each (network_of_plan φ p) ms (step d x) L) f m n2 inside) (sym e) (memory (spent_within single_each one.given one.spent en hn)))
 
   -- the height counts the nodes around
   pub ticked_low : {m n : Meter} {depth inside : ℕ} → Ticks m n depth inside → inside ≤ height_of n
   ticked_low T = let h = T.high in omega (arith, h)
 
-  lives_where : {l : Live} {i : Collection} {e : Environment} {ms : Members} {L : Life} {ys : List Data} → Tables net ms L ys → Gathers φ p l ms L → Lives φ p l (gathered i) e (members_made ms) L
-  lives_where Y (gathers K S) = lives_gathered Y (gathers K S)
-
-  module _ (keys : Rc (Vec Key Global) Global) (v : Vec State Global) (d : ℕ) (x : Data) (n n' : Meter) (inside : ℕ) where
+  module _ (g : Gathered) (d : ℕ) (x : Data) (n n' : Meter) (inside : ℕ) where
     -- `parB` steps as its members do
-    pub gathered_steps : (l : Live) (y : Data) → MembersSteps φ p (LGathered keys v) (step d x) (Ok (l, y)) n n' inside → LiveSteps φ p (LGathered keys v) (step d x) (Ok (l, y)) n n' inside
-    gathered_steps l y hs m depth T P L (ready h O (lives_gathered {ms = ms} Y G)) =
-        let one = answered (hs (ticked_low T) ms L G) in
-        let E : Each net ms (step d x) L (gave y one.r) one.k = one.given in
-        answers (gives O (of_form h (of_gathered E))) (over_spent T one.spent) (settles (ready h (and_gave O (of_form h (of_gathered E))) (lives_where (and_table Y E) one.holds)))
+    pub gathered_steps : (h : Gathered) (y : Data) → MembersSteps φ p g (step d x) (Ok (h, y)) n n' inside → LiveSteps φ p (LGathered g) (step d x) (Ok (LGathered h, y)) n n' inside
+    gathered_steps h y hs m depth T P L (ready r O (lives_gathered {ms = ms} Y G)) =
+        let one = answered (hs (ticked_low T) ms L (held_shown φ p g (states_are g.states.value) G)) in
+        let E : Each (network_of_plan φ p) ms (step d x) L (gave y one.r) one.k = one.given in
+        answers (gives O (of_form r (of_gathered E))) (over_spent T one.spent) (settles (ready r (and_gave O (of_form r (of_gathered E))) (members_live φ p h (and_table Y E) one.holds)))
 
-    pub gathered_fails : (f : Fault) → MembersSteps φ p (LGathered keys v) (step d x) (Err f) n n' inside
-        → (m : Meter) (depth : ℕ) → Ticks m n depth inside → (P : Process) (L : Life) → Ready φ p (LGathered keys v) P (first_input (step d x) L) L → StopsFor (Gives net P (step d x ∷ L)) f m n' depth
-    gathered_fails f hs m depth T P L (ready h O (lives_gathered {ms = ms} Y G)) =
-        fails_alike (form_alike net (step d x) L h O) (fails_alike (gathered_alike net) (over_fails T (failed (hs (ticked_low T) ms L G))))
+    pub gathered_fails : (f : Fault) → MembersSteps φ p g (step d x) (Err f) n n' inside
+        → (m : Meter) (depth : ℕ) → Ticks m n depth inside → (P : Process) (L : Life) → Ready φ p (LGathered g) P (first_input (step d x) L) L → StopsFor (Gives (network_of_plan φ p) P (step d x ∷ L)) f m n' depth
+    gathered_fails f hs m depth T P L (ready r O (lives_gathered {ms = ms} Y G)) =
+        fails_alike (form_alike (network_of_plan φ p) (step d x) L r O) (fails_alike (gathered_alike (network_of_plan φ p)) (over_fails T (failed (hs (ticked_low T) ms L (held_shown φ p g (states_are g.states.value) G)))))
 
-    pub gathered_so : {A E : Type 0} (r : Result A E) (b : Live × Data) (f : Fault) → MembersSteps φ p (LGathered keys v) (step d x) (left_or r b f) n n' inside → LiveSteps φ p (LGathered keys v) (step d x) (left_or r b f) n n' inside
-    gathered_so (Ok a) b f hs = gathered_steps b.0 b.1 hs
-    gathered_so (Err q) b f hs = λ m depth T P L R. fails (gathered_fails f hs m depth T P L R)
+    pub gathered_so : {A E : Type 0} (r : Result A E) (h : Gathered) (y : Data) (f : Fault) → MembersSteps φ p g (step d x) (left_or r (h, y) f) n n' inside → LiveSteps φ p (LGathered g) (step d x) (left_or r (LGathered h, y) f) n n' inside
+    gathered_so (Ok a) h y f hs = gathered_steps h y hs
+    gathered_so (Err q) h y f hs = λ m depth T P L R. fails (gathered_fails f hs m depth T P L R)

@@ -18,7 +18,10 @@ use Rattle.sf_mean.proofs.Once.{once_since, once_sees, once_tables, once_each}
 use Rattle.sf_law.specs.declared.plan.Plan.{Plan}
 use Rattle.sf_law.specs.Arena.{plan_tree, plan_expressions, network_of_plan}
 use Rattle.sf_state.specs.declared.state.State.{State}
-use Rattle.sf_state.specs.declared.state.Live.{Live}
+use Rattle.sf_state.specs.declared.state.Live.{items_hidden-the_row-State-0 as states_are}
+use Rattle.sf_state.specs.declared.state.Gathered.{Gathered}
+use Rattle.sf_state.specs.Held.{held_in}
+use Rattle.sf_state.proofs.Copies.{held_shown, held_hidden}
 use Rattle.sf_state.specs.declared.state.Gathering.{Gathering}
 use Rattle.sf_state.specs.declared.state.Gathering.TheVariants.{Releasing}
 use Rattle.sf_state.specs.declared.state.Releasing.{Releasing as ReleasingNode}
@@ -75,8 +78,8 @@ module _ (φ : AnswersByName) (p : Plan) where
     releasing_alike = record { to = seen_to; back = seen_back }
 
   -- members step as those that stand for all that they stand for
-  pub run_alike : {a b : Live} {s : Step} {r : Result (Live × Data) Fault} {m n : Meter} {inside : ℕ} → ((ms : Members) (L : Life) → Gathers φ p a ms L → Gathers φ p b ms L) → MembersSteps φ p b s r m n inside → MembersSteps φ p a s r m n inside
-  run_alike f h low ms L G = h low ms L (f ms L G)
+  pub run_alike : (a b : Gathered) {s : Step} {r : Result (Gathered × Data) Fault} {m n : Meter} {inside : ℕ} → ((ms : Members) (L : Life) → Gathers φ p (held_in a) ms L → Gathers φ p (held_in b) ms L) → MembersSteps φ p b s r m n inside → MembersSteps φ p a s r m n inside
+  run_alike a b f h low ms L G = h low ms L (f ms L G)
 
   -- ## A step of members that wait under an observer
 
@@ -96,14 +99,14 @@ module _ (φ : AnswersByName) (p : Plan) where
     -- its members fail
     pub members_stop : (f : Fault) → MembersSteps φ p k.members (step d x) (Err f) n n1 inside
         → (m : Meter) (depth : ℕ) → Ticks m n depth inside → (t : Term) (e : Environment) (L : Life) → IsNames φ p names e → WaitsGathered φ p (Releasing k) (closure t e) L → StopsFor (Gives net (closure t e) (step d x ∷ L)) f m n1 depth
-    members_stop f hs m depth T t e L N (releases_so j S O Y G B) = part_fails T j S O Y (then_fails (then_fails (failed (hs (ticked_low φ p T) _ _ G))))
+    members_stop f hs m depth T t e L N (releases_so j S O Y G B) = part_fails T j S O Y (then_fails (then_fails (failed (hs (ticked_low φ p T) _ _ (held_shown φ p k.members (states_are k.members.states.value) G)))))
 
-    module _ (a : Live) (y : Data) (hs : MembersSteps φ p k.members (step d x) (Ok (a, y)) n n1 inside) where
+    module _ (a : Gathered) (y : Data) (hs : MembersSteps φ p k.members (step d x) (Ok (a, y)) n n1 inside) where
       -- memory runs out after its members were stepped
       pub members_memory : (n2 : Meter) → entered_of n2 ≡ entered_of n1 → height_of n2 ≡ height_of n1
           → (m : Meter) (depth : ℕ) → Ticks m n depth inside → (t : Term) (e : Environment) (L : Life) → IsNames φ p names e → WaitsGathered φ p (Releasing k) (closure t e) L → Within (Gives net (closure t e) (step d x ∷ L)) m n2 depth
       members_memory n2 en hn m depth T t e L N (releases_so {ms = ms} j S O Y G B) =
-          let one = answered (hs (ticked_low φ p T) _ _ G) in
+          let one = answered (hs (ticked_low φ p T) _ _ (held_shown φ p k.members (states_are k.members.states.value) G)) in
           part_within T j S O Y (then_within (spent_within (single_each ms _ _) one.given one.spent en hn))
 
       module _ (v : Data) (ev : v ≡ pair x y) (n2 : Meter) where
@@ -114,7 +117,7 @@ module _ (φ : AnswersByName) (p : Plan) where
         pub sight_fails : (f : Fault) → StateSteps φ p k.observer (step d v) (Err f) n1 n2 inside
             → (m : Meter) (depth : ℕ) → Ticks m n depth inside → (t : Term) (e : Environment) (L : Life) → IsNames φ p names e → WaitsGathered φ p (Releasing k) (closure t e) L → StopsFor (Gives net (closure t e) (step d x ∷ L)) f m n2 depth
         sight_fails f ho m depth T t e L N (releases_so {r = r} {ms = ms} {ys = ys} j S O Y G B) =
-            let one = answered (hs (ticked_low φ p T) _ _ G) in
+            let one = answered (hs (ticked_low φ p T) _ _ (held_shown φ p k.members (states_are k.members.states.value) G)) in
             part_fails T j S O Y (then_fails (rest_fails (λ z. Gives net (closure r e) (observed_life (step d x ∷ L) (z ∷ ys))) (single_each ms _ _) one.given one.spent (failed (on_both ho _ _ B))))
 
         module _ (o : State) (z : Data) (ho : StateSteps φ p k.observer (step d v) (Ok (o, z)) n1 n2 inside) where
@@ -122,15 +125,15 @@ module _ (φ : AnswersByName) (p : Plan) where
           pub sight_memory : (n3 : Meter) → entered_of n3 ≡ entered_of n2 → height_of n3 ≡ height_of n2
               → (m : Meter) (depth : ℕ) → Ticks m n depth inside → (t : Term) (e : Environment) (L : Life) → IsNames φ p names e → WaitsGathered φ p (Releasing k) (closure t e) L → Within (Gives net (closure t e) (step d x ∷ L)) m n3 depth
           sight_memory n3 en hn m depth T t e L N (releases_so j S O Y G B) =
-              let one = answered (hs (ticked_low φ p T) _ _ G) in
+              let one = answered (hs (ticked_low φ p T) _ _ (held_shown φ p k.members (states_are k.members.states.value) G)) in
               let two = answered (on_both ho _ _ B) in
               part_within T j S O Y (spent_within (single_both (step d x) L Y) (then_on one.given two.given) (both_spent one.spent two.spent) en hn)
 
           -- there is no event
-          pub members_go_on : occurring z ≡ None → (held : Live) (k' : ReleasingNode) → k' ≡ record { shown = k.shown; members = a; before = held; observer = o; name = k.name; pattern = k.pattern; body = k.body }
+          pub members_go_on : occurring z ≡ None → (held : Gathered) (k' : ReleasingNode) → k' ≡ record { shown = k.shown; members = a; before = held; observer = o; name = k.name; pattern = k.pattern; body = k.body }
               → GatheringSteps φ p names (Releasing k) (step d x) (Ok ((None, Releasing k'), y)) n n2 inside
           members_go_on none held k' ek m depth T t e L N (releases_so {i = i} {r = r} {ms = ms} j S O Y G B) =
-              let one = answered (hs (ticked_low φ p T) _ _ G) in
+              let one = answered (hs (ticked_low φ p T) _ _ (held_shown φ p k.members (states_are k.members.states.value) G)) in
               let two = answered (on_both ho _ _ B) in
               let c = name_at (plan_expressions p) k.name in
               let q = pattern_of (placed_at (plan_expressions p) k.pattern) in
@@ -142,10 +145,10 @@ module _ (φ : AnswersByName) (p : Plan) where
               let M = of_form (ap (as_members φ p) j) F in
               answers (gives O M) (over_spent T (no_more_spent (both_spent one.spent two.spent)))
               (subst (λ (k' : ReleasingNode). WaitsGathered φ p (Releasing k') (closure (releasing k.shown i r c q u) e) (step d x ∷ L)) (sym ek)
-              (releases_so j (watched S seen (ap (stands_after b (step d x) L) none)) (and_gave O M) (and_table Y one.given) one.holds two.holds))
+              (releases_so j (watched S seen (ap (stands_after b (step d x) L) none)) (and_gave O M) (and_table Y one.given) (held_hidden φ p a (states_are a.states.value) one.holds) two.holds))
 
           module _ (i : Data) (some : occurring z ≡ Some i) (b0 : State)
-              (ha : (e : Environment) (ms : Members) (L : Life) → IsNames φ p names e → Gathers φ p k.members ms L
+              (ha : (e : Environment) (ms : Members) (L : Life) → IsNames φ p names e → Gathers φ p (held_in k.members) ms L
               → Stands φ p b0 (closure (plan_tree p k.body) (bind (pattern_of (placed_at (plan_expressions p) k.pattern)) i (collected (name_at (plan_expressions p) k.name) (each_frozen ms L d) e))) [])
               (j0 : Data) (ej : j0 ≡ x) (n3 : Meter) where
             on_input : {r : Result (State × Data) Fault} → StateSteps φ p b0 (step d j0) r n2 n3 inside → StateSteps φ p b0 (step d x) r n2 n3 inside
@@ -155,19 +158,19 @@ module _ (φ : AnswersByName) (p : Plan) where
             pub released_body_fails : (f : Fault) → StateSteps φ p b0 (step d j0) (Err f) n2 n3 inside
                 → (m : Meter) (depth : ℕ) → Ticks m n depth inside → (t : Term) (e : Environment) (L : Life) → IsNames φ p names e → WaitsGathered φ p (Releasing k) (closure t e) L → StopsFor (Gives net (closure t e) (step d x ∷ L)) f m n3 depth
             released_body_fails f hb m depth T t e L N (releases_so {ms = ms} j S O Y G B) =
-                let one = answered (hs (ticked_low φ p T) _ _ G) in
+                let one = answered (hs (ticked_low φ p T) _ _ (held_shown φ p k.members (states_are k.members.states.value) G)) in
                 let two = answered (on_both ho _ _ B) in
                 let b = body_with_members (name_at (plan_expressions p) k.name) ms (pattern_of (placed_at (plan_expressions p) k.pattern)) (plan_tree p k.body) e (step d x) L in
-                let H = fails_alike (way_alike φ p b (step d x) y i (occurring z) some) (failed (on_input hb _ [] (ha e _ _ N G))) in
+                let H = fails_alike (way_alike φ p b (step d x) y i (occurring z) some) (failed (on_input hb _ [] (ha e _ _ N (held_shown φ p k.members (states_are k.members.states.value) G)))) in
                 part_fails T j S O Y (rest_fails (λ y. Beside φ p b (step d x) (first_of y) (occurring (second_of y))) (single_both (step d x) L Y) (then_on one.given two.given) (both_spent one.spent two.spent) H)
 
             -- the body takes over
             pub released_body_takes_over : (b : State) (w g : Data) → g ≡ switched_value k.shown y w → (k' : Gathering) → StateSteps φ p b0 (step d j0) (Ok (b, w)) n2 n3 inside
                 → GatheringSteps φ p names (Releasing k) (step d x) (Ok ((Some b, k'), g)) n n3 inside
             released_body_takes_over b w g eg k' hb m depth T t e L N (releases_so {i = i0} {r = r} {ms = ms} j S O Y G B) =
-                let one = answered (hs (ticked_low φ p T) _ _ G) in
+                let one = answered (hs (ticked_low φ p T) _ _ (held_shown φ p k.members (states_are k.members.states.value) G)) in
                 let two = answered (on_both ho _ _ B) in
-                let three = answered (on_input hb _ [] (ha e _ _ N G)) in
+                let three = answered (on_input hb _ [] (ha e _ _ N (held_shown φ p k.members (states_are k.members.states.value) G))) in
                 let c = name_at (plan_expressions p) k.name in
                 let q = pattern_of (placed_at (plan_expressions p) k.pattern) in
                 let u = plan_tree p k.body in

@@ -15,7 +15,7 @@ use Rattle.sf_func.specs.Registries.{AnswersByName}
 use Rattle.sf_law.specs.declared.plan.Plan.{Plan}
 use Rattle.sf_law.specs.Arena.{network_of_plan}
 use Rattle.sf_state.specs.declared.state.State.{State}
-use Rattle.sf_state.specs.declared.state.Live.{items_hidden-the_row-State-1}
+use Rattle.sf_state.specs.declared.state.Live.{items_hidden-the_row-State-0}
 use Rattle.sf_state.specs.declared.state.Live.TheVariants.{Pipeline as LPipeline}
 use Rattle.sf_state.specs.Standing.{Stands, itself, took_over, unborn, recalling, recalls, alive, watching, waits_so, recurs_so, keeping_on, keeps_so, gathering_on, releases_so, edits_so, was_frozen, Turned, fired_to, kept_to, released_to, ran, went_on, was_alike, settles, Ready, ready, lives_pipeline, StagesStand, last_stands, stage_stands}
 use Rattle.sf_state.proofs.Copies.{pipeline_lives}
@@ -165,7 +165,7 @@ module _ (φ : AnswersByName) (p : Plan) where
     -- a pipeline steps as its stages do
     pub pipeline_steps : (w : Vec State Global) (y : Data) → StagesStep v.items d x (Ok (w.items, y)) n n' inside → LiveSteps φ p (LPipeline v) (step d x) (Ok (LPipeline w, y)) n n' inside
     pipeline_steps w y hs m depth t P L (ready {m = made} h O (lives_pipeline {f = f} {g = g} {e = e} S)) =
-        let T = stands_at v (items_hidden-the_row-State-1 v) S in
+        let T = stands_at v (items_hidden-the_row-State-0 v) S in
         let one = answered (stages_answer v.items d x _ n n' inside (staged rest f g) e L hs T) in
         let F = (pipeline_alike net {m = made} (step d x) L (stages_gave T).1).to _ _ (counted one.given) in
         answers (gives O (of_form h F)) (over_spent t one.spent) (settles (ready h (and_gave O (of_form h F)) (pipeline_lives φ p w one.holds)))
@@ -173,7 +173,7 @@ module _ (φ : AnswersByName) (p : Plan) where
     pub pipeline_fails : (f : Fault) → StagesStep v.items d x (Err f) n n' inside
         → (m : Meter) (depth : ℕ) → Ticks m n depth inside → (P : Process) (L : Life) → Ready φ p (LPipeline v) P (first_input (step d x) L) L → StopsFor (Gives net P (step d x ∷ L)) f m n' depth
     pipeline_fails q hs m depth t P L (ready {m = made} h O (lives_pipeline {f = f} {g = g} {e = e} S)) =
-        let T = stands_at v (items_hidden-the_row-State-1 v) S in
+        let T = stands_at v (items_hidden-the_row-State-0 v) S in
         fails_alike (form_alike net (step d x) L h O) (fails_alike (pipeline_alike net {m = made} (step d x) L (stages_gave T).1)
         (over_fails t (failed (stages_answer v.items d x _ n n' inside (staged rest f g) e L hs T))))
 

@@ -118,7 +118,7 @@ module _ (φ : AnswersByName) (p : Plan) where
 
   -- ## What was frozen goes on
 
-  gone_on : {Q : Process} {r0 : Step} {h : Life} {d w : ℕ} {x : Data} {r : Result (State × Data) Fault} {m n : Meter} {depth : ℕ} → PartSteps φ p Q (r0 ∷ h) (step d x) r m n depth → PartSteps φ p (resumed Q (r0 ∷ h) d) [] (step w x) r m n depth
+  pub gone_on : {Q : Process} {r0 : Step} {h : Life} {d w : ℕ} {x : Data} {r : Result (State × Data) Fault} {m n : Meter} {depth : ℕ} → PartSteps φ p Q (r0 ∷ h) (step d x) r m n depth → PartSteps φ p (resumed Q (r0 ∷ h) d) [] (step w x) r m n depth
   gone_on (answers G sp A) = answers (gives not_begun (of_resumed G)) sp (took_over (went_on (and_gave not_begun (of_resumed G))) A)
   gone_on (fails h) = fails (fails_alike (record { to = λ o k G. gives not_begun (of_resumed G); back = λ o k G. from_resumed G }) h)
 

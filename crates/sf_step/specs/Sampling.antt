@@ -1,6 +1,8 @@
 -- What the steps of a cycle answer: of states, of members, and of what waits for an event.
-use Rattle.std.specs.Prelude.{ℕ, ◌≤◌, ◌∷◌, Option, Some, None, Result, Ok, Err}
-use Rattle.sf_value.specs.Values.{Data}
+use Rattle.std.specs.Prelude.{ℕ, ◌≤◌, List, ◌∷◌, Option, Some, None, Result, Ok, Err, Vec}
+use Rattle.std.specs.declared.alloc.Global.{Global}
+use Rattle.sf_value.specs.declared.value.Value.{Value}
+use Rattle.sf_value.specs.Values.{Data, table}
 use Rattle.sf_value.specs.declared.fault.Fault.{Fault}
 use Rattle.sf_func.specs.Registries.{AnswersByName}
 use Rattle.sf_term.specs.Trees.{Term}
@@ -9,12 +11,14 @@ use Rattle.sf_mean.specs.Meaning.{Gives, Each}
 use Rattle.sf_law.specs.declared.plan.Plan.{Plan}
 use Rattle.sf_law.specs.Arena.{network_of_plan}
 use Rattle.sf_state.specs.declared.state.State.{State}
-use Rattle.sf_state.specs.declared.state.Live.{Live}
+use Rattle.sf_state.specs.declared.state.Gathered.{Gathered}
 use Rattle.sf_state.specs.declared.state.Gathering.{Gathering}
 use Rattle.sf_state.specs.declared.state.Switch.{Switch}
 use Rattle.sf_state.specs.declared.state.Keeping.{Keeping}
 use Rattle.sf_state.specs.declared.env.Env.{Env}
-use Rattle.sf_state.specs.Standing.{IsNames, Stands, Waits, WaitsKeeping, WaitsGathered, Gathers}
+use Rattle.sf_state.specs.Held.{held_in}
+use Rattle.sf_state.specs.Standing.{IsNames, Stands, Waits, WaitsKeeping, WaitsGathered, Gathers, EachStands, StandsAmong, keys_in}
+use Rattle.sf_parts.specs.Tables.{rows_under}
 use Rattle.sf_parts.specs.declared.meter.Meter.{Meter}
 use Rattle.sf_parts.specs.Meters.{height_of}
 use Rattle.sf_parts.specs.Answering.{Ticks, Answers}
@@ -60,9 +64,23 @@ abbrev pub GatheringSteps : AnswersByName → Plan → Env → Gathering → Ste
 GatheringSteps φ p = WaitingSteps φ p (WaitsGathered φ p)
 
 -- members step to a table, or the first fault, inside nodes that are counted
-abbrev pub MembersSteps : AnswersByName → Plan → Live → Step → Result (Live × Data) Fault → Meter → Meter → ℕ → Type 0
-MembersSteps φ p l s result m n inside = inside ≤ height_of m → (ms : Members) (L : Life) → Gathers φ p l ms L
-    → Answers (λ y. y.1) (λ y. Gathers φ p y.0 ms (s ∷ L)) (Each (network_of_plan φ p) ms s L) result m n inside
+abbrev pub MembersSteps : AnswersByName → Plan → Gathered → Step → Result (Gathered × Data) Fault → Meter → Meter → ℕ → Type 0
+MembersSteps φ p g s result m n inside = inside ≤ height_of m → (ms : Members) (L : Life) → Gathers φ p (held_in g) ms L
+    → Answers (λ y. y.1) (λ y. Gathers φ p (held_in y.0) ms (s ∷ L)) (Each (network_of_plan φ p) ms s L) result m n inside
+
+-- their states, which run or wait so long, step as they do, to values in their order; from then on they run
+abbrev pub EachSteps : AnswersByName → Plan → Option ℕ → List State → Step → Result (List State × List Data) Fault → Meter → Meter → ℕ → Type 0
+EachSteps φ p w bs s result m n inside = inside ≤ height_of m → (ms : Members) (L : Life) → EachStands φ p w bs ms L
+    → Answers (λ y. table (rows_under (keys_in ms) y.1)) (λ y. EachStands φ p None y.0 ms (s ∷ L)) (Each (network_of_plan φ p) ms s L) result m n inside
+
+-- what a step of states left in place, beside their values, or the fault that stands in the meter
+abbrev pub left_with : {E : Type 0} → Result (Vec Value Global) E → List State → Fault → Result (List State × List Data) Fault
+left_with (Ok ys) bs f = Ok (bs, ys.items)
+left_with (Err e) bs f = Err f
+
+-- one among those that run or wait so long steps to the outcome of its process on the longer life
+abbrev pub MemberSteps : AnswersByName → Plan → Option ℕ → State → Step → Result (State × Data) Fault → Meter → Meter → ℕ → Type 0
+MemberSteps φ p w a s result m n inside = (P : Process) (L : Life) → StandsAmong φ p w a P L → PartSteps φ p P L s result m n inside
 
 -- a state that counted between m and n steps to the outcome of its process on the longer life, where its parts stand inside so
 -- many nodes

@@ -1,12 +1,12 @@
 //! One sample.
-ghost use Rattle.std.specs.Prelude.{◌≡◌, ◌≤◌, ◌∷◌, None, IsTrue, IsFalse};
+ghost use Rattle.std.specs.Prelude.{◌≡◌, ◌≤◌, ◌∷◌, None, Some, IsTrue, IsFalse};
 ghost use Rattle.sf_parts.specs.Beginning.{is_awake, is_in_place};
 ghost use Rattle.sf_mean.specs.Lives.{step, Life, Process as ProcessOf};
 ghost use Rattle.sf_state.specs.Standing.{Stands};
 ghost use Rattle.sf_parts.specs.Answering.{LiveSteps, kept, left_or};
 ghost use Rattle.sf_parts.specs.Contexts.{plan_in, dt_in};
 ghost use Rattle.sf_parts.specs.Meters.{entered_of, height_of, fault_of as fault_in};
-ghost use Rattle.sf_step.specs.Sampling.{StateSteps, SwitchSteps, KeepingSteps, GatheringSteps, MembersSteps, CountedSteps, left_beside};
+ghost use Rattle.sf_step.specs.Sampling.{StateSteps, SwitchSteps, KeepingSteps, GatheringSteps, MembersSteps, EachSteps, MemberSteps, CountedSteps, left_beside, left_with};
 ghost use Rattle.sf_step.specs.Stepping.{Steps};
 
 use sf_func::Holds;
@@ -17,11 +17,11 @@ use sf_parts::{
 };
 use sf_probe::Readings;
 use sf_state::{
-    Editing, Env, Feedback, Gathering, Keeping, Live, Releasing, State, Switch, Wrap,
-    hold_back_members, unshare, unshare_gathering, unshare_keeping, unshare_switch,
+    Editing, Env, Feedback, Gathered, Gathering, Keeping, Live, Releasing, State, Switch, Wrap,
+    hold_back_members, unshare, unshare_gathering, unshare_keeping, unshare_states, unshare_switch,
 };
 use sf_term::{Join, Observation, Switching};
-use sf_value::{Fault, Key, Value, ValueFault};
+use sf_value::{Fault, Value, ValueFault};
 use std::alloc::Global;
 use std::mem;
 use std::rc::Rc;
@@ -266,8 +266,7 @@ fn step_members_waiting<R: Holds>(
             step_releasing(context, releasing, names, inside, value, meter)
         }
         Gathering::Editing(editing) => {
-            step_editing(context, editing, names, inside, value, meter)?;
-            Ok(None)
+            step_edited(context, editing, names, inside, value, meter)
         }
     }
 }
@@ -313,6 +312,24 @@ fn step_releasing<R: Holds>(
     }
 }
 
+// The same of members that are edited, from which nothing takes over.
+#[cycle(step)]
+#[inline(always)]
+fn step_edited<R: Holds>(
+    context: &SampleContext<R>,
+    editing: &mut Editing,
+    names: &Env,
+    inside: u64,
+    value: &mut Value,
+    meter: &mut Meter,
+) -> Result<Option<State>, Stop>
+    ensures { GatheringSteps (R.answers context.now.functions.now) (plan_in context.now) names.now (Gathering.Editing editing.old) (step (dt_in context.now) value.old)
+        (left_beside result (Gathering.Editing editing.new) value.new (fault_in meter.new)) meter.old meter.new inside }
+{
+    step_editing(context, editing, names, inside, value, meter)?;
+    Ok(None)
+}
+
 // The next sample of members that are edited: those that run are stepped, and at an event the edit, which is handed them as they
 // were before, stands after them; its members begin on this sample.
 #[cycle(step)]
@@ -347,6 +364,8 @@ fn step_editing<R: Holds>(
             match collect(context, &*editing.edit, &around) {
                 Err(fault) => Err(meter.stop(fault)),
                 Ok(mut fresh) => {
+                    // (what is frozen in them needn't be shared any more)
+                    drop(around);
                     step_members(context, &mut fresh, inside, &mut begun, meter)?;
                     editing.members = fresh;
                     show(editing.shown, value, begun);
@@ -357,53 +376,24 @@ fn step_editing<R: Holds>(
     }
 }
 
-// The next sample of members, each on the same input, in order: the table of their values takes its place.
+// The next sample of members, each on the same input, in order: the table of their values takes its place. From then on they
+// run, also where they were frozen.
 #[cycle(step)]
 #[inline(never)]
 fn step_members<R: Holds>(
     context: &SampleContext<R>,
-    live: &mut Live,
+    members: &mut Gathered,
     inside: u64,
     value: &mut Value,
     meter: &mut Meter,
 ) -> Result<(), Stop>
-    ensures { MembersSteps (R.answers context.now.functions.now) (plan_in context.now) live.old (step (dt_in context.now) value.old)
-        (left_or result (live.new, value.new) (fault_in meter.new)) meter.old meter.new inside }
+    ensures { MembersSteps (R.answers context.now.functions.now) (plan_in context.now) members.old (step (dt_in context.now) value.old)
+        (left_or result (members.new, value.new) (fault_in meter.new)) meter.old meter.new inside }
 {
-    match live {
-        Live::Gathered(keys, states) => step_all(context, keys, states, inside, value, meter),
-        // what is no collection stands for no members
-        _ => Err(meter.stop(Fault::Memory)),
-    }
-}
-
-// The same of the states under these keys.
-#[cycle(step)]
-#[inline(never)]
-fn step_all<R: Holds>(
-    context: &SampleContext<R>,
-    keys: &Rc<Vec<Key>>,
-    states: &mut Vec<State>,
-    inside: u64,
-    value: &mut Value,
-    meter: &mut Meter,
-) -> Result<(), Stop>
-    ensures { MembersSteps (R.answers context.now.functions.now) (plan_in context.now) (Live.Gathered keys.now states.old) (step (dt_in context.now) value.old)
-        (left_or result (Live.Gathered keys.now states.new, value.new) (fault_in meter.new)) meter.old meter.new inside }
-{
-    let Ok(mut outputs) = Vec::with_capacity(context.alloc, states.len()) else {
-        return Err(meter.stop(Fault::Memory));
-    };
-    for state in states.iter_mut() {
-        let Ok(mut output) = value.clone_in(context.alloc) else {
-            return Err(meter.stop(Fault::Memory));
-        };
-        step_state(context, state, inside, &mut output, meter)?;
-        let Ok(()) = outputs.push(output) else {
-            return Err(meter.stop(Fault::Memory));
-        };
-    }
-    match table_of(context.alloc, &***keys, outputs) {
+    let wait = members.wait;
+    let outputs = step_list(context, wait, &mut members.states, inside, &*value, meter)?;
+    members.wait = None;
+    match table_of(context.alloc, &*members.keys, outputs) {
         Ok(rows) => {
             *value = rows;
             Ok(())
@@ -412,21 +402,129 @@ fn step_all<R: Holds>(
     }
 }
 
+// The same of their states, in a list that others may share: their values in order.
+#[cycle(step)]
+#[inline(always)]
+fn step_list<R: Holds>(
+    context: &SampleContext<R>,
+    wait: Option<u64>,
+    list: &mut Rc<Vec<State>>,
+    inside: u64,
+    value: &Value,
+    meter: &mut Meter,
+) -> Result<Vec<Value>, Stop>
+    ensures { EachSteps (R.answers context.now.functions.now) (plan_in context.now) wait list.old.value.items (step (dt_in context.now) value.now)
+        (left_with result list.new.value.items (fault_in meter.new)) meter.old meter.new inside }
+{
+    let Ok(()) = unshare_states(context.alloc, list) else {
+        return Err(meter.stop(Fault::Memory));
+    };
+    match Rc::get_mut(list) {
+        Some(states) => step_each(context, wait, states, inside, value, meter),
+        None => Err(meter.stop(Fault::Memory)),
+    }
+}
+
+// The same of a list that is their own.
+#[cycle(step)]
+#[inline(never)]
+fn step_each<R: Holds>(
+    context: &SampleContext<R>,
+    wait: Option<u64>,
+    states: &mut Vec<State>,
+    inside: u64,
+    value: &Value,
+    meter: &mut Meter,
+) -> Result<Vec<Value>, Stop>
+    ensures { EachSteps (R.answers context.now.functions.now) (plan_in context.now) wait states.old.items (step (dt_in context.now) value.now)
+        (left_with result states.new.items (fault_in meter.new)) meter.old meter.new inside }
+{
+    let Ok(mut outputs) = Vec::with_capacity(context.alloc, states.len()) else {
+        return Err(meter.stop(Fault::Memory));
+    };
+    for state in states.iter_mut() {
+        let Ok(mut output) = value.clone_in(context.alloc) else {
+            return Err(meter.stop(Fault::Memory));
+        };
+        step_member(context, wait, state, inside, &mut output, meter)?;
+        let Ok(()) = outputs.push(output) else {
+            return Err(meter.stop(Fault::Memory));
+        };
+    }
+    Ok(outputs)
+}
+
+// The next sample of a member: where members wait since they were frozen, its first from then on.
+#[cycle(step)]
+#[inline(always)]
+fn step_member<R: Holds>(
+    context: &SampleContext<R>,
+    wait: Option<u64>,
+    state: &mut State,
+    inside: u64,
+    value: &mut Value,
+    meter: &mut Meter,
+) -> Result<(), Stop>
+    ensures { MemberSteps (R.answers context.now.functions.now) (plan_in context.now) wait state.old (step (dt_in context.now) value.old)
+        (left_or result (state.new, value.new) (fault_in meter.new)) meter.old meter.new inside }
+{
+    match wait {
+        None => step_state(context, state, inside, value, meter),
+        Some(time) => step_waiting(context, time, state, inside, value, meter),
+    }
+}
+
+// The first sample of a member that waited: where it had lived, it goes on in its own time.
+#[cycle(step)]
+#[inline(never)]
+fn step_waiting<R: Holds>(
+    context: &SampleContext<R>,
+    wait: u64,
+    state: &mut State,
+    inside: u64,
+    value: &mut Value,
+    meter: &mut Meter,
+) -> Result<(), Stop>
+    ensures { MemberSteps (R.answers context.now.functions.now) (plan_in context.now) (Some wait) state.old (step (dt_in context.now) value.old)
+        (left_or result (state.new, value.new) (fault_in meter.new)) meter.old meter.new inside }
+{
+    if has_lived(state) {
+        let later = SampleContext {
+            alloc: context.alloc,
+            plan: context.plan,
+            functions: context.functions,
+            dt: wait,
+        };
+        step_state(&later, state, inside, value, meter)
+    } else {
+        step_state(context, state, inside, value, meter)
+    }
+}
+
+// Whether a state has lived a step, and not been frozen since.
+fn has_lived(state: &State) -> bool
+    ensures { result ≡ is_awake state.now }
+{
+    match state {
+        State::Unborn(_) | State::Frozen(_) => false,
+        _ => true,
+    }
+}
+
 // The next sample of `parB`, which has been counted.
 #[cycle(step)]
 #[inline(never)]
 fn step_gathered<R: Holds>(
     context: &SampleContext<R>,
-    keys: &Rc<Vec<Key>>,
-    states: &mut Vec<State>,
+    members: &mut Gathered,
     inside: u64,
     value: &mut Value,
     meter: &mut Meter,
 ) -> Result<(), Stop>
-    ensures { LiveSteps (R.answers context.now.functions.now) (plan_in context.now) (Live.Gathered keys.now states.old) (step (dt_in context.now) value.old)
-        (left_or result (Live.Gathered keys.now states.new, value.new) (fault_in meter.new)) meter.old meter.new inside }
+    ensures { LiveSteps (R.answers context.now.functions.now) (plan_in context.now) (Live.Gathered members.old) (step (dt_in context.now) value.old)
+        (left_or result (Live.Gathered members.new, value.new) (fault_in meter.new)) meter.old meter.new inside }
 {
-    step_all(context, keys, states, inside, value, meter)
+    step_members(context, members, inside, value, meter)
 }
 
 // The next sample of a switch that waits, which has been counted and whose parts stand inside `inside` nodes: what takes over
@@ -642,7 +740,7 @@ fn step_live<R: Holds>(
             Join::FannedOut => step_fan(context, left, right, inside, value, meter),
         },
         Live::Pipeline(stages) => step_pipeline(context, stages, inside, value, meter),
-        Live::Gathered(keys, states) => step_gathered(context, keys, states, inside, value, meter),
+        Live::Gathered(members) => step_gathered(context, members, inside, value, meter),
         Live::Wrap(wrap, part) => match wrap {
             Wrap::First => step_first(context, part, inside, value, meter),
             Wrap::Second => step_second(context, part, inside, value, meter),

@@ -13,8 +13,8 @@ abbrev pub decreases-env::Call::left-loop-given : goal.decreases-env::Call::left
 decreases-env::Call::left-loop-given l = vec_len l.self.arguments
 
 -- what members have left grows no deeper
-abbrev pub invariant-state::Live::left-loop-state : goal.invariant-state::Live::left-loop-state
-invariant-state::Live::left-loop-state l = goal.no_deeper-state::Live::left-loop-state l
+abbrev pub invariant-state::Gathered::left-loop-state : goal.invariant-state::Gathered::left-loop-state
+invariant-state::Gathered::left-loop-state l = goal.no_deeper-state::Gathered::left-loop-state l
 
-abbrev pub decreases-state::Live::left-loop-state : goal.decreases-state::Live::left-loop-state
-decreases-state::Live::left-loop-state l = vec_len l.states
+abbrev pub decreases-state::Gathered::left-loop-state : goal.decreases-state::Gathered::left-loop-state
+decreases-state::Gathered::left-loop-state l = vec_len l.states

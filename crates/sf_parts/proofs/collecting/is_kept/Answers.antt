@@ -4,19 +4,16 @@ use Rattle.sf_value.specs.View.{key_of}
 use Rattle.sf_operator.specs.FunctionForms.{value_of_key}
 use Rattle.sf_expr.specs.Evaluation.{apply}
 use Rattle.sf_mean.specs.Formulas.{is_high}
-use Rattle.sf_parts.specs.Beginning.{makes_nothing}
+use Rattle.sf_parts.specs.Beginning.{makes, makes_nothing}
 use Rattle.sf_parts.proofs.Arguments.{made_failure}
-use Rattle.sf_parts.proofs.Collected.{told_in, not_told_in}
+use Rattle.sf_parts.proofs.Collected.{not_told}
 use Rattle.sf_parts.proofs.collecting.is_kept.Goals as goal
 
 pub returns-in_err-value : goal.returns-in_err-value
-returns-in_err-value g c = λ f e C N. made_failure _ _ _ Memory c.from_residual.ensures.1 makes_nothing
+returns-in_err-value g c = λ f s h C. made_failure _ _ _ Memory c.from_residual.ensures.1 makes_nothing
 
 pub returns-in-Ok : goal.returns-in-Ok
-returns-in-Ok g c = λ f e C N.
-    told_in (g.R.Holds.answers c.args.context.now.functions.now) c.args.context.now.plan.now c.args.names.now e N (apply f (value_of_key (key_of c.args.key.now))) (λ b v. b ≡ is_high v) c.in-Ok.answer c.is_high.result
-    (rw c.in_ok-value.ensures at (c.in-Ok.ensures f C)) c.is_high.ensures
+returns-in-Ok g c = λ f s h C. makes (rw c.in_ok-value.ensures at (c.in-Ok.ensures s h f C)) c.is_high.ensures
 
 pub returns : goal.returns
-returns g c = λ f e C N. rw c.fault_of.ensures
-    (not_told_in (g.R.Holds.answers c.args.context.now.functions.now) c.args.context.now.plan.now c.args.names.now e N (apply f (value_of_key (key_of c.args.key.now))) (λ b v. b ≡ is_high v) c.in-Err.fault (rw c.in_ok-value.ensures at (c.in-Err.ensures f C)))
+returns g c = λ f s h C. rw c.fault_of.ensures (not_told (λ b v. b ≡ is_high v) c.in-Err.fault (rw c.in_ok-value.ensures at (c.in-Err.ensures s h f C)))

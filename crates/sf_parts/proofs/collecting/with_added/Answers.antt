@@ -13,15 +13,15 @@ use Rattle.sf_parts.proofs.collecting.with_added.Goals as goal
 pub returns-in_err-process-in-Ok : goal.returns-in_err-process-in-Ok
 returns-in_err-process-in-Ok g c = λ j e ms C N G. made_failure _ _ _ Memory c.from_residual.ensures.1 makes_nothing
 
-pub returns-in_err-add_member-in-Ok : goal.returns-in_err-add_member-in-Ok
-returns-in_err-add_member-in-Ok g c = λ j e ms C N G. made_failure _ _ _ Memory c.from_residual-in_err-add_member-in-Ok.ensures.1 makes_nothing
+pub returns-in_err-all-in-Ok : goal.returns-in_err-all-in-Ok
+returns-in_err-all-in-Ok g c = λ j e ms C N G. made_failure _ _ _ Memory c.from_residual-in_err-all-in-Ok.ensures.1 makes_nothing
 
-pub returns-in_ok-add_member-in-Ok : goal.returns-in_ok-add_member-in-Ok
-returns-in_ok-add_member-in-Ok g c = λ j e ms C N G.
+pub returns-in_ok-all-in-Ok : goal.returns-in_ok-all-in-Ok
+returns-in_ok-all-in-Ok g c = λ j e ms C N G.
     let φ = g.R.Holds.answers c.args.context.now.functions.now in
     let p = c.args.context.now.plan.now in
     let t = plan_tree p c.args.term in
-    is_added φ p c.args.names.now e N j c.in-Ok.value _ c.add_member.new.members ms (c.in-Ok.ensures j C) c.as_key.ensures t (c.in_ok-add_member-in-Ok.ensures φ p ms (closure t e) G (itself (unborn (c.in_ok-process-in-Ok.ensures φ e N))))
+    is_added φ p c.args.names.now e N j c.in-Ok.value _ c.in_ok-all-in-Ok.all ms (c.in-Ok.ensures j C) c.as_key.ensures t (c.in_ok-all-in-Ok.ensures φ p ms (closure t e) G (itself (unborn (c.in_ok-process-in-Ok.ensures φ e N))))
 
 pub returns-in-Err : goal.returns-in-Err
 returns-in-Err g c = λ j e ms C N G.

@@ -7,14 +7,14 @@ use Rattle.sf_parts.proofs.Arguments.{made_failure}
 use Rattle.sf_parts.proofs.Collected.{is_dropped, fails_in}
 use Rattle.sf_parts.proofs.collecting.without_dropped.Goals as goal
 
-pub returns-in_err-drop_member-in-Ok : goal.returns-in_err-drop_member-in-Ok
-returns-in_err-drop_member-in-Ok g c = λ j e ms C N G. made_failure _ _ _ Memory c.from_residual.ensures.1 makes_nothing
+pub returns-in_err-left-in-Ok : goal.returns-in_err-left-in-Ok
+returns-in_err-left-in-Ok g c = λ j e ms C N G. made_failure _ _ _ Memory c.from_residual.ensures.1 makes_nothing
 
-pub returns-in_ok-drop_member-in-Ok : goal.returns-in_ok-drop_member-in-Ok
-returns-in_ok-drop_member-in-Ok g c = λ j e ms C N G.
+pub returns-in_ok-left-in-Ok : goal.returns-in_ok-left-in-Ok
+returns-in_ok-left-in-Ok g c = λ j e ms C N G.
     let φ = g.R.Holds.answers c.args.context.now.functions.now in
     let p = c.args.context.now.plan.now in
-    is_dropped φ p c.args.names.now e N j c.in-Ok.value _ c.drop_member.new.members ms (c.in-Ok.ensures j C) c.as_key.ensures (c.in_ok-drop_member-in-Ok.ensures φ p ms G)
+    is_dropped φ p c.args.names.now e N j c.in-Ok.value _ c.in_ok-left-in-Ok.left ms (c.in-Ok.ensures j C) c.as_key.ensures (c.in_ok-left-in-Ok.ensures φ p ms G)
 
 pub returns-in-Err : goal.returns-in-Err
 returns-in-Err g c = λ j e ms C N G.

@@ -1,4 +1,7 @@
-use Rattle.std.proofs.Common.{◌≡◌, [], ◌+◌, set, ◌∷◌, ◌++◌, take, drop, length, Ok, Err, refl, sym, ap, ◌∙◌, subst, arith}
+use Rattle.std.proofs.Common.{◌≡◌, [], ◌+◌, set, ◌∷◌, ◌++◌, take, drop, length, None, Ok, Err, refl, sym, ap, ◌∙◌, subst, arith, Vec}
+use Rattle.std.specs.declared.alloc.Global.{Global}
+use Rattle.sf_value.specs.Values.{table}
+use Rattle.sf_parts.specs.Tables.{rows_under}
 use Rattle.std.specs.Vec.{with_items}
 use Rattle.std.proofs.lemmas.List.{with_items_is}
 use Rattle.sf_state.specs.declared.state.Wrap.TheVariants.{First, Second, Loop, Initialized, Replaced, Followed}
@@ -8,7 +11,8 @@ use Rattle.sf_value.specs.declared.value.Pair.{Pair}
 use Rattle.sf_mean.specs.Lives.{step, Life, Process}
 use Rattle.sf_state.specs.declared.state.Frozen.{Frozen}
 use Rattle.sf_state.specs.declared.state.State.{State}
-use Rattle.sf_state.specs.Standing.{Stands, kept_state, worth_given}
+use Rattle.sf_state.specs.declared.state.Gathered.{Gathered}
+use Rattle.sf_state.specs.Standing.{Stands, AllFollow, kept_state, worth_given}
 use Rattle.sf_expr.specs.Evaluation.{answer}
 use Rattle.sf_mean.specs.Meaning.{switched_value}
 use Rattle.sf_parts.specs.Meters.{fault_of}
@@ -22,7 +26,8 @@ use Rattle.sf_step.proofs.Recurring.{run_fails, run_memory, new_fails, new_runs,
 use Rattle.sf_step.proofs.Switches.{source_fails, switch_memory, switch_waits_on, body_fails, body_takes_over}
 use Rattle.sf_step.proofs.Keeping.{runs_alike, kept_fails, kept_memory, observer_fails, observer_memory, keeps_on, kept_body_fails, kept_body_takes_over, some_occurs, none_occurs}
 use Rattle.sf_step.proofs.Turning.{frozen_steps, pass_beside, watching_turns, watching_fails, keeping_turns, keeping_fails, gathering_turns, gathering_fails}
-use Rattle.sf_step.proofs.Members.{EachSteps, memory_now, each_first, each_next, each_fails, each_memory, each_last, members_step, members_fail, members_end, gathered_so, Continues as EachContinues}
+use Rattle.sf_step.specs.Sampling.{EachSteps}
+use Rattle.sf_step.proofs.Members.{memory_now, stopped_at, each_first, each_next, each_fails, each_memory, each_last, list_alike, awake_lived, asleep_fresh, runs_among, begins_among, goes_on_among, members_step, members_fail, members_end, gathered_so, pass_with, Continues as EachContinues}
 use Rattle.sf_step.proofs.Releasing.{run_alike, members_stop, members_memory, sight_fails, sight_memory, members_go_on, released_body_fails, released_body_takes_over}
 use Rattle.sf_step.proofs.Editing.{stopped, members_alone, old_fail, old_memory, edit_stops_it, new_stops, new_run}
 use Rattle.sf_step.proofs.sample.+step.Goals as goal
@@ -520,11 +525,11 @@ step_gathering-returns-in-Some g t c = λ m depth t T e L N W. c.step_members_wa
 pub step_gathering-returns-in-None : goal.step_gathering-returns-in-None
 step_gathering-returns-in-None g t c = λ m depth t T e L N W. early_memory (g.R.Holds.answers c.args.context.now.functions.now) c.args.context.now.plan.now t c.stop-in-None.ensures.entered c.stop-in-None.ensures.height c.stop-in-None.ensures.fault
 
--- ## step_members_waiting
+-- ## step_edited
 
-pub step_members_waiting-returns-in_err-step_editing-in-Editing : goal.step_members_waiting-returns-in_err-step_editing-in-Editing
-step_members_waiting-returns-in_err-step_editing-in-Editing g t c = λ m depth t T e L N W.
-    pass_beside (g.R.Holds.answers c.args.context.now.functions.now) c.args.context.now.plan.now _ _ _ c.from_residual.ensures.0 (failed (c.in_err-step_editing-in-Editing.ensures m depth t T e L N (rw c.in-Editing.is at W)))
+pub step_edited-returns-in_err-step_editing : goal.step_edited-returns-in_err-step_editing
+step_edited-returns-in_err-step_editing g t c = λ m depth t T e L N W.
+    pass_beside (g.R.Holds.answers c.args.context.now.functions.now) c.args.context.now.plan.now _ _ _ c.from_residual.ensures.0 (failed (c.in_err-step_editing.ensures m depth t T e L N W))
 
 -- ## step_releasing
 
@@ -537,35 +542,35 @@ step_releasing-returns-in_default-copies g t c = λ m depth t T e L N W. early_m
 pub step_releasing-returns-in_err-step_members : goal.step_releasing-returns-in_err-step_members
 step_releasing-returns-in_err-step_members g t c = λ m depth t T e L N W.
     pass_beside (g.R.Holds.answers c.args.context.now.functions.now) c.args.context.now.plan.now _ _ _ c.from_residual.ensures.0 (members_stop (g.R.Holds.answers c.args.context.now.functions.now) c.args.context.now.plan.now c.args.names.now c.args.releasing.now c.args.context.now.dt c.args.value.now c.args.meter.now c.step_members.new.meter c.args.inside
-    _ (run_alike (g.R.Holds.answers c.args.context.now.functions.now) c.args.context.now.plan.now (c.in-Ok.ensures.runs_on (g.R.Holds.answers c.args.context.now.functions.now) c.args.context.now.plan.now) c.in_err-step_members.ensures) m depth t T e L N W)
+    _ (run_alike (g.R.Holds.answers c.args.context.now.functions.now) c.args.context.now.plan.now c.args.releasing.now.members c.hold_back_members.new.members (c.in-Ok.ensures.runs_on (g.R.Holds.answers c.args.context.now.functions.now) c.args.context.now.plan.now) c.in_err-step_members.ensures) m depth t T e L N W)
 
 pub step_releasing-returns-in_default-beside : goal.step_releasing-returns-in_default-beside
 step_releasing-returns-in_default-beside g t c = λ m depth t T e L N W.
     memory_exit c.stop-in_default-beside.ensures.fault (members_memory (g.R.Holds.answers c.args.context.now.functions.now) c.args.context.now.plan.now c.args.names.now c.args.releasing.now c.args.context.now.dt c.args.value.now c.args.meter.now c.step_members.new.meter c.args.inside
-    c.step_members.new.live c.step_members.new.value (run_alike (g.R.Holds.answers c.args.context.now.functions.now) c.args.context.now.plan.now (c.in-Ok.ensures.runs_on (g.R.Holds.answers c.args.context.now.functions.now) c.args.context.now.plan.now) c.in_ok-step_members.ensures) _ c.stop-in_default-beside.ensures.entered c.stop-in_default-beside.ensures.height m depth t T e L N W)
+    c.step_members.new.members c.step_members.new.value (run_alike (g.R.Holds.answers c.args.context.now.functions.now) c.args.context.now.plan.now c.args.releasing.now.members c.hold_back_members.new.members (c.in-Ok.ensures.runs_on (g.R.Holds.answers c.args.context.now.functions.now) c.args.context.now.plan.now) c.in_ok-step_members.ensures) _ c.stop-in_default-beside.ensures.entered c.stop-in_default-beside.ensures.height m depth t T e L N W)
 
 pub step_releasing-returns-in_err-step_state : goal.step_releasing-returns-in_err-step_state
 step_releasing-returns-in_err-step_state g t c = λ m depth t T e L N W.
     pass_beside (g.R.Holds.answers c.args.context.now.functions.now) c.args.context.now.plan.now _ _ _ c.from_residual-in_err-step_state.ensures.0 (sight_fails (g.R.Holds.answers c.args.context.now.functions.now) c.args.context.now.plan.now c.args.names.now c.args.releasing.now c.args.context.now.dt c.args.value.now c.args.meter.now c.step_members.new.meter c.args.inside
-    c.step_members.new.live c.step_members.new.value (run_alike (g.R.Holds.answers c.args.context.now.functions.now) c.args.context.now.plan.now (c.in-Ok.ensures.runs_on (g.R.Holds.answers c.args.context.now.functions.now) c.args.context.now.plan.now) c.in_ok-step_members.ensures) c.in-Ok-beside.seen (rw c.in-Ok-copies.ensures.0 at c.in-Ok-beside.ensures) c.step_state.new.meter
+    c.step_members.new.members c.step_members.new.value (run_alike (g.R.Holds.answers c.args.context.now.functions.now) c.args.context.now.plan.now c.args.releasing.now.members c.hold_back_members.new.members (c.in-Ok.ensures.runs_on (g.R.Holds.answers c.args.context.now.functions.now) c.args.context.now.plan.now) c.in_ok-step_members.ensures) c.in-Ok-beside.seen (rw c.in-Ok-copies.ensures.0 at c.in-Ok-beside.ensures) c.step_state.new.meter
     _ c.in_err-step_state.ensures m depth t T e L N W)
 
 pub step_releasing-returns-in-None : goal.step_releasing-returns-in-None
 step_releasing-returns-in-None g t c =
     members_go_on (g.R.Holds.answers c.args.context.now.functions.now) c.args.context.now.plan.now c.args.names.now c.args.releasing.now c.args.context.now.dt c.args.value.now c.args.meter.now c.step_members.new.meter c.args.inside
-    c.step_members.new.live c.step_members.new.value (run_alike (g.R.Holds.answers c.args.context.now.functions.now) c.args.context.now.plan.now (c.in-Ok.ensures.runs_on (g.R.Holds.answers c.args.context.now.functions.now) c.args.context.now.plan.now) c.in_ok-step_members.ensures) c.in-Ok-beside.seen (rw c.in-Ok-copies.ensures.0 at c.in-Ok-beside.ensures) c.step_state.new.meter
+    c.step_members.new.members c.step_members.new.value (run_alike (g.R.Holds.answers c.args.context.now.functions.now) c.args.context.now.plan.now c.args.releasing.now.members c.hold_back_members.new.members (c.in-Ok.ensures.runs_on (g.R.Holds.answers c.args.context.now.functions.now) c.args.context.now.plan.now) c.in_ok-step_members.ensures) c.in-Ok-beside.seen (rw c.in-Ok-copies.ensures.0 at c.in-Ok-beside.ensures) c.step_state.new.meter
     c.step_state.new.state c.step_state.new.value c.in_ok-step_state.ensures (none_occurs _ c.payload_of.result c.step_state.new.value c.payload_of.ensures c.in-None.is) _ _ refl
 
 pub step_releasing-returns-in_default-begin : goal.step_releasing-returns-in_default-begin
 step_releasing-returns-in_default-begin g t c = λ m depth t T e L N W.
     memory_exit c.stop-in_default-begin.ensures.fault (sight_memory (g.R.Holds.answers c.args.context.now.functions.now) c.args.context.now.plan.now c.args.names.now c.args.releasing.now c.args.context.now.dt c.args.value.now c.args.meter.now c.step_members.new.meter c.args.inside
-    c.step_members.new.live c.step_members.new.value (run_alike (g.R.Holds.answers c.args.context.now.functions.now) c.args.context.now.plan.now (c.in-Ok.ensures.runs_on (g.R.Holds.answers c.args.context.now.functions.now) c.args.context.now.plan.now) c.in_ok-step_members.ensures) c.in-Ok-beside.seen (rw c.in-Ok-copies.ensures.0 at c.in-Ok-beside.ensures) c.step_state.new.meter
+    c.step_members.new.members c.step_members.new.value (run_alike (g.R.Holds.answers c.args.context.now.functions.now) c.args.context.now.plan.now c.args.releasing.now.members c.hold_back_members.new.members (c.in-Ok.ensures.runs_on (g.R.Holds.answers c.args.context.now.functions.now) c.args.context.now.plan.now) c.in_ok-step_members.ensures) c.in-Ok-beside.seen (rw c.in-Ok-copies.ensures.0 at c.in-Ok-beside.ensures) c.step_state.new.meter
     c.step_state.new.state c.step_state.new.value c.in_ok-step_state.ensures _ c.stop-in_default-begin.ensures.entered c.stop-in_default-begin.ensures.height m depth t T e L N W)
 
 pub step_releasing-returns-in_err-successor-in-Some : goal.step_releasing-returns-in_err-successor-in-Some
 step_releasing-returns-in_err-successor-in-Some g t c = λ m depth t T e L N W.
     pass_beside (g.R.Holds.answers c.args.context.now.functions.now) c.args.context.now.plan.now _ _ _ c.from_residual-in_err-successor-in-Some.ensures.0 (released_body_fails (g.R.Holds.answers c.args.context.now.functions.now) c.args.context.now.plan.now c.args.names.now c.args.releasing.now c.args.context.now.dt c.args.value.now c.args.meter.now c.step_members.new.meter c.args.inside
-    c.step_members.new.live c.step_members.new.value (run_alike (g.R.Holds.answers c.args.context.now.functions.now) c.args.context.now.plan.now (c.in-Ok.ensures.runs_on (g.R.Holds.answers c.args.context.now.functions.now) c.args.context.now.plan.now) c.in_ok-step_members.ensures) c.in-Ok-beside.seen (rw c.in-Ok-copies.ensures.0 at c.in-Ok-beside.ensures) c.step_state.new.meter
+    c.step_members.new.members c.step_members.new.value (run_alike (g.R.Holds.answers c.args.context.now.functions.now) c.args.context.now.plan.now c.args.releasing.now.members c.hold_back_members.new.members (c.in-Ok.ensures.runs_on (g.R.Holds.answers c.args.context.now.functions.now) c.args.context.now.plan.now) c.in_ok-step_members.ensures) c.in-Ok-beside.seen (rw c.in-Ok-copies.ensures.0 at c.in-Ok-beside.ensures) c.step_state.new.meter
     c.step_state.new.state c.step_state.new.value c.in_ok-step_state.ensures c.in-Some.payload.value (some_occurs _ c.payload_of.result c.in-Some.payload c.step_state.new.value c.payload_of.ensures c.in-Some.is)
     c.in-Ok-begin.successor (rw c.in-Ok.ensures.held at (c.in-Ok-begin.ensures (g.R.Holds.answers c.args.context.now.functions.now)))
     c.in-Ok-copies.output c.in-Ok-copies.ensures.1 c.step_begun.new.meter _ c.in_err-successor-in-Some.ensures m depth t T e L N W)
@@ -573,7 +578,7 @@ step_releasing-returns-in_err-successor-in-Some g t c = λ m depth t T e L N W.
 pub step_releasing-returns-in_ok-successor-in-Some : goal.step_releasing-returns-in_ok-successor-in-Some
 step_releasing-returns-in_ok-successor-in-Some g t c =
     released_body_takes_over (g.R.Holds.answers c.args.context.now.functions.now) c.args.context.now.plan.now c.args.names.now c.args.releasing.now c.args.context.now.dt c.args.value.now c.args.meter.now c.step_members.new.meter c.args.inside
-    c.step_members.new.live c.step_members.new.value (run_alike (g.R.Holds.answers c.args.context.now.functions.now) c.args.context.now.plan.now (c.in-Ok.ensures.runs_on (g.R.Holds.answers c.args.context.now.functions.now) c.args.context.now.plan.now) c.in_ok-step_members.ensures) c.in-Ok-beside.seen (rw c.in-Ok-copies.ensures.0 at c.in-Ok-beside.ensures) c.step_state.new.meter
+    c.step_members.new.members c.step_members.new.value (run_alike (g.R.Holds.answers c.args.context.now.functions.now) c.args.context.now.plan.now c.args.releasing.now.members c.hold_back_members.new.members (c.in-Ok.ensures.runs_on (g.R.Holds.answers c.args.context.now.functions.now) c.args.context.now.plan.now) c.in_ok-step_members.ensures) c.in-Ok-beside.seen (rw c.in-Ok-copies.ensures.0 at c.in-Ok-beside.ensures) c.step_state.new.meter
     c.step_state.new.state c.step_state.new.value c.in_ok-step_state.ensures c.in-Some.payload.value (some_occurs _ c.payload_of.result c.in-Some.payload c.step_state.new.value c.payload_of.ensures c.in-Some.is)
     c.in-Ok-begin.successor (rw c.in-Ok.ensures.held at (c.in-Ok-begin.ensures (g.R.Holds.answers c.args.context.now.functions.now)))
     c.in-Ok-copies.output c.in-Ok-copies.ensures.1 c.step_begun.new.meter
@@ -593,7 +598,7 @@ step_editing-returns-in_default-inside g t c = λ m depth t T e L N W. early_mem
 pub step_editing-returns-in-None : goal.step_editing-returns-in-None
 step_editing-returns-in-None g t c =
     members_alone (g.R.Holds.answers c.args.context.now.functions.now) c.args.context.now.plan.now c.args.names.now c.args.editing.now c.args.context.now.dt c.args.value.now c.in-Ok.input c.in-Ok.ensures.0 c.args.meter.now c.step_members.new.meter c.args.inside
-    c.step_members.result c.step_members.new.live c.step_members.new.value (fault_of c.step_members.new.meter) (none_occurs _ c.in-Ok.occurring (second_of c.args.value.now) c.in-Ok.ensures.1 c.in-None.is)
+    c.step_members.result c.step_members.new.members c.step_members.new.value (fault_of c.step_members.new.meter) (none_occurs _ c.in-Ok.occurring (second_of c.args.value.now) c.in-Ok.ensures.1 c.in-None.is)
     _ refl c.step_members.ensures
 
 pub step_editing-returns-in_err-step_members-in-Some : goal.step_editing-returns-in_err-step_members-in-Some
@@ -604,35 +609,78 @@ step_editing-returns-in_err-step_members-in-Some g t c = λ m depth t T e L N W.
 pub step_editing-returns-in-Err : goal.step_editing-returns-in-Err
 step_editing-returns-in-Err g t c = λ m depth t T e L N W.
     stopped c.stop-in-Err.ensures.fault (edit_stops_it (g.R.Holds.answers c.args.context.now.functions.now) c.args.context.now.plan.now c.args.names.now c.args.editing.now c.args.context.now.dt c.args.value.now c.in-Ok.input c.in-Ok.ensures.0 c.args.meter.now c.step_members-in-Some.new.meter c.args.inside
-    c.step_members-in-Some.new.live c.step_members-in-Some.new.value c.in_ok-step_members-in-Some.ensures c.in-Some.payload.value (some_occurs _ c.in-Ok.occurring c.in-Some.payload (second_of c.args.value.now) c.in-Ok.ensures.1 c.in-Some.is) c.in-Err.fault (λ e qs K N G. rw c.deref.ensures at (c.in-Err.ensures _ (c.in-Ok-inside.ensures (g.R.Holds.answers c.args.context.now.functions.now) e qs K N G))) _ c.stop-in-Err.ensures.entered c.stop-in-Err.ensures.height m depth t T e L N W)
+    c.step_members-in-Some.new.members c.step_members-in-Some.new.value c.in_ok-step_members-in-Some.ensures c.in-Some.payload.value (some_occurs _ c.in-Ok.occurring c.in-Some.payload (second_of c.args.value.now) c.in-Ok.ensures.1 c.in-Some.is) c.in-Err.fault (λ e qs K N G. rw c.deref.ensures at (c.in-Err.ensures _ (c.in-Ok-inside.ensures (g.R.Holds.answers c.args.context.now.functions.now) e qs K N G))) _ c.stop-in-Err.ensures.entered c.stop-in-Err.ensures.height m depth t T e L N W)
 
 pub step_editing-returns-in_err-step_members-in-Ok-collect : goal.step_editing-returns-in_err-step_members-in-Ok-collect
 step_editing-returns-in_err-step_members-in-Ok-collect g t c = λ m depth t T e L N W.
     pass_exit _ _ c.from_residual-in_err-step_members-in-Ok-collect.ensures.0 (new_stops (g.R.Holds.answers c.args.context.now.functions.now) c.args.context.now.plan.now c.args.names.now c.args.editing.now c.args.context.now.dt c.args.value.now c.in-Ok.input c.in-Ok.ensures.0 c.args.meter.now c.step_members-in-Some.new.meter c.args.inside
-    c.step_members-in-Some.new.live c.step_members-in-Some.new.value c.in_ok-step_members-in-Some.ensures c.in-Some.payload.value (some_occurs _ c.in-Ok.occurring c.in-Some.payload (second_of c.args.value.now) c.in-Ok.ensures.1 c.in-Some.is) c.in-Ok-collect.fresh (λ e qs K N G. rw c.deref.ensures at (c.in-Ok-collect.ensures _ (c.in-Ok-inside.ensures (g.R.Holds.answers c.args.context.now.functions.now) e qs K N G))) c.in-Ok-clone_in.begun c.in-Ok-clone_in.ensures c.step_members-in-Ok-collect.new.meter
+    c.step_members-in-Some.new.members c.step_members-in-Some.new.value c.in_ok-step_members-in-Some.ensures c.in-Some.payload.value (some_occurs _ c.in-Ok.occurring c.in-Some.payload (second_of c.args.value.now) c.in-Ok.ensures.1 c.in-Some.is) c.in-Ok-collect.fresh (λ e qs K N G. rw c.deref.ensures at (c.in-Ok-collect.ensures _ (c.in-Ok-inside.ensures (g.R.Holds.answers c.args.context.now.functions.now) e qs K N G))) c.in-Ok-clone_in.begun c.in-Ok-clone_in.ensures c.step_members-in-Ok-collect.new.meter
     _ c.in_err-step_members-in-Ok-collect.ensures m depth t T e L N W)
 
 pub step_editing-returns-in_ok-step_members-in-Ok-collect : goal.step_editing-returns-in_ok-step_members-in-Ok-collect
 step_editing-returns-in_ok-step_members-in-Ok-collect g t c =
     new_run (g.R.Holds.answers c.args.context.now.functions.now) c.args.context.now.plan.now c.args.names.now c.args.editing.now c.args.context.now.dt c.args.value.now c.in-Ok.input c.in-Ok.ensures.0 c.args.meter.now c.step_members-in-Some.new.meter c.args.inside
-    c.step_members-in-Some.new.live c.step_members-in-Some.new.value c.in_ok-step_members-in-Some.ensures c.in-Some.payload.value (some_occurs _ c.in-Ok.occurring c.in-Some.payload (second_of c.args.value.now) c.in-Ok.ensures.1 c.in-Some.is) c.in-Ok-collect.fresh (λ e qs K N G. rw c.deref.ensures at (c.in-Ok-collect.ensures _ (c.in-Ok-inside.ensures (g.R.Holds.answers c.args.context.now.functions.now) e qs K N G))) c.in-Ok-clone_in.begun c.in-Ok-clone_in.ensures c.step_members-in-Ok-collect.new.meter
-    c.step_members-in-Ok-collect.new.live c.step_members-in-Ok-collect.new.value _ c.show.ensures _ refl c.in_ok-step_members-in-Ok-collect.ensures
+    c.step_members-in-Some.new.members c.step_members-in-Some.new.value c.in_ok-step_members-in-Some.ensures c.in-Some.payload.value (some_occurs _ c.in-Ok.occurring c.in-Some.payload (second_of c.args.value.now) c.in-Ok.ensures.1 c.in-Some.is) c.in-Ok-collect.fresh (λ e qs K N G. rw c.deref.ensures at (c.in-Ok-collect.ensures _ (c.in-Ok-inside.ensures (g.R.Holds.answers c.args.context.now.functions.now) e qs K N G))) c.in-Ok-clone_in.begun c.in-Ok-clone_in.ensures c.step_members-in-Ok-collect.new.meter
+    c.step_members-in-Ok-collect.new.members c.step_members-in-Ok-collect.new.value _ c.show.ensures _ refl c.in_ok-step_members-in-Ok-collect.ensures
 
--- ## step_all
+-- ## step_members
 
-pub step_all-returns-in_default : goal.step_all-returns-in_default
-step_all-returns-in_default g t c =
+pub step_members-returns-in_err-outputs : goal.step_members-returns-in_err-outputs
+step_members-returns-in_err-outputs g t c = λ low ms L G.
     let φ = g.R.Holds.answers c.args.context.now.functions.now in
     let p = c.args.context.now.plan.now in
-    let d = c.args.context.now.dt in
-    let x = c.args.value.now in
-    let m = c.args.meter.now in
-    let n = c.stop.new.self in
-    members_end φ p c.args.keys.now c.args.states.now d x m n c.args.inside refl c.stop.ensures.fault
-    (memory_now φ p c.args.states.now.items d x m n c.args.inside c.stop.ensures.entered c.stop.ensures.height)
+    let n = c.step_list.new.meter in
+    pass_exit _ _ c.from_residual.ensures.0 (members_fail φ p c.args.members.now c.args.context.now.dt c.args.value.now c.args.meter.now n c.args.inside (fault_of n) c.in_err-outputs.ensures low ms L G)
 
-pub step_all-loop-state-init : goal.step_all-loop-state-init
-step_all-loop-state-init g t c =
+pub step_members-returns-in-Ok : goal.step_members-returns-in-Ok
+step_members-returns-in-Ok g t c =
+    let φ = g.R.Holds.answers c.args.context.now.functions.now in
+    let p = c.args.context.now.plan.now in
+    let ys = c.in_ok-outputs.outputs.items in
+    let h : Gathered = record { keys = c.args.members.now.keys; states = c.step_list.new.list; wait = None } in
+    members_step φ p c.args.members.now h c.args.context.now.dt c.args.value.now c.args.meter.now c.step_list.new.meter c.args.inside ys c.in-Ok.rows
+    (c.in-Ok.ensures ∙ ap (λ ks. table (rows_under ks ys)) c.deref.ensures) refl refl c.in_ok-outputs.ensures
+
+pub step_members-returns-in-Err : goal.step_members-returns-in-Err
+step_members-returns-in-Err g t c =
+    let φ = g.R.Holds.answers c.args.context.now.functions.now in
+    let p = c.args.context.now.plan.now in
+    members_end φ p c.args.members.now c.args.context.now.dt c.args.value.now c.args.meter.now c.step_list.new.meter c.stop.new.self c.args.inside _ c.in_ok-outputs.outputs.items
+    c.stop.ensures.fault c.stop.ensures.entered c.stop.ensures.height c.in_ok-outputs.ensures
+
+-- ## step_list
+
+pub step_list-returns-in_default : goal.step_list-returns-in_default
+step_list-returns-in_default g t c =
+    let φ = g.R.Holds.answers c.args.context.now.functions.now in
+    let p = c.args.context.now.plan.now in
+    let bs = c.args.list.now.value.items in
+    stopped_at φ p c.args.wait refl c.stop.ensures.fault (memory_now φ p c.args.wait bs c.args.context.now.dt c.args.value.now c.args.meter.now c.stop.new.self c.args.inside c.stop.ensures.entered c.stop.ensures.height)
+
+pub step_list-returns-in-Some : goal.step_list-returns-in-Some
+step_list-returns-in-Some g t c =
+    let φ = g.R.Holds.answers c.args.context.now.functions.now in
+    let p = c.args.context.now.plan.now in
+    let own = subst (λ (v : Vec State Global). AllFollow φ p c.args.list.now.value.items v.items) (sym c.in-Some.ensures.value) (c.unshare_states.ensures φ p) in
+    list_alike φ p own c.step_each.ensures
+
+pub step_list-returns-in-None : goal.step_list-returns-in-None
+step_list-returns-in-None g t c =
+    let φ = g.R.Holds.answers c.args.context.now.functions.now in
+    let p = c.args.context.now.plan.now in
+    let bs = c.args.list.now.value.items in
+    stopped_at φ p c.args.wait refl c.stop-in-None.ensures.fault (memory_now φ p c.args.wait bs c.args.context.now.dt c.args.value.now c.args.meter.now c.stop-in-None.new.self c.args.inside c.stop-in-None.ensures.entered c.stop-in-None.ensures.height)
+
+-- ## step_each
+
+pub step_each-returns-in_default : goal.step_each-returns-in_default
+step_each-returns-in_default g t c =
+    let φ = g.R.Holds.answers c.args.context.now.functions.now in
+    let p = c.args.context.now.plan.now in
+    stopped_at φ p c.args.wait refl c.stop.ensures.fault (memory_now φ p c.args.wait c.args.states.now.items c.args.context.now.dt c.args.value.now c.args.meter.now c.stop.new.self c.args.inside c.stop.ensures.entered c.stop.ensures.height)
+
+pub step_each-loop-state-init : goal.step_each-loop-state-init
+step_each-loop-state-init g t c =
     let φ = g.R.Holds.answers c.args.context.now.functions.now in
     let p = c.args.context.now.plan.now in
     let d = c.args.context.now.dt in
@@ -640,38 +688,34 @@ step_all-loop-state-init g t c =
     let m = c.args.meter.now in
     let bs = c.deref_mut-state-items.result.now in
     record {
-      goes_on = subst (λ ys. EachContinues φ p bs d x m [] ys bs m c.args.inside) (sym c.in-Ok.ensures.items) (each_first φ p bs d x m c.args.inside);
+      goes_on = subst (λ ys. EachContinues φ p c.args.wait bs d x m [] ys bs m c.args.inside) (sym c.in-Ok.ensures.items) (each_first φ p c.args.wait bs d x m c.args.inside);
     }
 
-pub step_all-returns-in_default-clone_in : goal.step_all-returns-in_default-clone_in
-step_all-returns-in_default-clone_in g t c =
+pub step_each-returns-in_default-clone_in : goal.step_each-returns-in_default-clone_in
+step_each-returns-in_default-clone_in g t c =
     let φ = g.R.Holds.answers c.args.context.now.functions.now in
     let p = c.args.context.now.plan.now in
-    let d = c.args.context.now.dt in
-    let x = c.args.value.now in
-    let m = c.args.meter.now in
     let l = c.loop-state in
     let n = c.stop-in_default-clone_in.new.self in
-    members_end φ p c.args.keys.now c.args.states.now d x m n c.args.inside c.deref_mut-state-items.ensures.value c.stop-in_default-clone_in.ensures.fault
-    (each_memory φ p c.deref_mut-state-items.result.now d x m (take l.state-index l.state-items) l.outputs.items (drop l.state-index l.state-items) l.meter n c.args.inside l.invariant.goes_on c.stop-in_default-clone_in.ensures.entered c.stop-in_default-clone_in.ensures.height)
+    stopped_at φ p c.args.wait c.deref_mut-state-items.ensures.value c.stop-in_default-clone_in.ensures.fault
+    (each_memory φ p c.args.wait c.deref_mut-state-items.result.now c.args.context.now.dt c.args.value.now c.args.meter.now (take l.state-index l.state-items) l.outputs.items (drop l.state-index l.state-items) l.meter n c.args.inside l.invariant.goes_on c.stop-in_default-clone_in.ensures.entered c.stop-in_default-clone_in.ensures.height)
 
-pub step_all-returns-in_err-step_state : goal.step_all-returns-in_err-step_state
-step_all-returns-in_err-step_state g t c = λ low ms L G.
+pub step_each-returns-in_err-step_member : goal.step_each-returns-in_err-step_member
+step_each-returns-in_err-step_member g t c =
     let φ = g.R.Holds.answers c.args.context.now.functions.now in
     let p = c.args.context.now.plan.now in
     let d = c.args.context.now.dt in
     let x = c.args.value.now in
     let m = c.args.meter.now in
     let l = c.loop-state in
-    let f = fault_of c.step_state.new.meter in
-    let n = c.step_state.new.meter in
-    let failed = each_fails φ p _ d x m l.state-items l.state-index l.outputs.items l.meter c.args.inside c.state-item.result (omega (arith, c.loop-state-test.true, l.auto.state-items)) l.invariant.goes_on
-    f n (rw c.in-Ok-clone_in.ensures at c.in_err-step_state.ensures) in
-    pass_exit _ _ c.from_residual.ensures.0 (members_fail φ p c.args.keys.now c.args.states.now d x m n c.args.inside f
-    (subst (λ bs. EachSteps φ p bs d x (Err f) m n c.args.inside) c.deref_mut-state-items.ensures.value failed) low ms L G)
+    let f = fault_of c.step_member.new.meter in
+    let n = c.step_member.new.meter in
+    let failed = each_fails φ p c.args.wait _ d x m l.state-items l.state-index l.outputs.items l.meter c.args.inside c.state-item.result (omega (arith, c.loop-state-test.true, l.auto.state-items)) l.invariant.goes_on
+    f n (rw c.in-Ok-clone_in.ensures at c.in_err-step_member.ensures) in
+    pass_with _ _ c.from_residual.ensures.0 (subst (λ bs. EachSteps φ p c.args.wait bs (step d x) (Err f) m n c.args.inside) c.deref_mut-state-items.ensures.value failed)
 
-pub step_all-returns-in_default-push : goal.step_all-returns-in_default-push
-step_all-returns-in_default-push g t c =
+pub step_each-returns-in_default-push : goal.step_each-returns-in_default-push
+step_each-returns-in_default-push g t c =
     let φ = g.R.Holds.answers c.args.context.now.functions.now in
     let p = c.args.context.now.plan.now in
     let d = c.args.context.now.dt in
@@ -679,42 +723,30 @@ step_all-returns-in_default-push g t c =
     let m = c.args.meter.now in
     let l = c.loop-state in
     let n = c.stop-in_default-push.new.self in
-    let bs = set l.state-items l.state-index c.step_state.new.state in
-    let here = each_next φ p c.deref_mut-state-items.result.now d x m l.state-items l.state-index l.outputs.items l.meter c.args.inside c.state-item.result (omega (arith, c.loop-state-test.true, l.auto.state-items)) l.invariant.goes_on
-    c.step_state.new.state c.step_state.new.value c.step_state.new.meter (rw c.in-Ok-clone_in.ensures at c.in_ok-step_state.ensures) in
-    members_end φ p c.args.keys.now c.args.states.now d x m n c.args.inside c.deref_mut-state-items.ensures.value c.stop-in_default-push.ensures.fault
-    (each_memory φ p c.deref_mut-state-items.result.now d x m (take (l.state-index + 1) bs) (l.outputs.items ++ c.step_state.new.value ∷ []) (drop (l.state-index + 1) bs) c.step_state.new.meter n c.args.inside here c.stop-in_default-push.ensures.entered c.stop-in_default-push.ensures.height)
+    let bs = set l.state-items l.state-index c.step_member.new.state in
+    let here = each_next φ p c.args.wait c.deref_mut-state-items.result.now d x m l.state-items l.state-index l.outputs.items l.meter c.args.inside c.state-item.result (omega (arith, c.loop-state-test.true, l.auto.state-items)) l.invariant.goes_on
+    c.step_member.new.state c.step_member.new.value c.step_member.new.meter (rw c.in-Ok-clone_in.ensures at c.in_ok-step_member.ensures) in
+    stopped_at φ p c.args.wait c.deref_mut-state-items.ensures.value c.stop-in_default-push.ensures.fault
+    (each_memory φ p c.args.wait c.deref_mut-state-items.result.now d x m (take (l.state-index + 1) bs) (l.outputs.items ++ c.step_member.new.value ∷ []) (drop (l.state-index + 1) bs) c.step_member.new.meter n c.args.inside here c.stop-in_default-push.ensures.entered c.stop-in_default-push.ensures.height)
 
-pub step_all-loop-state-preserved : goal.step_all-loop-state-preserved
-step_all-loop-state-preserved g t c =
+pub step_each-loop-state-preserved : goal.step_each-loop-state-preserved
+step_each-loop-state-preserved g t c =
     let φ = g.R.Holds.answers c.args.context.now.functions.now in
     let p = c.args.context.now.plan.now in
     let d = c.args.context.now.dt in
     let x = c.args.value.now in
     let m = c.args.meter.now in
     let l = c.loop-state in
-    let n = c.step_state.new.meter in
-    let bs = set l.state-items l.state-index c.step_state.new.state in
+    let n = c.step_member.new.meter in
+    let bs = set l.state-items l.state-index c.step_member.new.state in
     record {
-      goes_on = subst (λ ys. EachContinues φ p c.deref_mut-state-items.result.now d x m (take (l.state-index + 1) bs) ys (drop (l.state-index + 1) bs) n c.args.inside) (sym c.in-Ok-push.ensures.items)
-          (each_next φ p c.deref_mut-state-items.result.now d x m l.state-items l.state-index l.outputs.items l.meter c.args.inside c.state-item.result (omega (arith, c.loop-state-test.true, l.auto.state-items)) l.invariant.goes_on
-          c.step_state.new.state c.step_state.new.value n (rw c.in-Ok-clone_in.ensures at c.in_ok-step_state.ensures));
+      goes_on = subst (λ ys. EachContinues φ p c.args.wait c.deref_mut-state-items.result.now d x m (take (l.state-index + 1) bs) ys (drop (l.state-index + 1) bs) n c.args.inside) (sym c.in-Ok-push.ensures.items)
+          (each_next φ p c.args.wait c.deref_mut-state-items.result.now d x m l.state-items l.state-index l.outputs.items l.meter c.args.inside c.state-item.result (omega (arith, c.loop-state-test.true, l.auto.state-items)) l.invariant.goes_on
+          c.step_member.new.state c.step_member.new.value n (rw c.in-Ok-clone_in.ensures at c.in_ok-step_member.ensures));
     }
 
-pub step_all-returns-in-Err : goal.step_all-returns-in-Err
-step_all-returns-in-Err g t c =
-    let φ = g.R.Holds.answers c.args.context.now.functions.now in
-    let p = c.args.context.now.plan.now in
-    let d = c.args.context.now.dt in
-    let x = c.args.value.now in
-    let m = c.args.meter.now in
-    let l = c.loop-state in
-    let n = c.stop-in-Err.new.self in
-    members_end φ p c.args.keys.now c.args.states.now d x m n c.args.inside c.deref_mut-state-items.ensures.value c.stop-in-Err.ensures.fault
-    (each_memory φ p c.deref_mut-state-items.result.now d x m (take l.state-index l.state-items) l.outputs.items (drop l.state-index l.state-items) l.meter n c.args.inside l.invariant.goes_on c.stop-in-Err.ensures.entered c.stop-in-Err.ensures.height)
-
-pub step_all-returns-in-Ok-table_of : goal.step_all-returns-in-Ok-table_of
-step_all-returns-in-Ok-table_of g t c =
+pub step_each-returns : goal.step_each-returns
+step_each-returns g t c =
     let φ = g.R.Holds.answers c.args.context.now.functions.now in
     let p = c.args.context.now.plan.now in
     let d = c.args.context.now.dt in
@@ -724,9 +756,31 @@ step_all-returns-in-Ok-table_of g t c =
     let last : l.state-index ≡ length l.state-items = omega (arith, l.auto.state-items, l.auto.state-index-end, c.loop-state-test.false) in
     let w = with_items c.args.states.now l.state-items in
     let whole : w.items ≡ l.state-items = with_items_is c.args.states.now l.state-items (omega (arith, l.auto.state-items, ap length c.deref_mut-state-items.ensures.value)) in
-    let all = each_last φ p _ d x m l.state-items l.state-index l.outputs.items l.meter c.args.inside last l.invariant.goes_on in
-    members_step φ p c.args.keys.now c.args.states.now w d x m l.meter c.args.inside l.outputs.items c.in-Ok-table_of.rows (rw c.deref.ensures at (rw c.deref-2.ensures.value at c.in-Ok-table_of.ensures))
-    (rw whole (subst (λ bs. EachSteps φ p bs d x (Ok (l.state-items, l.outputs.items)) m l.meter c.args.inside) c.deref_mut-state-items.ensures.value all))
+    let all = each_last φ p c.args.wait _ d x m l.state-items l.state-index l.outputs.items l.meter c.args.inside last l.invariant.goes_on in
+    rw whole (subst (λ bs. EachSteps φ p c.args.wait bs (step d x) (Ok (l.state-items, l.outputs.items)) m l.meter c.args.inside) c.deref_mut-state-items.ensures.value all)
+
+-- ## step_member, step_waiting
+
+pub step_member-returns-in-None : goal.step_member-returns-in-None
+step_member-returns-in-None g t c =
+    let φ = g.R.Holds.answers c.args.context.now.functions.now in
+    let p = c.args.context.now.plan.now in
+    rw c.in-None.is (runs_among φ p c.args.state.now (step c.args.context.now.dt c.args.value.now) _ c.args.meter.now c.step_state.new.meter c.args.inside c.step_state.ensures)
+
+pub step_member-returns-in-Some : goal.step_member-returns-in-Some
+step_member-returns-in-Some g t c = rw c.in-Some.is c.step_waiting.ensures
+
+pub step_waiting-returns-then-has_lived : goal.step_waiting-returns-then-has_lived
+step_waiting-returns-then-has_lived g t c =
+    let φ = g.R.Holds.answers c.args.context.now.functions.now in
+    let p = c.args.context.now.plan.now in
+    goes_on_among φ p c.args.state.now c.args.wait c.args.context.now.dt c.args.value.now _ c.args.meter.now c.step_state.new.meter c.args.inside (awake_lived φ p c.args.state.now (sym c.has_lived.ensures ∙ c.if-has_lived.true)) c.step_state.ensures
+
+pub step_waiting-returns-else-has_lived : goal.step_waiting-returns-else-has_lived
+step_waiting-returns-else-has_lived g t c =
+    let φ = g.R.Holds.answers c.args.context.now.functions.now in
+    let p = c.args.context.now.plan.now in
+    begins_among φ p c.args.state.now c.args.wait c.args.context.now.dt c.args.value.now _ c.args.meter.now c.step_state-else-has_lived.new.meter c.args.inside (asleep_fresh φ p c.args.state.now (sym c.has_lived.ensures ∙ c.if-has_lived.false)) c.step_state-else-has_lived.ensures
 
 -- ## step_gathered
 
@@ -734,7 +788,4 @@ pub step_gathered-returns : goal.step_gathered-returns
 step_gathered-returns g t c =
     let φ = g.R.Holds.answers c.args.context.now.functions.now in
     let p = c.args.context.now.plan.now in
-    let d = c.args.context.now.dt in
-    let x = c.args.value.now in
-    let m = c.args.meter.now in
-    gathered_so φ p c.args.keys.now c.args.states.now d x m c.step_all.new.meter c.args.inside c.step_all.result _ _ c.step_all.ensures
+    gathered_so φ p c.args.members.now c.args.context.now.dt c.args.value.now c.args.meter.now c.step_members.new.meter c.args.inside c.step_members.result c.step_members.new.members c.step_members.new.value (fault_of c.step_members.new.meter) c.step_members.ensures

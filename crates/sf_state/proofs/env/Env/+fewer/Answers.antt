@@ -10,7 +10,8 @@ use Rattle.sf_state.specs.declared.env.Binding.{Binding}
 use Rattle.sf_state.specs.declared.env.Running.{Running}
 use Rattle.sf_state.specs.declared.env.Collected.{Collected}
 use Rattle.sf_state.specs.Standing.{IsNames, HasMentioned}
-use Rattle.sf_state.proofs.Fewer.{emptied_kept, inside_pattern, inside_process, inside_members, pattern_fell, process_fell, members_fell}
+use Rattle.sf_state.proofs.Scopes.{collected_holds}
+use Rattle.sf_state.proofs.Fewer.{emptied_kept, inside_pattern, inside_process, pattern_fell, process_fell, members_fell}
 use Rattle.sf_state.proofs.env.Env.+fewer.Goals as goal
 
 pub returns-then-is_empty : goal.returns-then-is_empty
@@ -74,7 +75,7 @@ returns-in_ok-around-in-Collected t c =
     let b = c.in-Collected.collected.value in
     let name = c.name_of-name-in-Collected.ensures ∙ ap (λ a. name_at c.expressions-in-Collected.result.now a.name) c.deref-in-Collected.ensures ∙ ap (λ x. name_at x b.name) c.expressions-in-Collected.ensures in
     IfOk-weaker c.over-then-is_bound_by-3.result _ _
-    (λ r over φ e N. inside_members φ p b (λ d. IfSome r (λ names. HasMentioned φ p m names d))
+    (λ r over φ e N. collected_holds φ p c.in-Collected.collected (λ d. IfSome r (λ names. HasMentioned φ p m names d))
     (λ d ms G M. over φ p m c.in_ok-left-in-Collected.left d ms (λ x w free. c.in_ok-left-in-Collected.ensures x w (subst (λ (n : Name). n ≢ x) (sym name) free)) G
     (c.in_ok-around-in-Collected.ensures φ d (subst (λ (a : Collected). IsNames φ p a.around d) (sym c.deref-then-is_bound_by-3.ensures) M))) e (rw c.in-Collected.is at N))
     (rw c.deref-then-is_bound_by-3-2.ensures at c.over-then-is_bound_by-3.ensures)
@@ -86,7 +87,7 @@ returns-in_ok-around-in-Collected-2 t c =
     let b = c.in-Collected.collected.value in
     let name = c.name_of-name-in-Collected.ensures ∙ ap (λ a. name_at c.expressions-in-Collected.result.now a.name) c.deref-in-Collected.ensures ∙ ap (λ x. name_at x b.name) c.expressions-in-Collected.ensures in
     IfOk-weaker c.or_shared-else-is_bound_by-3.result _ _
-    (λ r shared φ e N. inside_members φ p b (λ d. IfSome r (λ names. HasMentioned φ p m names d))
+    (λ r shared φ e N. collected_holds φ p c.in-Collected.collected (λ d. IfSome r (λ names. HasMentioned φ p m names d))
     (λ d ms G M. members_fell φ p m d (name_at (plan_expressions p) b.name) ms r (λ x w. subst (λ (n : Name). n ≢ x) name (c.is_bound_by-in-Collected.ensures c.if-is_bound_by-3.false x w))
     (shared φ p m d (subst (λ (a : Collected). IsNames φ p a.around d) (sym c.deref-else-is_bound_by-3-2.ensures) M)
     (c.in_ok-around-in-Collected-2.ensures φ d (subst (λ (a : Collected). IsNames φ p a.around d) (sym c.deref-else-is_bound_by-3.ensures) M)))) e (rw c.in-Collected.is at N))

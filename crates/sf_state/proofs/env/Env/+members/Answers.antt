@@ -7,6 +7,7 @@ use Rattle.sf_state.specs.declared.env.Call.{Call}
 use Rattle.sf_state.specs.declared.env.Running.{Running}
 use Rattle.sf_state.specs.declared.env.Collected.{Collected}
 use Rattle.sf_state.specs.Names.{given_members, given_at}
+use Rattle.sf_state.specs.Held.{held_in}
 use Rattle.sf_state.specs.Standing.{IsNames, AreFound}
 use Rattle.sf_state.proofs.Scopes.{members_value, members_outside, members_there, members_further, members_process, members_behind, names_called, members_called}
 use Rattle.sf_state.proofs.env.Env.+members.Goals as goal
@@ -48,16 +49,16 @@ returns-then-eq-2 t c = λ φ e N.
     let p = c.args.plan.now in
     let b = c.in-Collected.collected.value in
     let name = c.name_of-in-Collected.ensures ∙ ap (λ a. name_at c.expressions-in-Collected.result.now a.name) c.deref-in-Collected.ensures ∙ ap (λ x. name_at x b.name) c.expressions-in-Collected.ensures in
-    let found : AreFound φ p (Some b.members) (members_of c.args.name.now e) =
-    members_there φ p c.args.name.now b e (ap (λ n. bytes_eq c.args.name.now n) (sym name) ∙ sym c.eq-in-Collected.ensures ∙ c.if-eq-2.true) (rw c.in-Collected.is at N) in
-    subst (λ (r : Collected). AreFound φ p (Some r.members) (members_of c.args.name.now e)) (sym c.deref-then-eq-2.ensures) found
+    let found : AreFound φ p (Some (held_in b.members)) (members_of c.args.name.now e) =
+    members_there φ p c.args.name.now c.in-Collected.collected e (ap (λ n. bytes_eq c.args.name.now n) (sym name) ∙ sym c.eq-in-Collected.ensures ∙ c.if-eq-2.true) (rw c.in-Collected.is at N) in
+    subst (λ (r : Collected). AreFound φ p (Some (held_in r.members)) (members_of c.args.name.now e)) (sym c.deref-then-eq-2.ensures) found
 
 pub returns-else-eq-2 : goal.returns-else-eq-2
 returns-else-eq-2 t c = λ φ e N.
     let p = c.args.plan.now in
     let b = c.in-Collected.collected.value in
     let name = c.name_of-in-Collected.ensures ∙ ap (λ a. name_at c.expressions-in-Collected.result.now a.name) c.deref-in-Collected.ensures ∙ ap (λ x. name_at x b.name) c.expressions-in-Collected.ensures in
-    members_further φ p c.args.name.now b.name b.members b.around _ e (ap (λ n. bytes_eq c.args.name.now n) (sym name) ∙ sym c.eq-in-Collected.ensures ∙ c.if-eq-2.false)
+    members_further φ p c.args.name.now c.in-Collected.collected _ e (ap (λ n. bytes_eq c.args.name.now n) (sym name) ∙ sym c.eq-in-Collected.ensures ∙ c.if-eq-2.false)
     (λ e M. c.members-else-eq-2.ensures φ e (subst (λ (a : Collected). IsNames φ p a.around e) (sym c.deref-else-eq-2.ensures) M)) (rw c.in-Collected.is at N)
 
 pub returns-in-Called : goal.returns-in-Called

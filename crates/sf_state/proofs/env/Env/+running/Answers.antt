@@ -50,14 +50,14 @@ returns-then-eq-2 t c = λ φ e N.
     let p = c.args.plan.now in
     let b = c.in-Collected.collected.value in
     let name = c.name_of-in-Collected.ensures ∙ ap (λ a. name_at c.expressions-in-Collected.result.now a.name) c.deref-in-Collected.ensures ∙ ap (λ x. name_at x b.name) c.expressions-in-Collected.ensures in
-    found_members φ p c.args.name.now b.name b.members b.around e (ap (λ n. bytes_eq c.args.name.now n) (sym name) ∙ sym c.eq-in-Collected.ensures ∙ c.if-eq-2.true) (rw c.in-Collected.is at N)
+    found_members φ p c.args.name.now c.in-Collected.collected e (ap (λ n. bytes_eq c.args.name.now n) (sym name) ∙ sym c.eq-in-Collected.ensures ∙ c.if-eq-2.true) (rw c.in-Collected.is at N)
 
 pub returns-else-eq-2 : goal.returns-else-eq-2
 returns-else-eq-2 t c = λ φ e N.
     let p = c.args.plan.now in
     let b = c.in-Collected.collected.value in
     let name = c.name_of-in-Collected.ensures ∙ ap (λ a. name_at c.expressions-in-Collected.result.now a.name) c.deref-in-Collected.ensures ∙ ap (λ x. name_at x b.name) c.expressions-in-Collected.ensures in
-    found_behind φ p c.args.name.now b.name b.members b.around _ e (ap (λ n. bytes_eq c.args.name.now n) (sym name) ∙ sym c.eq-in-Collected.ensures ∙ c.if-eq-2.false)
+    found_behind φ p c.args.name.now c.in-Collected.collected _ e (ap (λ n. bytes_eq c.args.name.now n) (sym name) ∙ sym c.eq-in-Collected.ensures ∙ c.if-eq-2.false)
     (λ e M. c.running-else-eq-2.ensures φ e (subst (λ (a : Collected). IsNames φ p a.around e) (sym c.deref-else-eq-2.ensures) M)) (rw c.in-Collected.is at N)
 
 pub returns-in-Called : goal.returns-in-Called

@@ -11,4 +11,4 @@ pub returns-in_ok-both-in-Called : goal.returns-in_ok-both-in-Called
 returns-in_ok-both-in-Called c = λ φ p e N. called_follows φ p c.in-Called.call c.in_ok-both-in-Called.both c.in_ok-both-in-Called.ensures.cases e (rw c.in-Called.is at N)
 
 pub returns-in_ok-again-in-Collected : goal.returns-in_ok-again-in-Collected
-returns-in_ok-again-in-Collected c = λ φ p e N. collected_follows φ p c.in-Collected.collected.value c.in_ok-again-in-Collected.again.value c.in_ok-again-in-Collected.ensures.cases e (rw c.in-Collected.is at N)
+returns-in_ok-again-in-Collected c = λ φ p e N. collected_follows φ p c.in-Collected.collected c.in_ok-again-in-Collected.again c.in_ok-again-in-Collected.ensures.cases e (rw c.in-Collected.is at N)

@@ -1,6 +1,6 @@
 use Rattle.std.proofs.Common.{subst}
 use Rattle.sf_state.specs.Standing.{AllFollow}
-use Rattle.sf_state.proofs.Copies.{probe_follows, join_follows, wrap_follows, pipeline_follows, gathered_follows, members_follow}
+use Rattle.sf_state.proofs.Copies.{probe_follows, join_follows, wrap_follows, pipeline_follows, gathered_follows, same_held}
 use Rattle.sf_state.proofs.state.Live.clone_in.Goals as goal
 
 pub returns-in_ok-second-in-Join : goal.returns-in_ok-second-in-Join
@@ -23,7 +23,4 @@ returns-in_ok-same-in-Probe c = λ φ p P x L R.
 
 pub returns-in_ok-all-in-Gathered : goal.returns-in_ok-all-in-Gathered
 returns-in_ok-all-in-Gathered c = λ φ p P x L R.
-    let keys = c.in-Gathered.keys in
-    let states = c.in-Gathered.states in
-    let all = subst (λ bs. AllFollow φ p bs c.in_ok-all-in-Gathered.all.items) c.deref-in-Gathered.ensures.value (c.in_ok-all-in-Gathered.ensures φ p) in
-    gathered_follows φ p keys states _ (members_follow φ p keys c.in_ok-under-in-Gathered.under states c.in_ok-all-in-Gathered.all c.in_ok-under-in-Gathered.ensures.cases all) P x L (rw c.in-Gathered.is at R)
+    gathered_follows φ p c.in-Gathered.members c.in_ok-all-in-Gathered.all (same_held φ p _ _ c.in_ok-all-in-Gathered.ensures) P x L (rw c.in-Gathered.is at R)
