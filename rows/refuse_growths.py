@@ -4,9 +4,10 @@ There are a delay of numbers, a loop over pairs, one of texts, events and tables
 functions, one that switches, one that freezes a process and runs it twice, one whose state is saved and returned to, one of templates
 that are given values and processes, one with a probe in what is begun anew, one of forms that remember, one of forms that go by
 time and by numbers of events, and three of collections; and then networks that laws rewrite. A text of all these and of further forms
-is checked and written anew. Last, each read and each write of a run fails in turn, and each write takes nothing in turn.
+is checked and written anew. Then each growth of the program of crates/oven is refused, which adds a function and has an actuator act on
+samples. Last, each read and each write of a run fails in turn, and each write takes nothing in turn.
 
-    python3 rows/refuse_growths.py --exe PATH
+    python3 rows/refuse_growths.py --exe PATH [--oven PATH]
 
 What is written has to be the script of the lines before, then `! T Memory` or `! line N Memory`; or nothing, with the
 network refused for memory or the words or the file not read. Where a later growth is refused, the run has come as far or further. Of a
@@ -220,6 +221,17 @@ def fail(exe, place, shim, network, script):
     return passed, failed
 
 
+def react(oven, shim):
+    """The same of growths of a program that adds a function to its network, and has an actuator act on its samples."""
+    with open(os.path.join(HERE, "..", "crates", "oven", "stdout"), "rb") as file:
+        lines = file.read().splitlines(True)
+    said = (b"Error: Memory\n", b"Error: out of memory\n", b"Error: memory allocation failed\n")
+    wanted = {(1, b"".join(lines[:count]), words): count for count in range(len(lines) + 1) for words in said}
+    wanted[0, b"".join(lines), b""] = len(lines) + 1
+    passed, failed, ends = refuse(shim, [oven], b"", wanted, "oven")
+    return passed, failed + unmet("oven", ends, [(0, "no growth refused"), (1, "a call without memory")])
+
+
 def built(place, name):
     """A library of rows/, to be loaded before the C library."""
     shim = os.path.join(place, f"{name}.so")
@@ -230,12 +242,14 @@ def built(place, name):
 def main():
     parser = argparse.ArgumentParser()
     parser.add_argument("--exe", required=True)
+    parser.add_argument("--oven", default=os.path.join(HERE, "..", "crates", "oven", "out", "oven"))
     options = parser.parse_args()
     with tempfile.TemporaryDirectory() as place:
         shim = built(place, "refused_growth")
         exe = os.path.abspath(options.exe)
         counts = [play(exe, place, shim, *run, *mode) for run in RUNS for mode in ([], ["--plain"])]
         counts += [write(exe, place, shim, "--check", "ok\n"), write(exe, place, shim, "--dump", many())]
+        counts.append(react(os.path.abspath(options.oven), shim))
         counts.append(fail(exe, place, built(place, "failed_call"), *next(run for run in RUNS if "rpSwitchB" in run[0])))
     passed, failed = (sum(part) for part in zip(*counts))
     print(f"{passed} passed, {failed} failed")
