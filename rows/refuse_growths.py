@@ -4,15 +4,16 @@ There are a delay of numbers, a loop over pairs, one of texts, events and tables
 functions, one that switches, one that freezes a process and runs it twice, one whose state is saved and returned to, one of templates
 that are given values and processes, one with a probe in what is begun anew, one of forms that remember, one of forms that go by
 time and by numbers of events, and three of collections; and then networks that laws rewrite. A text of all these and of further forms
-is checked and written anew. Then each growth of the program of crates/oven is refused, which adds a function and has an actuator act on
-samples. Last, each read and each write of a run fails in turn, and each write takes nothing in turn.
+is checked and written anew. Then each growth of the program of crates/oven is refused, which adds a function, takes a list of steps, saves
+and returns, and has an actuator act on samples; and each of crates/sftypes, which tells the types that do not fit. Last, each read and
+each write of a run fails in turn, and each write takes nothing in turn.
 
-    python3 rows/refuse_growths.py --exe PATH [--oven PATH]
+    python3 rows/refuse_growths.py --exe PATH [--oven PATH] [--types PATH]
 
 What is written has to be the script of the lines before, then `! T Memory` or `! line N Memory`; or nothing, with the
 network refused for memory or the words or the file not read. Where a later growth is refused, the run has come as far or further. Of a
-check and of a text nothing is written, or all of it. Each ends with the first number that refuses nothing. Where a read fails, the
-lines that were complete have their output, and where a write fails or takes nothing, a front of it.
+check, of a text and of types nothing is written and memory is named, or all of it. Each ends with the first number that refuses nothing.
+Where a read fails, the lines that were complete have their output, and where a write fails or takes nothing, a front of it.
 The last line is `N passed, M failed`.
 """
 
@@ -30,6 +31,9 @@ def samples(inputs, values):
     return [(f"{16 if at else 0} {given}", f"> {16 * at} {value}") for at, (given, value) in enumerate(zip(inputs, values))]
 
 
+# What goes on where it was frozen.
+FROZEN = "kSwitch(localTime, arr (_, y) => if (y >= 20) then event () else none Unit, k, _ => run k)"
+
 # Networks, each with its input lines, what each line writes, and words for the program.
 RUNS = [
     ("Int ~> Int = iPre 7", samples(["1", "2", "3"], ["7", "1", "2"])),
@@ -46,8 +50,18 @@ RUNS = [
      samples(["(1,none)", "(2,event -7)", "(-5,none)"], ["(3,1)", "(7,1)", "(7,-1)"])),
     ('Int ~> (Int, Int) = dSwitch(((identity &&& constant 0) &&& arr x => if (x > 1) then event (x, "") else none (Int, Text)),'
      ' (start, _) => (iPre start &&& arr x => (x - start)))', samples(["1", "2", "3"], ["(1,0)", "(2,0)", "(2,1)"])),
+    # the least number has no absolute value
+    ("Int ~> Int = arr x => call abs(x)", [("0 -5", "> 0 5"), ("5 -9223372036854775808", "! 5 Function")]),
     ("Int ~> Int = kSwitch(iPre 7, arr (x, _) => gate(event x, (x > 1)), k, c => ((run k &&& run k) >>> arr (u, v) => ((u + v) * c)))",
      samples(["1", "2", "3"], ["7", "4", "8"])),
+    # a process that is frozen, and two of which one is frozen within the other and goes on twice there
+    (f"Unit ~> Int = {FROZEN}", [("0 ()", "> 0 0"), ("10 =", "> 10 10"), ("15 =", "> 25 25"), ("5 =", "> 30 30")]),
+    (f"Unit ~> Int = {FROZEN.replace('localTime', '(localTime >>> probe t)')}",
+     [("0 ()", "? t 0\n> 0 0"), ("10 =", "? t 10\n> 10 10"), ("15 =", "? t 25\n? t 25\n> 25 25")], "--probes"),
+    ("Unit ~> Int = kSwitch(kSwitch(localTime, arr (_, y) => if (y >= 10) then event () else none Unit, k,"
+     " _ => ((run k &&& switch((constant 0 &&& after 5 ()), _ => run k)) >>> arr (u, v) => ((u * 1000) + v))),"
+     " arr (_, y) => if (y >= 17000) then event () else none Unit, j, _ => switch((constant -1 &&& after 20 ()), _ => run j))",
+     [("0 ()", "> 0 0"), ("10 =", "> 10 10000"), ("5 =", "> 15 15010"), ("2 =", "> 17 -1"), ("20 =", "> 37 17012"), ("3 =", "> 40 20015")]),
     ("(Int, Text) ~> (Int, Text) = kSwitch((iPre 7 *** identity), arr ((x, _), _) => gate(event x, (x > 1)), k,"
      " c => (run k >>> first arr y => (y * c)))",
      [('0 (1,"a")', '> 0 (7,"a")'), ("save start", ""), ('16 (2,"b")', '> 16 (2,"b")'), ("save later", ""), ("back start", ""),
@@ -116,6 +130,20 @@ FURTHER = [
 ]
 
 
+# What the oven's line of a look ahead begins with.
+LOOKED = b"if the door were open: "
+
+
+# Networks with types that do not fit, within forms whose types are made on the way, each with what is told of them.
+UNFIT = [
+    ("template main(): Int ~> Int = loopPre(0, (arr (x, s) => x >>> kSwitch(raised(1), arr (_, y) => gate(event y, (y > 1)), k, c =>"
+     " pSwitchB(add(empty Int, 1, run k), arr (_, t) => filterE(get(t, 1), v => (v > c)), ks,"
+     " v => parB add(use ks, 2, sscan(0, (s, x) => match(event x, true, w => (w + s))))))));\n"
+     "template raised(n: Int): Int ~> Int = arr x => (x + n)", "2:259 found Int, wanted Bool"),
+    ("template main(): Int ~> Int = (identity >>> hold true)", "2:45 found Int, wanted Event Bool"),
+]
+
+
 def many():
     """The canonical text of an accepted network of many forms."""
     terms = [term for term, *_ in RUNS if "\n" not in term] + FURTHER
@@ -126,6 +154,11 @@ def many():
 def unread():
     """The status with the output and the words on standard error where the network is refused for memory, or its file not read."""
     return {(5, b"", b"sfplay: Memory\n"): 0, (6, b"", b"sfplay: read fault\n"): 0}
+
+
+def ended(script):
+    """The status of a run with no growth refused: 3 where it ends at a fault."""
+    return 3 if script[-1][1].startswith("!") else 0
 
 
 def allowed(script):
@@ -139,24 +172,35 @@ def allowed(script):
             time = text.splitlines()[-1].split()[1]
             found[3, before + b"! %s Memory\n" % time.encode("ascii"), b""] = 2 * number
             before += text.encode("ascii") + b"\n"
-    return {**found, (0, before, b""): 2 * len(script) + 1}
+    return {**found, (ended(script), before, b""): 2 * len(script) + 1}
+
+
+def refused(shim, number, words, lines):
+    """What a program answers with a growth refused, and whether it came to that growth."""
+    told, refusal = os.pipe()
+    settings = {**os.environ, "LD_PRELOAD": shim, "REFUSED_GROWTH": str(number), "REFUSAL_TO": str(refusal)}
+    done = subprocess.run(words, input=lines, capture_output=True, env=settings, timeout=60, pass_fds=(refusal,))
+    os.close(refusal)
+    with open(told, "rb") as file:
+        return (done.returncode, done.stdout, done.stderr), file.read() != b""
 
 
 def refuse(shim, words, lines, wanted, played):
-    """How many refused growths went well and how many didn't, and the statuses that were met."""
+    """How many refused growths went well and how many didn't, and the statuses that were met. Where none is refused, the answer has to be
+    the one that comes furthest, and no other run has it."""
     passed = failed = number = furthest = 0
     ends = set()
-    while 0 not in ends and number < 2000:
+    met = True
+    while met and number < 2000:
         number += 1
-        settings = {**os.environ, "LD_PRELOAD": shim, "REFUSED_GROWTH": str(number)}
-        done = subprocess.run(words, input=lines, capture_output=True, env=settings, timeout=60)
-        answer = (done.returncode, done.stdout, done.stderr)
+        answer, met = refused(shim, number, words, lines)
+        status, output, _ = answer
         # (before the network is read, the words themselves may find no memory: status 2 and nothing written)
-        come = 0 if done.returncode == 2 and not done.stdout else wanted.get(answer, -1)
-        well = come >= furthest
+        come = 0 if status == 2 and not output else wanted.get(answer, -1)
+        well = come >= furthest and met == (come < max(wanted.values()))
         furthest = max(furthest, come)
         passed, failed = passed + well, failed + (not well)
-        ends.add(done.returncode)
+        ends.add(status)
         if not well:
             print(f"{played}: growth {number} refused: {answer!r}")
     return passed, failed, ends
@@ -178,7 +222,7 @@ def play(exe, place, shim, network, script, *arguments):
     lines = "".join(f"{line}\n" for line, _ in script).encode("ascii")
     played = " ".join([network, *arguments])
     passed, failed, ends = refuse(shim, [exe, path, *arguments], lines, allowed(script), played)
-    due = [(0, "a run with no growth refused"), (5, "a network refused for memory"), (3, "a sample without memory")]
+    due = [(ended(script), "a run with no growth refused"), (5, "a network refused for memory"), (3, "a sample without memory")]
     due += [(4, "a save or a return without memory")] if not all(text for _, text in script) else []
     return passed, failed + unmet(played, ends, due)
 
@@ -221,15 +265,29 @@ def fail(exe, place, shim, network, script):
     return passed, failed
 
 
-def react(oven, shim):
-    """The same of growths of a program that adds a function to its network, and has an actuator act on its samples."""
+def bake(oven, shim):
+    """The same of growths of a program that adds a function to its network, takes a list of steps, keeps a state and returns to it, and
+    has an actuator act on samples. Where nothing is kept for want of memory, it says so, and each later sample is as ever."""
     with open(os.path.join(HERE, "..", "crates", "oven", "stdout"), "rb") as file:
         lines = file.read().splitlines(True)
     said = (b"Error: Memory\n", b"Error: out of memory\n", b"Error: memory allocation failed\n")
     wanted = {(1, b"".join(lines[:count]), words): count for count in range(len(lines) + 1) for words in said}
+    kept = next(at for at, line in enumerate(lines) if line.startswith(LOOKED))
+    unkept = b"".join([*lines[:kept], LOOKED + b"unknown\n", *lines[kept + 1 :]])
+    wanted[0, unkept, b""] = kept
     wanted[0, b"".join(lines), b""] = len(lines) + 1
     passed, failed, ends = refuse(shim, [oven], b"", wanted, "oven")
-    return passed, failed + unmet("oven", ends, [(0, "no growth refused"), (1, "a call without memory")])
+    return passed, failed + unmet("oven", ends, [(0, "nothing kept"), (1, "a call without memory")])
+
+
+def tell(types, place, shim, templates, told):
+    """The same of a program that tells which types do not fit in a network: it tells all, or that there was no memory."""
+    path = os.path.join(place, "network")
+    with open(path, "w") as file:
+        file.write(f"network 1;\n{templates};\n")
+    wanted = {(5, b"", b"sftypes: Memory\n"): 0, (6, b"", b"sftypes: out of memory\n"): 0, (0, told.encode("ascii") + b"\n", b""): 1}
+    passed, failed, ends = refuse(shim, [types, path], b"", wanted, told)
+    return passed, failed + unmet(told, ends, [(0, "types that are told"), (5, "types without memory")])
 
 
 def built(place, name):
@@ -243,13 +301,15 @@ def main():
     parser = argparse.ArgumentParser()
     parser.add_argument("--exe", required=True)
     parser.add_argument("--oven", default=os.path.join(HERE, "..", "crates", "oven", "out", "oven"))
+    parser.add_argument("--types", default=os.path.join(HERE, "..", "crates", "sftypes", "out", "sftypes"))
     options = parser.parse_args()
     with tempfile.TemporaryDirectory() as place:
         shim = built(place, "refused_growth")
         exe = os.path.abspath(options.exe)
         counts = [play(exe, place, shim, *run, *mode) for run in RUNS for mode in ([], ["--plain"])]
         counts += [write(exe, place, shim, "--check", "ok\n"), write(exe, place, shim, "--dump", many())]
-        counts.append(react(os.path.abspath(options.oven), shim))
+        counts.append(bake(os.path.abspath(options.oven), shim))
+        counts += [tell(os.path.abspath(options.types), place, shim, *unfit) for unfit in UNFIT]
         counts.append(fail(exe, place, built(place, "failed_call"), *next(run for run in RUNS if "rpSwitchB" in run[0])))
     passed, failed = (sum(part) for part in zip(*counts))
     print(f"{passed} passed, {failed} failed")

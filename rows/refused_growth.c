@@ -1,7 +1,9 @@
-// Loaded before the C library: the growth number REFUSED_GROWTH of the process is refused, once.
+// Loaded before the C library: the growth number REFUSED_GROWTH of the process is refused, once, and a byte written to the file number
+// REFUSAL_TO.
 #define _GNU_SOURCE
 #include <dlfcn.h>
 #include <stdlib.h>
+#include <unistd.h>
 
 static long refused(void) {
     static long count = 0;
@@ -10,7 +12,9 @@ static long refused(void) {
         const char *text = getenv("REFUSED_GROWTH");
         wanted = text ? atol(text) : 0;
     }
-    return ++count == wanted;
+    if (++count != wanted) return 0;
+    const char *told = getenv("REFUSAL_TO");
+    return !told || write(atoi(told), "", 1) == 1;
 }
 
 void *malloc(size_t size) {

@@ -6,6 +6,7 @@ The last line is `N passed, M failed`.
 """
 
 import argparse
+import ast
 import os
 import re
 import subprocess
@@ -45,6 +46,11 @@ class Tools:
         return run.stdout, run.returncode
 
 
+def number_of_histories(firsts, steps, most):
+    """How many runs there are of each length up to the most."""
+    return sum(firsts * steps**at for at in range(most))
+
+
 def number_of_samples(firsts, steps, most):
     """How many samples the runs of each length up to the most have, where those that begin alike share them."""
     return sum(firsts * sum(steps**at for at in range(length)) for length in range(1, most + 1))
@@ -53,7 +59,7 @@ def number_of_samples(firsts, steps, most):
 def explored(tools):
     network = tools.write("counts.net", COUNTS)
     steps = ("10 none", "20 event ()", "5 =")
-    all_right = f"{number_of_samples(2, 3, 3)} samples were played, and all are right\n"
+    all_right = f"{number_of_histories(2, 3, 3)} histories were tried by {number_of_samples(2, 3, 3)} samples, and all are right\n"
     yield "all runs of three samples", tools.call("explore.py", network, "3", "[0-3]", *steps) == (all_right, 0)
     output, status = tools.call("explore.py", network, "6", "[0-2]", *steps)
     shortest = ["0 event () > 0 1", "20 event () > 20 2", "20 event () > 40 3"]
@@ -95,6 +101,9 @@ def by_hand(tools):
     typed = "undo\nevent ()\nundo\nnone\n"
     said = "nothing is left to take back\n> 0 1\nback before the first sample\n> 0 0\n"
     yield "the first sample is taken back", tools.call("by_hand.py", network, lines=typed) == (said, 0)
+    typed = "none\nsave a\nevent ()\nevent ()\nback a\n= \nevent ()\nback b\nlog\n"
+    said = "> 0 0\n> 100 1\n> 200 2\nback at 0\n> 100 0\n> 200 1\nnothing is kept under this name\n0 none\n100 =\n100 event ()\n"
+    yield "a save is returned to", tools.call("by_hand.py", network, lines=typed) == (said, 0)
     sums = tools.write("sums.net", "network 1;\ntemplate main(): Int ~> Int = (probe x >>> sscan(0, (sum, x) => (sum + x)));\n")
     typed = [str(number) for number in range(100)] + ["undo"] * 90 + ["1000"]
     output = tools.call("by_hand.py", sums, lines="\n".join(typed))[0].splitlines()
@@ -229,7 +238,15 @@ def no_program(tools):
         yield f"{tool} has no program", tools.call(tool, "--exe", os.path.join(tools.place, "none"), *words)[1] == 1
 
 
-TESTS = (explored, explored_in_several_runs, by_hand, taken_apart, drawn, dumped, compared, timed, no_program)
+def helped(tools):
+    for tool in ("by_hand.py", "clock.py", "compare.py", "explore.py", "picture.py", "waveform.py"):
+        output, status = tools.call(tool, "--help", has_program=False)
+        with open(os.path.join(TOP, "tools", tool)) as file:
+            page = ast.get_docstring(ast.parse(file.read()))
+        yield f"the page of {tool}", status == 0 and output.startswith("usage: ") and page in output
+
+
+TESTS = (explored, explored_in_several_runs, by_hand, taken_apart, drawn, dumped, compared, timed, no_program, helped)
 
 
 def main():

@@ -4,7 +4,8 @@
 
 A line with a value is a sample 100 milliseconds behind the one before, and `=` one with the input unchanged. `DT VALUE` and `DT =` are
 samples DT milliseconds behind it. `undo` takes the last sample back, as often as one likes, and `log` writes the lines that lead to
-here. A line that is refused changes nothing, and neither does one that gives a fault. Readings of probes are written too.
+here. `save NAME` keeps where the run is, and `back NAME` returns there. A line that is refused changes nothing, and neither does one
+that gives a fault. Readings of probes are written too.
 """
 
 import argparse
@@ -19,7 +20,7 @@ KEPT = 64
 
 class ByHand:
     def __init__(self, words):
-        self.words, self.log = words, []
+        self.words, self.log, self.saves = words, [], {}
         self.begin()
 
     def begin(self):
@@ -53,7 +54,18 @@ class ByHand:
         else:
             self.session.end()
             self.begin()
+        return self.where()
+
+    def where(self):
         return [f"back at {sum(int(line.split()[0]) for line in self.log)}"] if self.log else ["back before the first sample"]
+
+    def back(self, name):
+        if name not in self.saves:
+            return ["nothing is kept under this name"]
+        self.log = list(self.saves[name])
+        self.session.end()
+        self.begin()
+        return self.where()
 
     def answer(self, typed):
         if typed == "undo":
@@ -61,6 +73,11 @@ class ByHand:
         if typed == "log":
             return self.log
         step, _, value = typed.partition(" ")
+        if step == "save" and value:
+            self.saves[value] = list(self.log)
+            return []
+        if step == "back" and value:
+            return self.back(value)
         if not (step.isdigit() and value):
             step, value = str(STEP), typed
         return self.sample(f"{step if self.log else 0} {value}")

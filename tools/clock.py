@@ -6,6 +6,7 @@ Each line that comes in is a value; its step is the milliseconds since the line 
 unchanged goes out whenever no line has come for MS milliseconds.
 """
 
+import argparse
 import os
 import select
 import sys
@@ -26,7 +27,9 @@ class Clock:
 
 
 def main():
-    tick = int(sys.argv[1]) / 1000 if len(sys.argv) > 1 else LONGEST_STEP / 1000
+    parser = argparse.ArgumentParser(description=__doc__, formatter_class=argparse.RawDescriptionHelpFormatter)
+    parser.add_argument("ms", metavar="MS", nargs="?", type=int, default=LONGEST_STEP)
+    tick = parser.parse_args().ms / 1000
     clock, held, piece = Clock(), b"", b" "
     while piece:
         # (before the first value there is none to repeat)

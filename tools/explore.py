@@ -4,7 +4,8 @@
 
 Each LINE is a step, `DT VALUE` or `DT =`. A run begins with the value of one of them, and goes on with any of them in any order, for at
 most SAMPLES samples. Each value that is written has to match all of PATTERN, a regular expression; a fault matches none. The shortest
-run that ends with a wrong one is written beside what it gives.
+run that ends with a wrong one is written beside what it gives. The last line says how many such histories were tried: the shorter ones
+first, each once.
 
 Before each step the run saves, and behind it it returns. So no run is begun anew for each order of the lines.
 
@@ -24,7 +25,7 @@ MOST_LINES, MOST_SAMPLES = 999_990, 65
 class Explorer:
     def __init__(self, words, steps, pattern):
         self.words, self.steps, self.pattern = words, steps, re.compile(pattern)
-        self.session, self.samples = None, 0
+        self.session, self.histories, self.samples = None, 0, 0
 
     def begin(self, path):
         """Begins a run anew that has come to where a path leads, with what is kept before each of its steps."""
@@ -54,6 +55,7 @@ class Explorer:
                 self.begin(path)
                 self.session.tell(f"save at{len(path)}")
             given, is_right = self.sample(line)
+            self.histories += left == 1
             longer = [*path, (line, given)]
             found = longer if not is_right else self.go_on(longer, left - 1) if left > 1 else None
             if found:
@@ -69,6 +71,7 @@ class Explorer:
             for first in firsts:
                 self.begin([])
                 given, is_right = self.sample(first)
+                self.histories += length == 1
                 path = [(first, given)]
                 found = path if not is_right else self.go_on(path, length - 1) if length > 1 else None
                 if found:
@@ -90,7 +93,7 @@ def main():
     found = explorer.explore(options.samples)
     for line, given in found or ():
         print(f"{line:30} {given}")
-    print(f"{explorer.samples:,} samples were played, and " + ("the last one is wrong" if found else "all are right"))
+    print(f"{explorer.histories:,} histories were tried by {explorer.samples:,} samples, and " + ("the last one is wrong" if found else "all are right"))
     return 1 if found else 0
 
 

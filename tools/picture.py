@@ -6,6 +6,7 @@ Each part of the values has a row, and so has each probe. A truth is a line that
 everything else a box for as long as it stays the same. Where the run returned to a save, and the time went back, a new band begins.
 """
 
+import argparse
 import html
 import sys
 
@@ -107,6 +108,7 @@ def drawn(all_bands):
 
 
 def main():
+    argparse.ArgumentParser(description=__doc__, formatter_class=argparse.RawDescriptionHelpFormatter).parse_args()
     all_bands = list(bands(samples(sys.stdin)))
     if not all_bands:
         sys.exit("picture: no line of a sample (`> TIME VALUE`) came in")

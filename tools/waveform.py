@@ -7,6 +7,7 @@ bit that is set for the millisecond in which it occurs, beside its payload. A du
 save, and the time didn't go on, the dump ends, with a word on standard error and status 1.
 """
 
+import argparse
 import json
 import re
 import sys
@@ -77,8 +78,7 @@ def dumped(kept):
 
 
 def main():
-    if sys.argv[1:]:
-        sys.exit(__doc__)
+    argparse.ArgumentParser(description=__doc__, formatter_class=argparse.RawDescriptionHelpFormatter).parse_args()
     kept, returned = forward(samples(sys.stdin))
     if not kept:
         sys.exit("waveform: no line of a sample (`> TIME VALUE`) came in")

@@ -27,6 +27,11 @@ impl OnNumber for Degrees {
     }
 }
 
+/// Whether the heater is on.
+fn is_on(sample: &Sample) -> bool {
+    matches!(sample.value.form(), Form::Bool(true))
+}
+
 /// Counts the samples with the heater on, and ends once they are as many as it was to wait for.
 #[derive(Drop)]
 struct Relay {
@@ -37,37 +42,63 @@ impl Actuator for Relay {
     ghost acts = { λ old s answer new. IsTrue answer ↔ (new.left ≡ 0) };
 
     fn act(&mut self, sample: &Sample) -> bool {
-        if let Form::Bool(true) = sample.value.form() {
+        if is_on(sample) {
             self.left = self.left.saturating_sub(1);
         }
         self.left == 0
     }
 }
 
-/// Runs the oven on what its sensor says, once a second.
-fn run<R: Print, F: Holds, A: Actuator>(rt: &R, oven: &mut React<F, A>) -> Result<(), Error> {
-    let mut ended = oven.react_init(Value::int(180))?;
-    println!(rt; "{ended}")?;
-    for raw in [190, 199, 206, 198, 190, 191] {
-        ended = oven.react(1000, Some(Value::int(raw)))?;
+/// Heats up: the samples of a list of readings, one a second.
+fn heat<R: Print + Alloc<A = Global>, F: Holds>(rt: &R, oven: &mut Engine<F>) -> Result<(), Error> {
+    let mut readings = Vec::new(rt.alloc());
+    readings.push((1000, Some(Value::int(199))))?;
+    readings.push((1000, Some(Value::int(206))))?;
+    let heated = oven.embed(Value::int(180), readings)?;
+    for sample in &heated.samples {
+        println!(rt; "{} {}", sample.time, is_on(sample))?;
+    }
+    match heated.ended {
+        Some(error) => Err(error.into()),
+        None => Ok(()),
+    }
+}
+
+/// Looks at what a second with the door open would do: the oven goes there, and back. Where nothing can be kept to go back to, it
+/// stays where it is.
+fn look<R: Print, F: Holds>(rt: &R, oven: &mut Engine<F>) -> Result<(), Error> {
+    if oven.save("closed").is_err() {
+        println!(rt; "if the door were open: unknown")?;
+        return Ok(());
+    }
+    let sample = oven.step(1000, Some(Value::int(150)))?;
+    println!(rt; "if the door were open: {}", is_on(&sample))?;
+    oven.back("closed")?;
+    Ok(())
+}
+
+/// Bakes: the relay acts on each sample.
+fn bake<R: Print, F: Holds, A: Actuator>(rt: &R, oven: &mut React<F, A>) -> Result<(), Error> {
+    for raw in [198, 190, 199] {
+        let ended = oven.react(1000, Some(Value::int(raw)))?;
         println!(rt; "{ended}")?;
     }
     Ok(())
 }
 
-/// The same with a network that was checked. It takes the functions as any type that holds some.
-fn run_checked<R: Print, F: Holds + Drop, A: Actuator>(
+/// Runs a network that was checked. It takes the functions as any type that holds some.
+fn run<R: Print + Alloc<A = Global>, F: Holds + Drop, A: Actuator>(
     rt: &R,
-    alloc: Global,
     checked: Checked,
     functions: F,
     actuator: A,
 ) -> Result<(), Error> {
-    let Ok(engine) = Engine::new(alloc, checked, functions, Mode::Optimised) else {
+    let Ok(mut oven) = Engine::new(rt.alloc(), checked, functions, Mode::Optimised) else {
         return Err(AllocError.into());
     };
-    let mut oven = React::new(engine, actuator);
-    run(rt, &mut oven)
+    heat(rt, &mut oven)?;
+    look(rt, &mut oven)?;
+    bake(rt, &mut React::new(oven, actuator))
 }
 
 fn main(rt: HostRuntime) -> Result<(), Error> {
@@ -82,5 +113,5 @@ fn main(rt: HostRuntime) -> Result<(), Error> {
         Ok(checked) => checked,
         Err((refusal, _)) => return Err(refusal.into()),
     };
-    run_checked(&rt, alloc, checked, functions, Relay { left: 3 })
+    run(&rt, checked, functions, Relay { left: 2 })
 }

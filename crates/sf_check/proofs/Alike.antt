@@ -231,8 +231,8 @@ module _ (fs gs : TypesByName) where
     built k (builds_applied {a = a}) h b parts = parts a b
     built k (builds_operation {a = a} {b = c}) h b parts = (parts a b.0, parts c b.1)
     built k (builds_conditional {a = a} {b = c} {c = d}) h b parts = (parts a b.0, parts c b.1, parts d b.2)
-    built k (builds_mapped {a = a} {b = c}) h b parts = (parts a b.0, parts c b.1)
-    built k (builds_folded {a = a} {b = c} {c = d}) h b parts = (parts a b.0, parts c b.1, parts d b.2)
+    built k (builds_mapped {n = n}) h b parts = (parts n.part b.0, parts n.body b.1)
+    built k (builds_folded {n = n}) h b parts = (parts n.first b.0, parts n.second b.1, parts n.body b.2)
     built k (builds_called {g = g} {s = s} {a = a}) h b parts = (parts a b, h g s a refl)
 
     expression_parts : (i : ExprId) → PartsBelow (node_at x i) (id_number i)
@@ -284,8 +284,8 @@ module _ (fs gs : TypesByName) where
     made_alike (terms.Sided d f) k b parts = parts f b
     made_alike (terms.Headed h v f) k b parts = (expression_alike (expressions_of p) all v, parts f b)
     made_alike (terms.Transformed g f) k b parts = (expression_alike (expressions_of p) all (body_at (expressions_of p) g), parts f b)
-    made_alike (terms.Switching w f q g) k b parts = (parts f b.0, parts g b.1)
-    made_alike (terms.Keeping w f o x s q g) k b parts = (parts f b.0, parts o b.1, parts g b.2)
+    made_alike (terms.Switching n) k b parts = (parts n.source b.0, parts n.body b.1)
+    made_alike (terms.Keeping n) k b parts = (parts n.source b.0, parts n.observer b.1, parts n.body b.2)
     made_alike (terms.Gathered i) k b parts = collection_alike (collection_under p i) k b parts
     made_alike (terms.Releasing n) k b parts = (collection_alike (collection_under p n.members) k b.0 parts, parts n.observer b.1, parts n.body b.2)
     made_alike (terms.Editing n) k b parts = (collection_alike (collection_under p n.members) k b.0 parts, collection_alike (collection_under p n.edit) k b.1 parts)

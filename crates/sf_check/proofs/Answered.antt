@@ -423,9 +423,9 @@ module _ (p : Program) (Γ : Context) (around : ContextFits Γ) where
           of_body (subst (Binds (pattern_in p q) c (names_of_values Δ)) inner m.1) (G (subst (λ R. NamesFit R) inner m.2, λ y a b h. inside.1 y a b (process_inside (pattern_in p q) c Δ.bindings y h), inside.2))
     ]
 
-  of_switch_event : (t : TermId) (w : Switching) (f : TermId) (q : PatternId) (g : TermId) (a : Kind) → term_node_at p t ≡ nodes.Switching w f q g → Fits a
+  of_switch_event : (t : TermId) (w : Switching) (f : TermId) (q : PatternId) (g : TermId) (a : Kind) → term_node_at p t ≡ nodes.Switching (record { form = w; source = f; pattern = q; body = g }) → Fits a
       → (x b c : Kind) → BodyWanted p Γ w f a x b c → Fits c → Body p q g c x Γ → IsAnswered p Γ t a
-  of_switch_event t w f q g a is k x b c F = of_event t (nodes.Switching w f q g) a is k Γ q g x b c (λ r h. switch_body_breaks F h) (switch_body F) (wanted_takes F) around
+  of_switch_event t w f q g a is k x b c F = of_event t (nodes.Switching (record { form = w; source = f; pattern = q; body = g })) a is k Γ q g x b c (λ r h. switch_body_breaks F h) (switch_body F) (wanted_takes F) around
 
   payload_fits : (c : Kind) → Fits (event_kind c) → Fits c
   payload_fits c h = omega (arith, h)
@@ -437,7 +437,7 @@ module _ (p : Program) (Γ : Context) (around : ContextFits Γ) where
   value_fits b c h = omega (arith, h)
 
   module _ (t : TermId) (w : Observation) (f : TermId) (q : PatternId) (g : TermId) (a : Kind) (k : Fits a) where
-    of_switch : (is : term_node_at p t ≡ nodes.Switching (Basic w) f q g) → IsAnswered p Γ f a → ((c : Kind) → Body p q g c a Γ) → IsAnswered p Γ t a
+    of_switch : (is : term_node_at p t ≡ nodes.Switching (record { form = Basic w; source = f; pattern = q; body = g })) → IsAnswered p Γ f a → ((c : Kind) → Body p q g c a Γ) → IsAnswered p Γ t a
     of_switch is (inr r) G = in_part t _ a is k switch_source r.1
     of_switch is (inl d) G = elim (beside_or d.0) [
       | inr none ↦ broken t _ a is k (source_differs d.1 none)
@@ -446,11 +446,11 @@ module _ (p : Program) (Γ : Context) (around : ContextFits Γ) where
           of_switch_event t (Basic w) f q g a is k a e.0 e.1 (after_source F) (event_fits e.0 e.1 (output_fits F)) (G e.1)
     ]
 
-    of_recurring : (is : term_node_at p t ≡ nodes.Switching (Recurring w) f q g) → ((x : Kind) → Fits x → IsAnswered p Γ f x) → ((c x : Kind) → Fits x → Body p q g c x Γ) → IsAnswered p Γ t a
+    of_recurring : (is : term_node_at p t ≡ nodes.Switching (record { form = Recurring w; source = f; pattern = q; body = g })) → ((x : Kind) → Fits x → IsAnswered p Γ f x) → ((c x : Kind) → Fits x → Body p q g c x Γ) → IsAnswered p Γ t a
     of_recurring is F G = elim (beside_or a) [
       | inr none ↦ broken t _ a is k (recurring_input none)
       | inl e ↦ elim (F e.0 (value_fits e.0 e.1 (subst Fits e.2 k))) [
-        | inr r ↦ in_part t _ a is k (subst (λ a. Reaches p Γ (nodes.Switching (Recurring w) f q g) a Γ f e.0) (sym e.2) recurring_first) r.1
+        | inr r ↦ in_part t _ a is k (subst (λ a. Reaches p Γ (nodes.Switching (record { form = Recurring w; source = f; pattern = q; body = g })) a Γ f e.0) (sym e.2) recurring_first) r.1
         | inl d ↦
             let W = subst (λ a. BodyWanted p Γ (Recurring w) f a e.0 d.0 e.1) (sym e.2) (beside_input d.1) in
             let fits = subst Fits e.2 k in
@@ -458,12 +458,12 @@ module _ (p : Program) (Γ : Context) (around : ContextFits Γ) where
       ]
     ]
 
-  module _ (t : TermId) (w : Observation) (f o : TermId) (m : NameId) (n : Spot) (q : PatternId) (g : TermId) (a : Kind) (is : term_node_at p t ≡ nodes.Keeping w f o m n q g) (k : Fits a) where
+  module _ (t : TermId) (w : Observation) (f o : TermId) (m : NameId) (n : Spot) (q : PatternId) (g : TermId) (a : Kind) (is : term_node_at p t ≡ nodes.Keeping (record { shown = w; source = f; observer = o; name = m; place = n; pattern = q; body = g })) (k : Fits a) where
     of_seen : (b d : Kind) → Takes Γ (tree p f) a b → Takes Γ (tree p o) (pair_kind a b) d → ((c : Kind) → Body p q g c a (keeping_inside p m a b Γ)) → (e : Option Kind) → payload_of d ≡ e → IsAnswered p Γ t a
     of_seen b d F O G None e = broken t _ a is k (observer_differs F O (no_event d e))
     of_seen b d F O G (Some c) e =
         let E = subst (Takes Γ (tree p o) (pair_kind a b)) (payload_is d e) O in
-        of_event t (nodes.Keeping w f o m n q g) a is k (keeping_inside p m a b Γ) q g a b c (λ r h. keeping_body_breaks F E h) (keeping_body F E) (keeping_takes F E)
+        of_event t (nodes.Keeping (record { shown = w; source = f; observer = o; name = m; place = n; pattern = q; body = g })) a is k (keeping_inside p m a b Γ) q g a b c (λ r h. keeping_body_breaks F E h) (keeping_body F E) (keeping_takes F E)
         (kept_fits Γ (name_in p m) a b (output_fits F) around) (payload_fits c (output_fits E)) (G c)
 
     of_keeping : IsAnswered p Γ f a → ((x : Kind) → Fits x → IsAnswered p Γ o x) → ((b c : Kind) → Body p q g c a (keeping_inside p m a b Γ)) → IsAnswered p Γ t a
@@ -638,6 +638,11 @@ answered_within : (p : Program) (fuel : ℕ) (Γ : Context) → ContextFits Γ �
 answered_within p zero Γ around t h a f = absurd (omega arith)
 answered_within p (suc fuel) Γ around t h a f = by_node (term_node_at p t) refl (node_parts p t) (λ Δ fit j k. answered_within p fuel Δ fit j (omega arith))
   where
+    by_form : (w : Switching) (l : TermId) (q : PatternId) (r : TermId) → term_node_at p t ≡ nodes.Switching (record { form = w; source = l; pattern = q; body = r }) → term_number l < term_number t → term_number r < term_number t
+        → ((Δ : Context) → ContextFits Δ → (j : TermId) → term_number j < term_number t → (b : Kind) → Fits b → IsAnswered p Δ j b) → IsAnswered p Γ t a
+    by_form (Basic w) l q r is first last parts = of_switch p Γ around t w l q r a f is (parts Γ around l first a f) (λ c fit. parts (inside_pattern (pattern_in p q) c Γ) fit r last a f)
+    by_form (Recurring w) l q r is first last parts = of_recurring p Γ around t w l q r a f is (parts Γ around l first) (λ c x h fit. parts (inside_pattern (pattern_in p q) c Γ) fit r last x h)
+
     by_node : (n : Node) → term_node_at p t ≡ n → TermPartsBelow p n (term_number t)
         → ((Δ : Context) → ContextFits Δ → (j : TermId) → term_number j < term_number t → (b : Kind) → Fits b → IsAnswered p Δ j b) → IsAnswered p Γ t a
     by_node (nodes.Primitive q) is b parts = of_primitive p Γ around t q a is f
@@ -654,10 +659,10 @@ answered_within p (suc fuel) Γ around t h a f = by_node (term_node_at p t) refl
     by_node (nodes.Headed Replaced v j) is b parts = of_replaced p Γ around t v j a is f (parts Γ around j b a f)
     by_node (nodes.Headed Followed v j) is b parts = of_output p Γ around t Followed v j a (inr refl) is f (parts Γ around j b a f)
     by_node (nodes.Transformed g j) is b parts = of_transformed p Γ around t g j a is f (parts Γ around j b a f)
-    by_node (nodes.Switching (Basic w) l q r) is b parts = of_switch p Γ around t w l q r a f is (parts Γ around l b.0 a f) (λ c fit. parts (inside_pattern (pattern_in p q) c Γ) fit r b.1 a f)
-    by_node (nodes.Switching (Recurring w) l q r) is b parts = of_recurring p Γ around t w l q r a f is (parts Γ around l b.0) (λ c x h fit. parts (inside_pattern (pattern_in p q) c Γ) fit r b.1 x h)
-    by_node (nodes.Keeping w l o k n q r) is b parts =
-        of_keeping p Γ around t w l o k n q r a is f (parts Γ around l b.0 a f) (parts Γ around o b.1) (λ d c fit. parts (inside_pattern (pattern_in p q) c (keeping_inside p k a d Γ)) fit r b.2 a f)
+    by_node (nodes.Switching n) is b parts = by_form n.form n.source n.pattern n.body is b.0 b.1 parts
+    by_node (nodes.Keeping n) is b parts =
+        of_keeping p Γ around t n.shown n.source n.observer n.name n.place n.pattern n.body a is f (parts Γ around n.source b.0 a f) (parts Γ around n.observer b.1)
+        (λ d c fit. parts (inside_pattern (pattern_in p n.pattern) c (keeping_inside p n.name a d Γ)) fit n.body b.2 a f)
     by_node (nodes.Gathered i) is b parts = of_gathered p Γ around t i a is f (collection_answered p Γ (term_number t) a f (λ j k. parts Γ around j k a f) (collection_under p i) b)
     by_node (nodes.Releasing n) is b parts =
         of_releasing p Γ around t n a is f (collection_answered p Γ (term_number t) a f (λ j k. parts Γ around j k a f) (collection_under p n.members) b.0) (parts Γ around n.observer b.1)

@@ -9,8 +9,10 @@ use Rattle.sf_refusal.specs.Refusals.{breach_of}
 use Rattle.sf_func.specs.Registries.{TypesByName}
 use Rattle.sf_operator.specs.Kinds.{found_then, only, same_kind, payload_of}
 use Rattle.sf_operator.specs.Breaches.{KindRefused, AnswersKind}
-use Rattle.sf_expr.specs.Typing.{Fits}
+use Rattle.sf_expr.specs.Arena.{expression}
+use Rattle.sf_expr.specs.Typing.{Fits, HasType}
 use Rattle.sf_operator.proofs.SameKinds.{same_is, is_same, only_is, found_is, payload_is}
+use Rattle.sf_expr.specs.declared.exprs.ExprId.{ExprId}
 use Rattle.sf_expr.specs.declared.exprs.NameId.{NameId}
 use Rattle.sf_expr.specs.declared.exprs.PatternId.{PatternId}
 use Rattle.sf_expr.specs.declared.exprs.Exprs.{Exprs}
@@ -22,6 +24,7 @@ use Rattle.sf_term.specs.declared.form.Timing.{Timing}
 use Rattle.sf_term.specs.declared.form.Timing.TheVariants as timing
 use Rattle.sf_term.specs.declared.form.Accumulation.{Accumulation}
 use Rattle.sf_term.specs.declared.form.Accumulation.TheVariants as accumulation
+use Rattle.sf_term.specs.declared.form.Heading.{Heading}
 use Rattle.sf_term.specs.declared.form.Heading.TheVariants.{LoopPre, Initialized, Replaced, Followed}
 use Rattle.sf_term.specs.declared.node.TermId.{TermId}
 use Rattle.sf_term.specs.declared.node.Primitive.{Primitive}
@@ -35,7 +38,7 @@ use Rattle.sf_term.specs.declared.program.Program.{Program}
 use Rattle.sf_term.specs.Headers.{Header}
 use Rattle.sf_term.specs.Parameters.{parameters_of}
 use Rattle.sf_term.specs.Arena.{tree, term_node_at, term_spot_at, expressions_of, arguments_under, collection_under, templates_of}
-use Rattle.sf_mean.specs.Contexts.{NameKind, Bindings, Signature, signature_named, Context, context_of, inside_pattern}
+use Rattle.sf_mean.specs.Contexts.{NameKind, Bindings, Signature, signature_named, Context, names_of_values, context_of, inside_pattern}
 use Rattle.sf_mean.specs.Typing.{bare_kind, value_kind, takes_input, selected_kind, accumulated_argument, accumulated_kind, Takes}
 use Rattle.sf_differ.specs.declared.difference.Wanted.{Wanted}
 use Rattle.sf_differ.specs.declared.difference.Wanted.TheVariants.{Exactly, Event}
@@ -49,6 +52,7 @@ use Rattle.sf_differ.proofs.Refused.{none_stands, expression_refused, function_r
 use Rattle.sf_check.specs.Breaking as breaking
 use Rattle.sf_check.specs.Breaking.{pattern_in, name_in, BindsInside, BareRefused, PrimitiveBreaks, BodyBreaks, EditBreaks, ArgumentsLeft, CallBreaks, FormBreaks, Reaches, call_argument, ReachesMembers, argument_members, TermBreaks, CollectionBreaks, TemplateBreaks}
 use Rattle.sf_check.specs.Refusing.{RefusesNetwork, type_refused}
+use Rattle.sf_check.proofs.Terms.{IsAmongOutputs}
 use Rattle.sf_check.proofs.Unlike.{other_than, call_apart}
 use Rattle.sf_check.specs.Differing.{bare_wants, value_wants, input_wants, timed_wants, start_wants, accumulated_wants, made_wants, PrimitiveDiffers, bare_differs, value_differs_within, value_differs, input_differs, timed_differs_within, timed_differs, selected_differs, start_differs_within, accumulated_differs, accumulator_differs, start_differs, made_differs, function_differs, BodyDiffers, body_pattern, body_output, BodyStops, EditDiffers, edit_pattern, edit_tables, EditUnfit, CallDiffers, argument_within, FormDiffers, primitive_differs, process_input, call_itself, both_inputs, side_inputs, head_within, fed_output, initial_output, followed_output, replaced_input, transform_within, transformed_input, source_output, event_beside, switch_body_differs, observer_output, keeping_body_differs, their_observer_output, released_body_differs, event_beside_members, members_edit_differs, TermDiffers, term_itself, term_within, term_members, CollectionDiffers, used_inputs, added_members, added_key_within, member_within, added_key, member_output, dropped_members, dropped_key_within, dropped_key, kept_members, kept_within, kept_truth, choice_within, one_members, other_members, choice_truth, choice_tables, ArgumentDiffersWithin, within_value, within_process, within_members, TemplateDiffers, template_within, header_output, NetworkDiffers}
 
@@ -227,6 +231,12 @@ table_made s h = sym (same_Some _ _ h.0)
 -- the type that is wanted is this one
 pub exactly_as : {u v : Kind} {s : Spot} {t : Kind} {d : Difference} → u ≡ v → IsOther (Some (Exactly u)) s t d → IsOther (Some (Exactly v)) s t d
 exactly_as {s = s} {t = t} {d = d} same h = subst (λ (u : Kind). IsOther (Some (Exactly u)) s t d) same h
+
+-- the outputs of a part behind a value of their type
+pub among_outputs : {p : Program} {Γ : Context} {s : Spot} {h : Heading} {v : ExprId} {t : TermId} {a c e : Kind} {d : Difference}
+    → IsAmongOutputs h → HasType (names_of_values Γ) (expression (expressions_of p) v) c → Takes Γ (tree p t) a e → IsOther (Some (Exactly c)) s e d → FormDiffers p Γ s (nodes.Headed h v t) a d
+among_outputs {p} {Γ} {s} {v = v} {t = t} {a = a} {d = d} (inl is) typed T k = subst (λ h. FormDiffers p Γ s (nodes.Headed h v t) a d) (sym is) (initial_output typed T k)
+among_outputs {p} {Γ} {s} {v = v} {t = t} {a = a} {d = d} (inr is) typed T k = subst (λ h. FormDiffers p Γ s (nodes.Headed h v t) a d) (sym is) (followed_output typed T k)
 
 -- ## A template
 

@@ -42,6 +42,7 @@ use Rattle.sf_term.specs.declared.form.Switching.{Switching}
 use Rattle.sf_term.specs.declared.form.Switching.TheVariants.{Basic, Recurring}
 use Rattle.sf_term.specs.Trees.{Term, switching}
 use Rattle.sf_term.specs.declared.node.TermId.{TermId}
+use Rattle.sf_term.specs.declared.node.Switch.{Switch}
 use Rattle.sf_term.specs.declared.node.Node.{Node}
 use Rattle.sf_term.specs.declared.node.Node.TheVariants as nodes
 use Rattle.sf_term.specs.declared.node.Primitive.{Primitive}
@@ -131,6 +132,10 @@ module _ (p : Program) (Γ : Context) (a : Kind) (k : Heading) (v : ExprId) (f :
         each : IsAmongOutputs k → HasType (names_of_values Γ) (expression (expressions_of p) v) d → FormTakes Γ (made p (nodes.Headed k v f)) a d
         each (inl e) h = subst (λ k. FormTakes Γ (made p (nodes.Headed k v f)) a d) (sym e) (initialized_takes h part)
         each (inr e) h = subst (λ k. FormTakes Γ (made p (nodes.Headed k v f)) a d) (sym e) (followed_takes h part)
+
+-- the node of a switch whose form is seen
+pub switch_there : (p : Program) (t : TermId) (n : Switch) {w : Switching} → n.form ≡ w → term_node_at p t ≡ nodes.Switching n → term_node_at p t ≡ nodes.Switching (record n { form = w })
+switch_there p t n e is = subst (λ (w : Switching). term_node_at p t ≡ nodes.Switching (record n { form = w })) e is
 
 -- a switch takes inputs where its body gives what is wanted of it
 pub wanted_takes : {p : Program} {Γ : Context} {w : Switching} {f : TermId} {q : Pattern} {u : Term} {a x b c : Kind} → BodyWanted p Γ w f a x b c → BindsInside q c Γ → Takes (inside_pattern q c Γ) u x b → FormTakes Γ (switching w (tree p f) q u) a b
@@ -272,51 +277,51 @@ module _ (p : Program) (Γ : Context) (t : TermId) (a : Kind) (s : Spot) (at : s
     by_body (Err e) fit h = or_memory stopped h
 
   -- a switch
-  pub switch_answers : (w : Switching) (f : TermId) (q : PatternId) (g : TermId) (x b c : Kind) (r : Result Kind Refusal) → term_node_at p t ≡ nodes.Switching w f q g → BodyWanted p Γ w f a x b c → Fits a → AnswersBody p Γ s q g x b c r → AnswersTerm p Γ t a r
-  switch_answers w f q g x b c r is wanted = by_body (nodes.Switching w f q g) is Γ q g x b c (λ r h. switch_body_breaks wanted h) (switch_body wanted) (wanted_takes wanted) r
+  pub switch_answers : (w : Switching) (f : TermId) (q : PatternId) (g : TermId) (x b c : Kind) (r : Result Kind Refusal) → term_node_at p t ≡ nodes.Switching (record { form = w; source = f; pattern = q; body = g }) → BodyWanted p Γ w f a x b c → Fits a → AnswersBody p Γ s q g x b c r → AnswersTerm p Γ t a r
+  switch_answers w f q g x b c r is wanted = by_body (nodes.Switching (record { form = w; source = f; pattern = q; body = g })) is Γ q g x b c (λ r h. switch_body_breaks wanted h) (switch_body wanted) (wanted_takes wanted) r
 
   -- its event stands beside its first term's value
   module _ (w : Observation) (f : TermId) (q : PatternId) (g : TermId) (d : Kind) (given : Takes Γ (tree p f) a d) where
-    pub source_answers : (e : Refusal) → term_node_at p t ≡ nodes.Switching (Basic w) f q g → e ≡ broken Mismatch s → IsNoEventBeside d → OrMemory (TermBreaks p Γ t a) e
-    source_answers e is wrong none = itself_refused p Γ t (nodes.Switching (Basic w) f q g) a is s e at (breaks_at Mismatch wrong refl (source_differs given none))
+    pub source_answers : (e : Refusal) → term_node_at p t ≡ nodes.Switching (record { form = Basic w; source = f; pattern = q; body = g }) → e ≡ broken Mismatch s → IsNoEventBeside d → OrMemory (TermBreaks p Γ t a) e
+    source_answers e is wrong none = itself_refused p Γ t (nodes.Switching (record { form = Basic w; source = f; pattern = q; body = g })) a is s e at (breaks_at Mismatch wrong refl (source_differs given none))
 
     pub source_wants : (b c : Kind) → d ≡ pair_kind b (event_kind c) → BodyWanted p Γ (Basic w) f a a b c
     source_wants b c beside = after_source (subst (Takes Γ (tree p f) a) beside given)
 
   -- its event stands beside its input
   module _ (w : Observation) (f : TermId) (q : PatternId) (g : TermId) where
-    pub input_answers : (e : Refusal) → term_node_at p t ≡ nodes.Switching (Recurring w) f q g → e ≡ broken Mismatch s → IsNoEventBeside a → OrMemory (TermBreaks p Γ t a) e
-    input_answers e is wrong none = itself_refused p Γ t (nodes.Switching (Recurring w) f q g) a is s e at (breaks_at Mismatch wrong refl (recurring_input none))
+    pub input_answers : (e : Refusal) → term_node_at p t ≡ nodes.Switching (record { form = Recurring w; source = f; pattern = q; body = g }) → e ≡ broken Mismatch s → IsNoEventBeside a → OrMemory (TermBreaks p Γ t a) e
+    input_answers e is wrong none = itself_refused p Γ t (nodes.Switching (record { form = Recurring w; source = f; pattern = q; body = g })) a is s e at (breaks_at Mismatch wrong refl (recurring_input none))
 
     module _ (x c : Kind) (beside : a ≡ pair_kind x (event_kind c)) where
-      pub first_term_reached : Reaches p Γ (nodes.Switching (Recurring w) f q g) a Γ f x
-      first_term_reached = subst (λ a. Reaches p Γ (nodes.Switching (Recurring w) f q g) a Γ f x) (sym beside) recurring_first
+      pub first_term_reached : Reaches p Γ (nodes.Switching (record { form = Recurring w; source = f; pattern = q; body = g })) a Γ f x
+      first_term_reached = subst (λ a. Reaches p Γ (nodes.Switching (record { form = Recurring w; source = f; pattern = q; body = g })) a Γ f x) (sym beside) recurring_first
 
       pub input_wants : (b : Kind) → Takes Γ (tree p f) x b → BodyWanted p Γ (Recurring w) f a x b c
       input_wants b given = subst (λ a. BodyWanted p Γ (Recurring w) f a x b c) (sym beside) (beside_input given)
 
   -- a switch that keeps its source
-  module _ (w : Observation) (f o : TermId) (k : NameId) (n : Spot) (q : PatternId) (g : TermId) (is : term_node_at p t ≡ nodes.Keeping w f o k n q g) (b : Kind) (given : Takes Γ (tree p f) a b) where
+  module _ (w : Observation) (f o : TermId) (k : NameId) (n : Spot) (q : PatternId) (g : TermId) (is : term_node_at p t ≡ nodes.Keeping (record { shown = w; source = f; observer = o; name = k; place = n; pattern = q; body = g })) (b : Kind) (given : Takes Γ (tree p f) a b) where
     pub watched_answers : (e : Refusal) → AnswersKind (Some (pair_kind a b)) s (Err e) → OrMemory (TermBreaks p Γ t a) e
-    watched_answers e h = itself_refused p Γ t (nodes.Keeping w f o k n q g) a is s e at (or_memory (λ r h. subst (FormBreaks p Γ s (nodes.Keeping w f o k n q g) a) (sym h.0) (observed_exceeds given h.1)) h)
+    watched_answers e h = itself_refused p Γ t (nodes.Keeping (record { shown = w; source = f; observer = o; name = k; place = n; pattern = q; body = g })) a is s e at (or_memory (λ r h. subst (FormBreaks p Γ s (nodes.Keeping (record { shown = w; source = f; observer = o; name = k; place = n; pattern = q; body = g })) a) (sym h.0) (observed_exceeds given h.1)) h)
 
     module _ (v : Kind) (watched : AnswersKind (Some (pair_kind a b)) s (Ok v)) where
-      pub observer_reached : Reaches p Γ (nodes.Keeping w f o k n q g) a Γ o v
+      pub observer_reached : Reaches p Γ (nodes.Keeping (record { shown = w; source = f; observer = o; name = k; place = n; pattern = q; body = g })) a Γ o v
       observer_reached =
           let same = same_Some _ _ watched.0 in
-          subst (Reaches p Γ (nodes.Keeping w f o k n q g) a Γ o) same (keeping_observer given (subst Fits (sym same) watched.1))
+          subst (Reaches p Γ (nodes.Keeping (record { shown = w; source = f; observer = o; name = k; place = n; pattern = q; body = g })) a Γ o) same (keeping_observer given (subst Fits (sym same) watched.1))
 
       module _ (d : Kind) (seen : Takes Γ (tree p o) v d) where
         observer_seen : Takes Γ (tree p o) (pair_kind a b) d
         observer_seen = subst (λ v. Takes Γ (tree p o) v d) (sym (same_Some _ _ watched.0)) seen
 
         pub observer_answers : (e : Refusal) → payload_of d ≡ None → e ≡ broken Mismatch s → OrMemory (TermBreaks p Γ t a) e
-        observer_answers e none wrong = itself_refused p Γ t (nodes.Keeping w f o k n q g) a is s e at (breaks_at Mismatch wrong refl (observer_differs given observer_seen (no_event d none)))
+        observer_answers e none wrong = itself_refused p Γ t (nodes.Keeping (record { shown = w; source = f; observer = o; name = k; place = n; pattern = q; body = g })) a is s e at (breaks_at Mismatch wrong refl (observer_differs given observer_seen (no_event d none)))
 
         pub keeping_answers : (c : Kind) (r : Result Kind Refusal) → payload_of d ≡ Some c → Fits a → AnswersBody p (keeping_inside p k a b Γ) s q g a b c r → AnswersTerm p Γ t a r
         keeping_answers c r event fit h =
             let O = subst (Takes Γ (tree p o) (pair_kind a b)) (payload_is d event) observer_seen in
-            by_body (nodes.Keeping w f o k n q g) is (keeping_inside p k a b Γ) q g a b c (λ r h. keeping_body_breaks given O h) (keeping_body given O) (keeping_takes given O) r fit h
+            by_body (nodes.Keeping (record { shown = w; source = f; observer = o; name = k; place = n; pattern = q; body = g })) is (keeping_inside p k a b Γ) q g a b c (λ r h. keeping_body_breaks given O h) (keeping_body given O) (keeping_takes given O) r fit h
 
   -- a name alone: `probe`
   pub probe_answers : (k : NameId) (n : Spot) (b : Kind) → term_node_at p t ≡ nodes.Named Probe k n → Fits a → b ≡ a → Takes Γ (tree p t) a b

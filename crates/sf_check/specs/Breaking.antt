@@ -226,16 +226,16 @@ pub data FormBreaks (p : Program) (Γ : Context) (s : Spot) : Node → Kind → 
       → HasType (names_of_values Γ) (expression (expressions_of p) v) c → Takes Γ (tree p t) (under_head h c a) d → HeadDiffers h c a d → FormBreaks p Γ s (nodes.Headed h v t) a (breach_of Mismatch s)
   transform_refused : {f : FunctionId} {t : TermId} {a : Kind} {r : Breach} → FunctionRefused (expressions_of p) (names_of_values Γ) f a s r → FormBreaks p Γ s (nodes.Transformed f t) a r
   transform_differs : {f : FunctionId} {t : TermId} {a c d : Kind} → FunctionTakes (names_of_values Γ) (function_at (expressions_of p) f) a c → Takes Γ (tree p t) a d → c ≢ a → FormBreaks p Γ s (nodes.Transformed f t) a (breach_of Mismatch s)
-  source_differs : {w : Observation} {t u : TermId} {q : PatternId} {a d : Kind} → Takes Γ (tree p t) a d → IsNoEventBeside d → FormBreaks p Γ s (nodes.Switching (Basic w) t q u) a (breach_of Mismatch s)
-  recurring_input : {w : Observation} {t u : TermId} {q : PatternId} {a : Kind} → IsNoEventBeside a → FormBreaks p Γ s (nodes.Switching (Recurring w) t q u) a (breach_of Mismatch s)
+  source_differs : {w : Observation} {t u : TermId} {q : PatternId} {a d : Kind} → Takes Γ (tree p t) a d → IsNoEventBeside d → FormBreaks p Γ s (nodes.Switching (record { form = Basic w; source = t; pattern = q; body = u })) a (breach_of Mismatch s)
+  recurring_input : {w : Observation} {t u : TermId} {q : PatternId} {a : Kind} → IsNoEventBeside a → FormBreaks p Γ s (nodes.Switching (record { form = Recurring w; source = t; pattern = q; body = u })) a (breach_of Mismatch s)
   switch_body_breaks : {w : Switching} {t u : TermId} {q : PatternId} {x a b c : Kind} {r : Breach}
-      → BodyWanted p Γ w t x a b c → BodyBreaks p Γ s q u a b c r → FormBreaks p Γ s (nodes.Switching w t q u) x r
+      → BodyWanted p Γ w t x a b c → BodyBreaks p Γ s q u a b c r → FormBreaks p Γ s (nodes.Switching (record { form = w; source = t; pattern = q; body = u })) x r
   observed_exceeds : {w : Observation} {t o u : TermId} {k : NameId} {n : Spot} {q : PatternId} {a b : Kind}
-      → Takes Γ (tree p t) a b → Exceeds (pair_kind a b) → FormBreaks p Γ s (nodes.Keeping w t o k n q u) a (breach_of TypeTooLarge s)
+      → Takes Γ (tree p t) a b → Exceeds (pair_kind a b) → FormBreaks p Γ s (nodes.Keeping (record { shown = w; source = t; observer = o; name = k; place = n; pattern = q; body = u })) a (breach_of TypeTooLarge s)
   observer_differs : {w : Observation} {t o u : TermId} {k : NameId} {n : Spot} {q : PatternId} {a b d : Kind}
-      → Takes Γ (tree p t) a b → Takes Γ (tree p o) (pair_kind a b) d → IsNoEvent d → FormBreaks p Γ s (nodes.Keeping w t o k n q u) a (breach_of Mismatch s)
+      → Takes Γ (tree p t) a b → Takes Γ (tree p o) (pair_kind a b) d → IsNoEvent d → FormBreaks p Γ s (nodes.Keeping (record { shown = w; source = t; observer = o; name = k; place = n; pattern = q; body = u })) a (breach_of Mismatch s)
   keeping_body_breaks : {w : Observation} {t o u : TermId} {k : NameId} {n : Spot} {q : PatternId} {a b c : Kind} {r : Breach}
-      → Takes Γ (tree p t) a b → Takes Γ (tree p o) (pair_kind a b) (event_kind c) → BodyBreaks p (keeping_inside p k a b Γ) s q u a b c r → FormBreaks p Γ s (nodes.Keeping w t o k n q u) a r
+      → Takes Γ (tree p t) a b → Takes Γ (tree p o) (pair_kind a b) (event_kind c) → BodyBreaks p (keeping_inside p k a b Γ) s q u a b c r → FormBreaks p Γ s (nodes.Keeping (record { shown = w; source = t; observer = o; name = k; place = n; pattern = q; body = u })) a r
   gathered_exceeds : {i : CollectionId} {k : KeyKind} {a b : Kind} → Collects Γ (collection_at p i) k a b → Exceeds (table_kind k b) → FormBreaks p Γ s (nodes.Gathered i) a (breach_of TypeTooLarge s)
   tables_exceed : {n : Releasing} {k : KeyKind} {a b : Kind} → Collects Γ (collection_at p n.members) k a b → Exceeds (pair_kind a (table_kind k b)) → FormBreaks p Γ s (nodes.Releasing n) a (breach_of TypeTooLarge s)
   their_observer_differs : {n : Releasing} {k : KeyKind} {a b d : Kind}
@@ -267,16 +267,16 @@ pub data Reaches (p : Program) (Γ : Context) : Node → Kind → Context → Te
   head_part : {h : Heading} {v : ExprId} {t : TermId} {a c : Kind}
       → HasType (names_of_values Γ) (expression (expressions_of p) v) c → Fits (under_head h c a) → Reaches p Γ (nodes.Headed h v t) a Γ t (under_head h c a)
   transformed_part : {f : FunctionId} {t : TermId} {a c : Kind} → FunctionTakes (names_of_values Γ) (function_at (expressions_of p) f) a c → Reaches p Γ (nodes.Transformed f t) a Γ t a
-  switch_source : {w : Observation} {t u : TermId} {q : PatternId} {a : Kind} → Reaches p Γ (nodes.Switching (Basic w) t q u) a Γ t a
-  recurring_first : {w : Observation} {t u : TermId} {q : PatternId} {a c : Kind} → Reaches p Γ (nodes.Switching (Recurring w) t q u) (pair_kind a (event_kind c)) Γ t a
+  switch_source : {w : Observation} {t u : TermId} {q : PatternId} {a : Kind} → Reaches p Γ (nodes.Switching (record { form = Basic w; source = t; pattern = q; body = u })) a Γ t a
+  recurring_first : {w : Observation} {t u : TermId} {q : PatternId} {a c : Kind} → Reaches p Γ (nodes.Switching (record { form = Recurring w; source = t; pattern = q; body = u })) (pair_kind a (event_kind c)) Γ t a
   switch_body : {w : Switching} {t u : TermId} {q : PatternId} {x a b c : Kind}
-      → BodyWanted p Γ w t x a b c → BindsInside (pattern_in p q) c Γ → Reaches p Γ (nodes.Switching w t q u) x (inside_pattern (pattern_in p q) c Γ) u a
-  keeping_source : {w : Observation} {t o u : TermId} {k : NameId} {n : Spot} {q : PatternId} {a : Kind} → Reaches p Γ (nodes.Keeping w t o k n q u) a Γ t a
+      → BodyWanted p Γ w t x a b c → BindsInside (pattern_in p q) c Γ → Reaches p Γ (nodes.Switching (record { form = w; source = t; pattern = q; body = u })) x (inside_pattern (pattern_in p q) c Γ) u a
+  keeping_source : {w : Observation} {t o u : TermId} {k : NameId} {n : Spot} {q : PatternId} {a : Kind} → Reaches p Γ (nodes.Keeping (record { shown = w; source = t; observer = o; name = k; place = n; pattern = q; body = u })) a Γ t a
   keeping_observer : {w : Observation} {t o u : TermId} {k : NameId} {n : Spot} {q : PatternId} {a b : Kind}
-      → Takes Γ (tree p t) a b → Fits (pair_kind a b) → Reaches p Γ (nodes.Keeping w t o k n q u) a Γ o (pair_kind a b)
+      → Takes Γ (tree p t) a b → Fits (pair_kind a b) → Reaches p Γ (nodes.Keeping (record { shown = w; source = t; observer = o; name = k; place = n; pattern = q; body = u })) a Γ o (pair_kind a b)
   keeping_body : {w : Observation} {t o u : TermId} {k : NameId} {n : Spot} {q : PatternId} {a b c : Kind}
       → Takes Γ (tree p t) a b → Takes Γ (tree p o) (pair_kind a b) (event_kind c) → BindsInside (pattern_in p q) c (keeping_inside p k a b Γ)
-      → Reaches p Γ (nodes.Keeping w t o k n q u) a (inside_pattern (pattern_in p q) c (keeping_inside p k a b Γ)) u a
+      → Reaches p Γ (nodes.Keeping (record { shown = w; source = t; observer = o; name = k; place = n; pattern = q; body = u })) a (inside_pattern (pattern_in p q) c (keeping_inside p k a b Γ)) u a
   their_observer : {n : Releasing} {k : KeyKind} {a b : Kind}
       → Collects Γ (collection_at p n.members) k a b → Fits (pair_kind a (table_kind k b)) → Reaches p Γ (nodes.Releasing n) a Γ n.observer (pair_kind a (table_kind k b))
   releasing_body : {n : Releasing} {k : KeyKind} {a b c : Kind}

@@ -209,14 +209,14 @@ pub data FormDiffers (p : Program) (Γ : Context) (s : Spot) : Node → Kind →
   transformed_input : {f : FunctionId} {t : TermId} {a c e : Kind} {d : Difference}
       → FunctionTakes (names_of_values Γ) (function_at (expressions_of p) f) a c → Takes Γ (tree p t) a e → IsOther (Some (Exactly a)) s c d → FormDiffers p Γ s (nodes.Transformed f t) a d
   source_output : {w : Observation} {t u : TermId} {q : PatternId} {a e : Kind} {d : Difference}
-      → Takes Γ (tree p t) a e → IsOther (Some EventBeside) s e d → FormDiffers p Γ s (nodes.Switching (Basic w) t q u) a d
-  event_beside : {w : Observation} {t u : TermId} {q : PatternId} {a : Kind} {d : Difference} → IsOther (Some EventBeside) s a d → FormDiffers p Γ s (nodes.Switching (Recurring w) t q u) a d
+      → Takes Γ (tree p t) a e → IsOther (Some EventBeside) s e d → FormDiffers p Γ s (nodes.Switching (record { form = Basic w; source = t; pattern = q; body = u })) a d
+  event_beside : {w : Observation} {t u : TermId} {q : PatternId} {a : Kind} {d : Difference} → IsOther (Some EventBeside) s a d → FormDiffers p Γ s (nodes.Switching (record { form = Recurring w; source = t; pattern = q; body = u })) a d
   switch_body_differs : {w : Switching} {t u : TermId} {q : PatternId} {x a b c : Kind} {d : Difference}
-      → BodyWanted p Γ w t x a b c → BodyDiffers p Γ s q u a b c d → FormDiffers p Γ s (nodes.Switching w t q u) x d
+      → BodyWanted p Γ w t x a b c → BodyDiffers p Γ s q u a b c d → FormDiffers p Γ s (nodes.Switching (record { form = w; source = t; pattern = q; body = u })) x d
   observer_output : {w : Observation} {t o u : TermId} {k : NameId} {n : Spot} {q : PatternId} {a b e : Kind} {d : Difference}
-      → Takes Γ (tree p t) a b → Takes Γ (tree p o) (pair_kind a b) e → IsOther (Some Event) s e d → FormDiffers p Γ s (nodes.Keeping w t o k n q u) a d
+      → Takes Γ (tree p t) a b → Takes Γ (tree p o) (pair_kind a b) e → IsOther (Some Event) s e d → FormDiffers p Γ s (nodes.Keeping (record { shown = w; source = t; observer = o; name = k; place = n; pattern = q; body = u })) a d
   keeping_body_differs : {w : Observation} {t o u : TermId} {k : NameId} {n : Spot} {q : PatternId} {a b c : Kind} {d : Difference}
-      → Takes Γ (tree p t) a b → Takes Γ (tree p o) (pair_kind a b) (event_kind c) → BodyDiffers p (keeping_inside p k a b Γ) s q u a b c d → FormDiffers p Γ s (nodes.Keeping w t o k n q u) a d
+      → Takes Γ (tree p t) a b → Takes Γ (tree p o) (pair_kind a b) (event_kind c) → BodyDiffers p (keeping_inside p k a b Γ) s q u a b c d → FormDiffers p Γ s (nodes.Keeping (record { shown = w; source = t; observer = o; name = k; place = n; pattern = q; body = u })) a d
   their_observer_output : {n : Releasing} {k : KeyKind} {a b e : Kind} {d : Difference}
       → Collects Γ (collection_at p n.members) k a b → Takes Γ (tree p n.observer) (pair_kind a (table_kind k b)) e → IsOther (Some Event) s e d → FormDiffers p Γ s (nodes.Releasing n) a d
   released_body_differs : {n : Releasing} {k : KeyKind} {a b c : Kind} {d : Difference}

@@ -41,8 +41,8 @@ use sf_operator::{event_type, pair_type as pair_of, payload};
 use sf_refusal::{Refusal, Spot};
 use sf_term::{
     Accumulation, Argument, ArgumentsId, Bare, CollExpr, CollectionId, Editing, Heading, Join,
-    Naming, Node, Observation, ParameterForm, Primitive, Program, Releasing, Side, Switching,
-    Template, TermId, Timing, WithValue,
+    Keeping, Naming, Node, Observation, ParameterForm, Primitive, Program, Releasing, Side, Switch,
+    Switching, Template, TermId, Timing, WithValue,
 };
 use sf_value::{KeyType, Ty};
 use std::alloc::{AllocError, Global};
@@ -199,10 +199,8 @@ fn explain_value(
 {
     let given = constant(alloc, context, value)?;
     suited(alloc, &given, value_wanted(kind), spot)?;
-    match input_wanted(alloc, kind, &given, spot) {
-        Ok(wanted) => suited(alloc, input, wanted, spot),
-        Err(_) => Ok(()),
-    }
+    let wanted = input_wanted(alloc, kind, &given, spot)?;
+    suited(alloc, input, wanted, spot)
 }
 
 /// What differs in a form with a time, on inputs of a type.
@@ -236,9 +234,7 @@ fn explain_accumulated(
 {
     let given = constant(alloc, context, value)?;
     suited(alloc, input, accumulated_wanted(kind), spot)?;
-    let Ok(argument) = accumulated_argument_type(alloc, kind, &given, input, spot) else {
-        return Ok(());
-    };
+    let argument = accumulated_argument_type(alloc, kind, &given, input, spot)?;
     let made = answer(alloc, context, function, &argument, spot)?;
     let wanted = start_wanted(alloc, kind, input)?;
     suited(alloc, &given, wanted, spot)?;
@@ -341,9 +337,7 @@ fn explain_parallel(
 {
     let spot = context.program.spot(term);
     suited(alloc, input, Some(Wanted::Pair), spot)?;
-    let Ok((a, b)) = parts(input, spot) else {
-        return Ok(());
-    };
+    let (a, b) = parts(input, spot)?;
     part(alloc, context, left, a)?;
     part(alloc, context, right, b)?;
     Ok(())
@@ -386,9 +380,7 @@ fn explain_sided(
 {
     let spot = context.program.spot(term);
     suited(alloc, input, Some(Wanted::Pair), spot)?;
-    let Ok((a, b)) = parts(input, spot) else {
-        return Ok(());
-    };
+    let (a, b) = parts(input, spot)?;
     match side {
         Side::First => {
             part(alloc, context, inner, a)?;
@@ -401,92 +393,40 @@ fn explain_sided(
     }
 }
 
-/// What differs in a part whose second outputs are fed back, on inputs of a type.
+/// What differs in a part with a value at its head, on inputs of a type.
 #[cycle(explain)]
-fn explain_loop(
+fn explain_headed(
     alloc: Global,
     context: &TypingContext,
     term: TermId,
+    heading: Heading,
     value: ExprId,
     inner: TermId,
     input: &Ty,
 ) -> Result<(), Blame>
     requires fits { Fits input.now }
-    requires there { term_node_at (program_in context.now) term ≡ Node.Headed Heading.LoopPre value inner }
+    requires there { term_node_at (program_in context.now) term ≡ Node.Headed heading value inner }
     requires below { term_number inner < term_number term }
     ensures { IfErr result (λ b. Explains (TermDiffers (program_in context.now) (context_in context.now) term input.now) b) }
 {
     let spot = context.program.spot(term);
     let given = constant(alloc, context, value)?;
-    let Ok(fed) = pair_of(alloc, input, &given, spot) else {
-        return Ok(());
-    };
-    let output = part(alloc, context, inner, &fed)?;
-    suited(alloc, &output, Some(Wanted::PairWith(given)), spot)
-}
-
-/// What differs in a part with a value in the place of its first input, on inputs of a type.
-#[cycle(explain)]
-fn explain_replaced(
-    alloc: Global,
-    context: &TypingContext,
-    term: TermId,
-    value: ExprId,
-    inner: TermId,
-    input: &Ty,
-) -> Result<(), Blame>
-    requires fits { Fits input.now }
-    requires there { term_node_at (program_in context.now) term ≡ Node.Headed Heading.Replaced value inner }
-    requires below { term_number inner < term_number term }
-    ensures { IfErr result (λ b. Explains (TermDiffers (program_in context.now) (context_in context.now) term input.now) b) }
-{
-    let spot = context.program.spot(term);
-    let given = constant(alloc, context, value)?;
-    part(alloc, context, inner, input)?;
-    let wanted = Some(Wanted::Exactly(input.clone_in(alloc)?));
-    suited(alloc, &given, wanted, spot)
-}
-
-/// What differs in a part with a value in the place of its first output, on inputs of a type.
-#[cycle(explain)]
-fn explain_initial(
-    alloc: Global,
-    context: &TypingContext,
-    term: TermId,
-    value: ExprId,
-    inner: TermId,
-    input: &Ty,
-) -> Result<(), Blame>
-    requires fits { Fits input.now }
-    requires there { term_node_at (program_in context.now) term ≡ Node.Headed Heading.Initialized value inner }
-    requires below { term_number inner < term_number term }
-    ensures { IfErr result (λ b. Explains (TermDiffers (program_in context.now) (context_in context.now) term input.now) b) }
-{
-    let spot = context.program.spot(term);
-    let given = constant(alloc, context, value)?;
-    let output = part(alloc, context, inner, input)?;
-    suited(alloc, &output, Some(Wanted::Exactly(given)), spot)
-}
-
-/// What differs in a part with a value before its outputs, on inputs of a type.
-#[cycle(explain)]
-fn explain_followed(
-    alloc: Global,
-    context: &TypingContext,
-    term: TermId,
-    value: ExprId,
-    inner: TermId,
-    input: &Ty,
-) -> Result<(), Blame>
-    requires fits { Fits input.now }
-    requires there { term_node_at (program_in context.now) term ≡ Node.Headed Heading.Followed value inner }
-    requires below { term_number inner < term_number term }
-    ensures { IfErr result (λ b. Explains (TermDiffers (program_in context.now) (context_in context.now) term input.now) b) }
-{
-    let spot = context.program.spot(term);
-    let given = constant(alloc, context, value)?;
-    let output = part(alloc, context, inner, input)?;
-    suited(alloc, &output, Some(Wanted::Exactly(given)), spot)
+    match heading {
+        Heading::LoopPre => {
+            let fed = pair_of(alloc, input, &given, spot)?;
+            let output = part(alloc, context, inner, &fed)?;
+            suited(alloc, &output, Some(Wanted::PairWith(given)), spot)
+        }
+        Heading::Replaced => {
+            part(alloc, context, inner, input)?;
+            let wanted = Some(Wanted::Exactly(input.clone_in(alloc)?));
+            suited(alloc, &given, wanted, spot)
+        }
+        Heading::Initialized | Heading::Followed => {
+            let output = part(alloc, context, inner, input)?;
+            suited(alloc, &output, Some(Wanted::Exactly(given)), spot)
+        }
+    }
 }
 
 /// What differs in a part whose first input is what a function makes of it, on inputs of a type.
@@ -517,24 +457,29 @@ fn explain_basic(
     alloc: Global,
     context: &TypingContext,
     term: TermId,
-    form: Observation,
-    first: TermId,
-    pattern: PatternId,
-    body: TermId,
+    shown: Observation,
+    form: Switch,
     input: &Ty,
 ) -> Result<(), Blame>
     requires fits { Fits input.now }
-    requires there { term_node_at (program_in context.now) term ≡ Node.Switching (Switching.Basic form) first pattern body }
-    requires below { (term_number first < term_number term) × (term_number body < term_number term) }
+    requires there { term_node_at (program_in context.now) term ≡ Node.Switching (record form { form = Switching.Basic shown }) }
+    requires below { (term_number form.source < term_number term) × (term_number form.body < term_number term) }
     ensures { IfErr result (λ b. Explains (TermDiffers (program_in context.now) (context_in context.now) term input.now) b) }
 {
     let spot = context.program.spot(term);
-    let output = part(alloc, context, first, input)?;
+    let output = part(alloc, context, form.source, input)?;
     suited(alloc, &output, Some(Wanted::EventBeside), spot)?;
-    let Ok((value, payload)) = value_and_payload(&output, spot) else {
-        return Ok(());
-    };
-    explain_body(alloc, context, pattern, payload, body, input, value, spot)
+    let (value, payload) = value_and_payload(&output, spot)?;
+    explain_body(
+        alloc,
+        context,
+        form.pattern,
+        payload,
+        form.body,
+        input,
+        value,
+        spot,
+    )
 }
 
 /// What differs in a term that gives way at an event beside its input, on inputs of a type.
@@ -543,24 +488,29 @@ fn explain_recurring(
     alloc: Global,
     context: &TypingContext,
     term: TermId,
-    form: Observation,
-    first: TermId,
-    pattern: PatternId,
-    body: TermId,
+    shown: Observation,
+    form: Switch,
     input: &Ty,
 ) -> Result<(), Blame>
     requires fits { Fits input.now }
-    requires there { term_node_at (program_in context.now) term ≡ Node.Switching (Switching.Recurring form) first pattern body }
-    requires below { (term_number first < term_number term) × (term_number body < term_number term) }
+    requires there { term_node_at (program_in context.now) term ≡ Node.Switching (record form { form = Switching.Recurring shown }) }
+    requires below { (term_number form.source < term_number term) × (term_number form.body < term_number term) }
     ensures { IfErr result (λ b. Explains (TermDiffers (program_in context.now) (context_in context.now) term input.now) b) }
 {
     let spot = context.program.spot(term);
     suited(alloc, input, Some(Wanted::EventBeside), spot)?;
-    let Ok((value, payload)) = value_and_payload(input, spot) else {
-        return Ok(());
-    };
-    let output = part(alloc, context, first, value)?;
-    explain_body(alloc, context, pattern, payload, body, value, &output, spot)
+    let (value, payload) = value_and_payload(input, spot)?;
+    let output = part(alloc, context, form.source, value)?;
+    explain_body(
+        alloc,
+        context,
+        form.pattern,
+        payload,
+        form.body,
+        value,
+        &output,
+        spot,
+    )
 }
 
 /// What differs in a term that gives way at the event that an observer sees, and is then known by a name, on inputs of a type.
@@ -569,32 +519,30 @@ fn explain_keeping(
     alloc: Global,
     context: &TypingContext,
     term: TermId,
-    form: Observation,
-    source: TermId,
-    observer: TermId,
-    name: NameId,
-    place: Spot,
-    pattern: PatternId,
-    body: TermId,
+    form: Keeping,
     input: &Ty,
 ) -> Result<(), Blame>
     requires fits { Fits input.now }
-    requires there { term_node_at (program_in context.now) term ≡ Node.Keeping form source observer name place pattern body }
-    requires below { (term_number source < term_number term) × (term_number observer < term_number term) × (term_number body < term_number term) }
+    requires there { term_node_at (program_in context.now) term ≡ Node.Keeping form }
+    requires below { (term_number form.source < term_number term) × (term_number form.observer < term_number term) × (term_number form.body < term_number term) }
     ensures { IfErr result (λ b. Explains (TermDiffers (program_in context.now) (context_in context.now) term input.now) b) }
 {
     let spot = context.program.spot(term);
-    let value = part(alloc, context, source, input)?;
-    let Ok(watched) = pair_of(alloc, input, &value, spot) else {
-        return Ok(());
-    };
-    let seen = part(alloc, context, observer, &watched)?;
+    let value = part(alloc, context, form.source, input)?;
+    let watched = pair_of(alloc, input, &value, spot)?;
+    let seen = part(alloc, context, form.observer, &watched)?;
     suited(alloc, &seen, Some(Wanted::Event), spot)?;
-    let Ok(event) = payload(&seen, spot) else {
-        return Ok(());
-    };
+    let event = payload(&seen, spot)?;
     explain_kept(
-        alloc, context, name, pattern, event, body, input, &value, spot,
+        alloc,
+        context,
+        form.name,
+        form.pattern,
+        event,
+        form.body,
+        input,
+        &value,
+        spot,
     )
 }
 
@@ -636,17 +584,11 @@ fn explain_releasing(
 {
     let spot = context.program.spot(term);
     let types = members_at_part(alloc, context, term, form.members, input)?;
-    let Ok(table) = table_type(alloc, &types, spot) else {
-        return Ok(());
-    };
-    let Ok(watched) = pair_of(alloc, input, &table, spot) else {
-        return Ok(());
-    };
+    let table = table_type(alloc, &types, spot)?;
+    let watched = pair_of(alloc, input, &table, spot)?;
     let seen = part(alloc, context, form.observer, &watched)?;
     suited(alloc, &seen, Some(Wanted::Event), spot)?;
-    let Ok(event) = payload(&seen, spot) else {
-        return Ok(());
-    };
+    let event = payload(&seen, spot)?;
     explain_released(alloc, context, form, event, input, &types, &table, spot)
 }
 
@@ -695,9 +637,7 @@ fn explain_editing(
 {
     let spot = context.program.spot(term);
     suited(alloc, input, Some(Wanted::EventBeside), spot)?;
-    let Ok((value, payload)) = value_and_payload(input, spot) else {
-        return Ok(());
-    };
+    let (value, payload) = value_and_payload(input, spot)?;
     let types = members_at_part(alloc, context, term, form.members, value)?;
     explain_edited(alloc, context, term, form, payload, value, &types, spot)
 }
@@ -895,9 +835,7 @@ fn used_part(
     ensures ok { IfOk result (λ m. Collects (context_in context.now) (collection_of (program_in context.now) (Used name place spot)) (key_kind_of m.keys) input.now m.output) }
     ensures err { IfErr result (λ b. Explains (CollectionDiffers (program_in context.now) (context_in context.now) (Used name place spot) input.now) b) }
 {
-    let Ok(types) = context.collection(name, place) else {
-        return Err(Blame::Silent);
-    };
+    let types = context.collection(name, place)?;
     suits_type(alloc, input, types.from, spot)?;
     Ok(MemberTypes::new(alloc, types.keys, types.to)?)
 }
@@ -993,9 +931,7 @@ fn explain_process(
     requires there { (start : Start) × (term_node_at (program_in context.now) term ≡ Node.Named (Naming.Process start) name place) }
     ensures { IfErr result (λ b. Explains (TermDiffers (program_in context.now) (context_in context.now) term input.now) b) }
 {
-    let Ok(process) = context.process(name, place) else {
-        return Ok(());
-    };
+    let process = context.process(name, place)?;
     let wanted = Some(Wanted::Exactly(process.from.clone_in(alloc)?));
     suited(alloc, input, wanted, context.program.spot(term))
 }
@@ -1091,30 +1027,19 @@ fn explain(alloc: Global, context: &TypingContext, term: TermId, input: &Ty) -> 
             explain_fan(alloc, context, term, left, right, input)
         }
         Node::Sided(side, inner) => explain_sided(alloc, context, term, side, inner, input),
-        Node::Headed(Heading::LoopPre, value, inner) => {
-            explain_loop(alloc, context, term, value, inner, input)
-        }
-        Node::Headed(Heading::Replaced, value, inner) => {
-            explain_replaced(alloc, context, term, value, inner, input)
-        }
-        Node::Headed(Heading::Initialized, value, inner) => {
-            explain_initial(alloc, context, term, value, inner, input)
-        }
-        Node::Headed(Heading::Followed, value, inner) => {
-            explain_followed(alloc, context, term, value, inner, input)
+        Node::Headed(heading, value, inner) => {
+            explain_headed(alloc, context, term, heading, value, inner, input)
         }
         Node::Transformed(function, inner) => {
             explain_transformed(alloc, context, term, function, inner, input)
         }
-        Node::Switching(Switching::Basic(form), first, pattern, body) => {
-            explain_basic(alloc, context, term, form, first, pattern, body, input)
-        }
-        Node::Switching(Switching::Recurring(form), first, pattern, body) => {
-            explain_recurring(alloc, context, term, form, first, pattern, body, input)
-        }
-        Node::Keeping(form, source, observer, name, place, pattern, body) => explain_keeping(
-            alloc, context, term, form, source, observer, name, place, pattern, body, input,
-        ),
+        Node::Switching(form) => match form.form {
+            Switching::Basic(shown) => explain_basic(alloc, context, term, shown, form, input),
+            Switching::Recurring(shown) => {
+                explain_recurring(alloc, context, term, shown, form, input)
+            }
+        },
+        Node::Keeping(form) => explain_keeping(alloc, context, term, form, input),
         Node::Gathered(members) => explain_gathered(alloc, context, term, members, input),
         Node::Releasing(form) => explain_releasing(alloc, context, term, form, input),
         Node::Editing(form) => explain_editing(alloc, context, term, form, input),
@@ -1202,10 +1127,8 @@ fn explain_templates(
 fn explain_network(alloc: Global, program: &Program, functions: &Signatures) -> Result<(), Blame>
     ensures { IfErr result (λ b. Explains (NetworkDiffers (signatures_in functions.now) program.now) b) }
 {
-    match template_names(alloc, program) {
-        Ok(names) => explain_templates(alloc, program, &names, functions),
-        Err(_) => Ok(()),
-    }
+    let names = template_names(alloc, program)?;
+    explain_templates(alloc, program, &names, functions)
 }
 
 /// What was found and what is wanted where `check` refuses a network for `Mismatch`: the place is that of the refusal.

@@ -39,8 +39,8 @@ use sf_operator::{event_type, pair_type as pair_of, payload, same};
 use sf_refusal::{Refusal, Rule, Spot};
 use sf_term::{
     Accumulation, Argument, ArgumentsId, Bare, CollExpr, CollectionId, Editing, Heading, Join,
-    Naming, Node, Observation, ParameterForm, Primitive, Program, Releasing, Side, Switching,
-    Template, TermId, Timing, WithValue,
+    Keeping, Naming, Node, Observation, ParameterForm, Primitive, Program, Releasing, Side, Switch,
+    Switching, Template, TermId, Timing, WithValue,
 };
 use sf_value::{KeyType, Ty, same_type};
 use std::alloc::Global;
@@ -632,24 +632,17 @@ fn switching_output(
     alloc: Global,
     context: &TypingContext,
     term: TermId,
-    form: Switching,
-    first: TermId,
-    pattern: PatternId,
-    body: TermId,
+    form: Switch,
     input: &Ty,
 ) -> Result<Ty, Refusal>
     requires fits { Fits input.now }
-    requires there { term_node_at (program_in context.now) term ≡ Node.Switching form first pattern body }
-    requires below { (term_number first < term_number term) × (term_number body < term_number term) }
+    requires there { term_node_at (program_in context.now) term ≡ Node.Switching form }
+    requires below { (term_number form.source < term_number term) × (term_number form.body < term_number term) }
     ensures { AnswersTerm (program_in context.now) (context_in context.now) term input.now result }
 {
-    match form {
-        Switching::Basic(shown) => {
-            basic_output(alloc, context, term, shown, first, pattern, body, input)
-        }
-        Switching::Recurring(shown) => {
-            recurring_output(alloc, context, term, shown, first, pattern, body, input)
-        }
+    match form.form {
+        Switching::Basic(shown) => basic_output(alloc, context, term, shown, form, input),
+        Switching::Recurring(shown) => recurring_output(alloc, context, term, shown, form, input),
     }
 }
 
@@ -659,21 +652,28 @@ fn basic_output(
     alloc: Global,
     context: &TypingContext,
     term: TermId,
-    form: Observation,
-    first: TermId,
-    pattern: PatternId,
-    body: TermId,
+    shown: Observation,
+    form: Switch,
     input: &Ty,
 ) -> Result<Ty, Refusal>
     requires fits { Fits input.now }
-    requires there { term_node_at (program_in context.now) term ≡ Node.Switching (Switching.Basic form) first pattern body }
-    requires below { (term_number first < term_number term) × (term_number body < term_number term) }
+    requires there { term_node_at (program_in context.now) term ≡ Node.Switching (record form { form = Switching.Basic shown }) }
+    requires below { (term_number form.source < term_number term) × (term_number form.body < term_number term) }
     ensures { AnswersTerm (program_in context.now) (context_in context.now) term input.now result }
 {
     let spot = context.program.spot(term);
-    let output = output_of(alloc, context, first, input)?;
+    let output = output_of(alloc, context, form.source, input)?;
     let (value, payload) = value_and_payload(&output, spot)?;
-    body_output(alloc, context, pattern, payload, body, input, value, spot)
+    body_output(
+        alloc,
+        context,
+        form.pattern,
+        payload,
+        form.body,
+        input,
+        value,
+        spot,
+    )
 }
 
 /// The type of the outputs of a term that gives way at an event beside its input, on inputs of a type.
@@ -682,21 +682,28 @@ fn recurring_output(
     alloc: Global,
     context: &TypingContext,
     term: TermId,
-    form: Observation,
-    first: TermId,
-    pattern: PatternId,
-    body: TermId,
+    shown: Observation,
+    form: Switch,
     input: &Ty,
 ) -> Result<Ty, Refusal>
     requires fits { Fits input.now }
-    requires there { term_node_at (program_in context.now) term ≡ Node.Switching (Switching.Recurring form) first pattern body }
-    requires below { (term_number first < term_number term) × (term_number body < term_number term) }
+    requires there { term_node_at (program_in context.now) term ≡ Node.Switching (record form { form = Switching.Recurring shown }) }
+    requires below { (term_number form.source < term_number term) × (term_number form.body < term_number term) }
     ensures { AnswersTerm (program_in context.now) (context_in context.now) term input.now result }
 {
     let spot = context.program.spot(term);
     let (value, payload) = value_and_payload(input, spot)?;
-    let output = output_of(alloc, context, first, value)?;
-    body_output(alloc, context, pattern, payload, body, value, &output, spot)
+    let output = output_of(alloc, context, form.source, value)?;
+    body_output(
+        alloc,
+        context,
+        form.pattern,
+        payload,
+        form.body,
+        value,
+        &output,
+        spot,
+    )
 }
 
 /// The type of the outputs of a term that gives way to another inside a pattern at the event that an observer sees, and is
@@ -706,27 +713,29 @@ fn keeping_output(
     alloc: Global,
     context: &TypingContext,
     term: TermId,
-    form: Observation,
-    source: TermId,
-    observer: TermId,
-    name: NameId,
-    place: Spot,
-    pattern: PatternId,
-    body: TermId,
+    form: Keeping,
     input: &Ty,
 ) -> Result<Ty, Refusal>
     requires fits { Fits input.now }
-    requires there { term_node_at (program_in context.now) term ≡ Node.Keeping form source observer name place pattern body }
-    requires below { (term_number source < term_number term) × (term_number observer < term_number term) × (term_number body < term_number term) }
+    requires there { term_node_at (program_in context.now) term ≡ Node.Keeping form }
+    requires below { (term_number form.source < term_number term) × (term_number form.observer < term_number term) × (term_number form.body < term_number term) }
     ensures { AnswersTerm (program_in context.now) (context_in context.now) term input.now result }
 {
     let spot = context.program.spot(term);
-    let value = output_of(alloc, context, source, input)?;
+    let value = output_of(alloc, context, form.source, input)?;
     let watched = pair_of(alloc, input, &value, spot)?;
-    let seen = output_of(alloc, context, observer, &watched)?;
+    let seen = output_of(alloc, context, form.observer, &watched)?;
     let payload = payload(&seen, spot)?;
     kept_output(
-        alloc, context, name, pattern, payload, body, input, &value, spot,
+        alloc,
+        context,
+        form.name,
+        form.pattern,
+        payload,
+        form.body,
+        input,
+        &value,
+        spot,
     )
 }
 
@@ -1200,12 +1209,8 @@ pub(crate) fn output_of(
         Node::Transformed(function, part) => {
             transformed_output(alloc, context, term, function, part, input)
         }
-        Node::Switching(form, first, pattern, body) => {
-            switching_output(alloc, context, term, form, first, pattern, body, input)
-        }
-        Node::Keeping(form, source, observer, name, place, pattern, body) => keeping_output(
-            alloc, context, term, form, source, observer, name, place, pattern, body, input,
-        ),
+        Node::Switching(form) => switching_output(alloc, context, term, form, input),
+        Node::Keeping(form) => keeping_output(alloc, context, term, form, input),
         Node::Gathered(members) => gathered_output(alloc, context, term, members, input),
         Node::Releasing(form) => releasing_output(alloc, context, term, form, input),
         Node::Editing(form) => editing_output(alloc, context, term, form, input),

@@ -1,5 +1,6 @@
 -- The names around an expression.
 use Rattle.std.proofs.Common.{◌≡◌, ℕ, Bool, true, false, cond, List, [], ◌∷◌, ◌++◌, refl, ap, sym, ◌∙◌}
+use mathlib.Core.Path.{ap₂}
 use Rattle.std.specs.Prelude.{◌||◌, Option, Some, None, bytes_eq, is_some, if◌then◌else◌}
 use Rattle.std.specs.List.{list_any}
 use Rattle.std.specs.Borrow.{Bor}
@@ -10,12 +11,16 @@ use Rattle.std.proofs.lemmas.Slice.Eq.{bytes_eq-Decides}
 use Rattle.sf_value.specs.Values.{Name}
 use Rattle.sf_expr.specs.declared.exprs.Exprs.{Exprs}
 use Rattle.sf_expr.specs.declared.exprs.ExprId.{ExprId}
+use Rattle.sf_expr.specs.declared.exprs.Mapped.{Mapped}
+use Rattle.sf_expr.specs.declared.exprs.Folded.{Folded}
+use Rattle.sf_expr.specs.declared.exprs.NameId.{NameId}
 use Rattle.sf_expr.specs.declared.exprs.PatternId.{PatternId}
 use Rattle.sf_expr.specs.declared.exprs.ExprNode.TheVariants as nodes
-use Rattle.sf_expr.specs.Arena.{expression, placed_at, Builds, builds_conditional, builds_mapped, builds_folded}
+use Rattle.sf_expr.specs.Arena.{expression, name_at, placed_at, Builds, builds_conditional, builds_mapped, builds_folded}
 use Rattle.sf_expr.specs.Expressions.{Pattern, named, both, Expression, variable, literal, paired, applied, operation, conditional, mapped, folded, called}
 use Rattle.sf_expr.specs.Patterns.{pattern_of}
 use Rattle.sf_expr.specs.Meanings.{names_seen}
+use Rattle.sf_code.specs.Around.{names_at}
 use Rattle.sf_code.specs.declared.place.Half.{Half}
 use Rattle.sf_code.specs.Places.{Place}
 use Rattle.sf_code.specs.Compiling.{path_in, inner_path, place_or, place_in, is_closed, named_each, BindAsMany}
@@ -97,6 +102,27 @@ any_one x (k ∷ ks) = ap (λ b. bytes_eq x k.now || b) (any_one x ks) ∙ sym (
 pub seen_both : (ks js : List (Bor (List ℕ))) → names_seen (ks ++ js) ≡ names_seen ks ++ names_seen js
 seen_both ks js = map-append (λ (j : Bor (List ℕ)). j.now) ks js
 
+pub at_both : (x : Exprs) (ks js : List NameId) → names_at x (ks ++ js) ≡ names_at x ks ++ names_at x js
+at_both x ks js = map-append (λ k. name_at x k) ks js
+
+-- a name put behind others
+module _ (x : Exprs) (ks new : List NameId) (k : NameId) (put : new ≡ ks ++ k ∷ []) where
+  pub pushed_kept : BindAsMany (named_each (names_at x ks)) (named_each (names_at x new))
+  pushed_kept y h =
+      ap (λ (js : List NameId). is_one_of y (names_at x js)) put
+      ∙ ap (is_one_of y) (at_both x ks (k ∷ []))
+      ∙ one_append y (names_at x ks) (name_at x k ∷ [])
+      ∙ ap (λ (c : Bool). c || is_one_of y (name_at x k ∷ [])) h
+
+  pub pushed_there : is_one_of (name_at x k) (names_at x new) ≡ true
+  pushed_there =
+      let y = name_at x k in
+      ap (λ (js : List NameId). is_one_of y (names_at x js)) put
+      ∙ ap (is_one_of y) (at_both x ks (k ∷ []))
+      ∙ one_append y (names_at x ks) (y ∷ [])
+      ∙ or_right (is_one_of y (names_at x ks)) (is_one_of y (y ∷ []))
+      (one_next y y [] ∙ ap (λ (c : Bool). c || is_one_of y []) ((bytes_eq-Decides y y).1 refl))
+
 -- a name put behind others, unless it is one of them
 module _ (k : Bor (List ℕ)) (ks new : List (Bor (List ℕ))) (b : Bool) (put : new ≡ (if b then ks else ks ++ k ∷ [])) where
   pub put_kept : BindAsMany (named_each (names_seen ks)) (named_each (names_seen new))
@@ -116,6 +142,27 @@ module _ (k : Bor (List ℕ)) (ks new : List (Bor (List ℕ))) (b : Bool) (put :
           ∙ one_append k.now (names_seen ks) (k.now ∷ [])
           ∙ or_right (is_one_of k.now (names_seen ks)) (is_one_of k.now (k.now ∷ []))
           (one_next k.now k.now [] ∙ ap (λ (c : Bool). c || is_one_of k.now []) ((bytes_eq-Decides k.now k.now).1 refl))
+
+-- names of which those of a new text are kept, beside the texts
+pub once_seen : (x : Exprs) (ks : List NameId) (k : NameId) (js new : List (Bor (List ℕ))) (j : Bor (List ℕ)) (b : Bool) → j.now ≡ name_at x k → new ≡ (if b then js else js ++ j ∷ []) → names_at x ks ≡ names_seen js
+    → names_at x (if b then ks else ks ++ k ∷ []) ≡ names_seen new
+once_seen x ks k js new j true same put h = h ∙ sym (ap names_seen put)
+once_seen x ks k js new j false same put h =
+    at_both x ks (k ∷ [])
+    ∙ ap₂ (λ (ys zs : List Name). ys ++ zs) h (ap (λ (y : Name). y ∷ []) (sym same))
+    ∙ sym (seen_both js (j ∷ []))
+    ∙ sym (ap names_seen put)
+
+-- one name more is bound where it is bound beside the others
+pub one_more : (x : Exprs) (ks : List NameId) (k : NameId) (ps : List Pattern) → BindAsMany (named_each (names_at x ks)) ps → binds (name_at x k) ps ≡ true → BindAsMany (named_each (names_at x (ks ++ k ∷ []))) ps
+one_more x ks k ps h here y m =
+    by (is_one_of y (names_at x ks)) (bytes_eq y (name_at x k)) refl refl
+    (sym (ap (is_one_of y) (at_both x ks (k ∷ [])) ∙ one_append y (names_at x ks) (name_at x k ∷ []) ∙ ap (λ (c : Bool). is_one_of y (names_at x ks) || c) (one_next y (name_at x k) [])) ∙ m)
+  where
+    by : (a b : Bool) → is_one_of y (names_at x ks) ≡ a → bytes_eq y (name_at x k) ≡ b → (a || (b || false)) ≡ true → binds y ps ≡ true
+    by true b before last n = h y before
+    by false true before last n = ap (λ (z : Name). binds z ps) ((bytes_eq-Decides y (name_at x k)).0 last) ∙ here
+    by false false before last n = absurd (false≢true n)
 
 -- ## A pattern of names
 
@@ -147,11 +194,11 @@ module _ {x : Exprs} (ps : List Pattern) where
       → is_closed (ps ++ old) (expression x a) ≡ true → is_closed (ps ++ new) (expression x b) ≡ true → is_closed (ps ++ new) (expression x c) ≡ true → is_closed (ps ++ new) t ≡ true
   conditional_closed {a} old new builds_conditional more h k l = and_from _ _ (closed_more old new more (expression x a) ps h) (and_from _ _ k l)
 
-  pub mapped_closed : {a b : ExprId} {m : _} {p : PatternId} {t : Expression} (old new : List Pattern) → Builds x (nodes.Mapped a m p b) t → BindAsMany old new
-      → is_closed (ps ++ old) (expression x a) ≡ true → is_closed (pattern_of (placed_at x p) ∷ (ps ++ new)) (expression x b) ≡ true → is_closed (ps ++ new) t ≡ true
-  mapped_closed {a} old new builds_mapped more h k = and_from _ _ (closed_more old new more (expression x a) ps h) k
+  pub mapped_closed : {n : Mapped} {t : Expression} (old new : List Pattern) → Builds x (nodes.Mapped n) t → BindAsMany old new
+      → is_closed (ps ++ old) (expression x n.part) ≡ true → is_closed (pattern_of (placed_at x n.pattern) ∷ (ps ++ new)) (expression x n.body) ≡ true → is_closed (ps ++ new) t ≡ true
+  mapped_closed {n} old new builds_mapped more h k = and_from _ _ (closed_more old new more (expression x n.part) ps h) k
 
-  pub folded_closed : {a b c : ExprId} {o : _} {p : PatternId} {t : Expression} (old new : List Pattern) → Builds x (nodes.Folded a o b p c) t → BindAsMany old new
-      → is_closed (ps ++ old) (expression x a) ≡ true → is_closed (ps ++ old) (expression x b) ≡ true → is_closed (pattern_of (placed_at x p) ∷ (ps ++ new)) (expression x c) ≡ true → is_closed (ps ++ new) t ≡ true
-  folded_closed {a} {b} old new builds_folded more h k l =
-      and_from _ _ (closed_more old new more (expression x a) ps h) (and_from _ _ (closed_more old new more (expression x b) ps k) l)
+  pub folded_closed : {n : Folded} {t : Expression} (old new : List Pattern) → Builds x (nodes.Folded n) t → BindAsMany old new
+      → is_closed (ps ++ old) (expression x n.first) ≡ true → is_closed (ps ++ old) (expression x n.second) ≡ true → is_closed (pattern_of (placed_at x n.pattern) ∷ (ps ++ new)) (expression x n.body) ≡ true → is_closed (ps ++ new) t ≡ true
+  folded_closed {n} old new builds_folded more h k l =
+      and_from _ _ (closed_more old new more (expression x n.first) ps h) (and_from _ _ (closed_more old new more (expression x n.second) ps k) l)

@@ -7,13 +7,14 @@ use mathlib.Core.Path.{ap₂, fun_ext}
 use Rattle.sf_value.specs.Values.{Name, Data}
 use Rattle.sf_func.specs.Registries.{AnswersByName}
 use Rattle.sf_operator.specs.Outcomes.{nonsense}
-use Rattle.sf_expr.specs.Patterns.{PlacedPattern, pattern_of}
+use Rattle.sf_expr.specs.declared.exprs.Exprs.{Exprs}
 use Rattle.sf_expr.specs.Expressions.{Pattern, unnamed, named, both, Expression, function}
 use Rattle.sf_expr.specs.Evaluation.{Scope, functions_in, value_of, bound_in, eval}
 use Rattle.sf_code.specs.declared.open.OpenCode.{OpenCode}
 use Rattle.sf_code.specs.CodeView.{code_of}
 use Rattle.sf_code.specs.Codes.{Code}
-use Rattle.sf_code.specs.PlaceView.{around_pattern}
+use Rattle.sf_code.specs.declared.around.Around.{Around}
+use Rattle.sf_code.specs.Around.{pattern_around, patterns_around}
 use Rattle.sf_code.specs.Running.{run}
 use Rattle.sf_code.specs.Compiling.{path_in, compiled, is_closed, code_under, scope_under}
 use Rattle.sf_code.specs.Worth.{pattern_values, frame_around, IsCodeOf, IsCodeOfFunction}
@@ -41,40 +42,40 @@ eval_same e s t values functions =
 closed_worth : (ps : List Pattern) (e : Expression) (vs : List Data) (s : Scope) → is_closed ps e ≡ true → run (code_under ps e) vs (functions_in s) ≡ eval e (scope_under ps vs s)
 closed_worth ps e vs s closed = ap (λ (k : Code). run k vs (functions_in s)) (closed_same (λ x. nonsense) (λ x. value_of x s) e ps closed) ∙ compiled_worth s e ps vs
 
-module _ (o : Option (Box PlacedPattern Global)) (s : Scope) where
+module _ (a : Exprs) (o : Option (Box Around Global)) (s : Scope) where
   -- the scope inside the frame of the names around
   abbrev within : Scope
-  within = scope_under (around_pattern o) (frame_around o s) s
+  within = scope_under (patterns_around a o) (frame_around a o s) s
 
   same_value : (x : Name) → value_of x within ≡ value_of x s
   same_value x = by o
     where
-      by : (o : Option (Box PlacedPattern Global)) → value_of x (scope_under (around_pattern o) (frame_around o s) s) ≡ value_of x s
+      by : (o : Option (Box Around Global)) → value_of x (scope_under (patterns_around a o) (frame_around a o s) s) ≡ value_of x s
       by None = refl
-      by (Some p) = value_bound x (pattern_of p.value) (pattern_values s (pattern_of p.value)) s ∙ part_there x (pattern_of p.value) s
+      by (Some p) = value_bound x (pattern_around a p.value) (pattern_values s (pattern_around a p.value)) s ∙ part_there x (pattern_around a p.value) s
 
   same_functions : functions_in within ≡ functions_in s
-  same_functions = functions_under s (around_pattern o) (frame_around o s)
+  same_functions = functions_under s (patterns_around a o) (frame_around a o s)
 
-  expression_worth : (e : Expression) → is_closed (around_pattern o) e ≡ true → run (code_under (around_pattern o) e) (frame_around o s) (functions_in s) ≡ eval e s
-  expression_worth e closed = closed_worth (around_pattern o) e (frame_around o s) s closed ∙ eval_same e within s same_value same_functions
+  expression_worth : (e : Expression) → is_closed (patterns_around a o) e ≡ true → run (code_under (patterns_around a o) e) (frame_around a o s) (functions_in s) ≡ eval e s
+  expression_worth e closed = closed_worth (patterns_around a o) e (frame_around a o s) s closed ∙ eval_same e within s same_value same_functions
 
-  function_worth : (p : Pattern) (e : Expression) (d : Data) → is_closed (p ∷ around_pattern o) e ≡ true → run (code_under (p ∷ around_pattern o) e) (d ∷ frame_around o s) (functions_in s) ≡ eval e (bound_in p d s)
+  function_worth : (p : Pattern) (e : Expression) (d : Data) → is_closed (p ∷ patterns_around a o) e ≡ true → run (code_under (p ∷ patterns_around a o) e) (d ∷ frame_around a o s) (functions_in s) ≡ eval e (bound_in p d s)
   function_worth p e d closed =
-      closed_worth (p ∷ around_pattern o) e (d ∷ frame_around o s) s closed
+      closed_worth (p ∷ patterns_around a o) e (d ∷ frame_around a o s) s closed
       ∙ eval_same e (bound_in p d within) (bound_in p d s)
       (λ x. value_bound x p d within ∙ ap (λ (v : Data). part_or (path_in x p) d v) (same_value x) ∙ sym (value_bound x p d s))
       (functions_bound p d within ∙ same_functions ∙ sym (functions_bound p d s))
 
 -- code that is made with a frame of the names around it
-pub is_code_of : (e : Expression) (c : OpenCode) (ps : List Pattern) → ps ≡ around_pattern c.around → is_closed (around_pattern c.around) e ≡ true → code_of c.code ≡ code_under ps e → IsCodeOf e c
-is_code_of e c ps only closed made = record {
+pub is_code_of : (a : Exprs) (e : Expression) (c : OpenCode) (ps : List Pattern) → ps ≡ patterns_around a c.around → is_closed (patterns_around a c.around) e ≡ true → code_of c.code ≡ code_under ps e → IsCodeOf a e c
+is_code_of a e c ps only closed made = record {
   closed = closed;
-  worth = λ s. ap (λ (k : Code). run k (frame_around c.around s) (functions_in s)) (made ∙ ap (λ (q : List Pattern). code_under q e) only) ∙ expression_worth c.around s e closed;
+  worth = λ s. ap (λ (k : Code). run k (frame_around a c.around s) (functions_in s)) (made ∙ ap (λ (q : List Pattern). code_under q e) only) ∙ expression_worth a c.around s e closed;
 }
 
-pub is_code_of_function : (p : Pattern) (e : Expression) (c : OpenCode) (ps : List Pattern) → ps ≡ p ∷ around_pattern c.around → is_closed (p ∷ around_pattern c.around) e ≡ true → code_of c.code ≡ code_under ps e → IsCodeOfFunction (function p e) c
-is_code_of_function p e c ps only closed made = record {
+pub is_code_of_function : (a : Exprs) (p : Pattern) (e : Expression) (c : OpenCode) (ps : List Pattern) → ps ≡ p ∷ patterns_around a c.around → is_closed (p ∷ patterns_around a c.around) e ≡ true → code_of c.code ≡ code_under ps e → IsCodeOfFunction a (function p e) c
+is_code_of_function a p e c ps only closed made = record {
   closed = closed;
-  worth = λ s d. ap (λ (k : Code). run k (d ∷ frame_around c.around s) (functions_in s)) (made ∙ ap (λ (q : List Pattern). code_under q e) only) ∙ function_worth c.around s p e d closed;
+  worth = λ s d. ap (λ (k : Code). run k (d ∷ frame_around a c.around s) (functions_in s)) (made ∙ ap (λ (q : List Pattern). code_under q e) only) ∙ function_worth a c.around s p e d closed;
 }

@@ -4,6 +4,7 @@ pub mod Running
 pub mod Compiling
 pub mod Indexes
 pub mod Names
+pub mod Around
 pub mod Listed
 pub mod Laws
 pub mod PlaceView

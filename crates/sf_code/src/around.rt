@@ -1,79 +1,145 @@
 //! The names around an expression: those that no pattern of its frames binds.
 ghost use Rattle.std.specs.Prelude.{◌≡◌, true, [], ◌∷◌, ◌++◌, IfOk, OnOk, is_some};
-ghost use Rattle.sf_expr.specs.Arena.{expression, placed_at};
-ghost use Rattle.sf_expr.specs.Meanings.{names_seen};
+ghost use Rattle.sf_expr.specs.Arena.{expression, name_at, placed_at};
 ghost use Rattle.sf_expr.specs.Patterns.{pattern_of};
 ghost use Rattle.sf_code.specs.Compiling.{is_closed, named_each, path_in, place_in, BindAsMany};
+ghost use Rattle.sf_expr.specs.declared.exprs.Exprs.{Exprs as Arena};
 ghost use Rattle.sf_code.specs.PlaceView.{patterns_of, around_pattern};
+ghost use Rattle.sf_code.specs.Around.{names_at, pattern_around, patterns_around};
 
 use crate::pattern::FramePattern;
 use crate::place::Patterns;
 use indexmap::IndexSet;
-use sf_expr::{ExprId, ExprNode, Exprs, Pat, PatternId};
+use sf_expr::{ExprId, ExprNode, Exprs, NameId, Pat, PatternId};
 use sf_refusal::Spot;
 use std::alloc::{AllocError, Global};
 
-/// A pattern of the names that no pattern of an expression's frames binds; none where there is no such name, so that the
-/// code has no frame for them.
+/// Names around code, in the shape of a pattern.
+#[derive(Drop)]
+pub enum Around {
+    /// None.
+    Nothing,
+    /// A name.
+    Name(NameId),
+    /// Those in the first half of a pair, and those in the second.
+    Both(Box<Around>, Box<Around>),
+}
+
+impl Around {
+    /// The pattern of these names, of which the places in the text are none.
+    fn pattern(&self, alloc: Global, exprs: &Exprs) -> Result<Pat, AllocError>
+        ensures { IfOk result (λ pattern. pattern_of pattern ≡ pattern_around exprs.now self.now) }
+    {
+        match self {
+            Around::Nothing => Ok(Pat::unnamed()),
+            Around::Name(name) => {
+                let start = Spot { line: 0, column: 0 };
+                let text = String::from_str(alloc, exprs.name_of(*name))?;
+                Ok(Pat::name(text, start))
+            }
+            Around::Both(first, second) => {
+                let first = first.pattern(alloc, exprs)?;
+                let second = second.pattern(alloc, exprs)?;
+                Pat::both(alloc, first, second)
+            }
+        }
+    }
+}
+
+/// The pattern of names around code, if there are any.
+pub(crate) fn pattern_of_around(
+    alloc: Global,
+    exprs: &Exprs,
+    around: &Option<Box<Around>>,
+) -> Result<Option<Box<Pat>>, AllocError>
+    ensures { IfOk result (λ pattern. around_pattern pattern ≡ patterns_around exprs.now around.now) }
+{
+    match around {
+        Some(names) => {
+            let pattern = names.pattern(alloc, exprs)?;
+            Ok(Some(Box::new(alloc, pattern)?))
+        }
+        None => Ok(None),
+    }
+}
+
+/// The names that no pattern of an expression's frames binds, each once; none where there is no such name, so that the code has
+/// no frame for them.
 pub(crate) fn names_around(
     alloc: Global,
     exprs: &Exprs,
     id: ExprId,
     patterns: &Patterns,
-) -> Result<Option<Box<Pat>>, AllocError>
-    ensures closed { IfOk result (λ around. is_closed (patterns_of patterns.now ++ around_pattern around) (expression exprs.now id) ≡ true) }
+) -> Result<Option<Box<Around>>, AllocError>
+    ensures closed { IfOk result (λ around. is_closed (patterns_of patterns.now ++ patterns_around exprs.now around) (expression exprs.now id) ≡ true) }
     ensures fewest { is_closed (patterns_of patterns.now) (expression exprs.now id) ≡ true → IfOk result (λ around. around ≡ None) }
 {
-    let mut names = IndexSet::new(alloc);
+    let mut names = Vec::new(alloc);
     gather(alloc, exprs, id, patterns, &mut names)?;
-    pattern_of_names(alloc, names.as_slice())
+    let own = each_once(alloc, exprs, &names)?;
+    around_of(alloc, &own)
 }
 
-// A pattern of names, if there are any.
-fn pattern_of_names(alloc: Global, names: &[&str]) -> Result<Option<Box<Pat>>, AllocError>
-    ensures bound { IfOk result (λ around. BindAsMany (named_each (names_seen names.now)) (around_pattern around)) }
+// Of names of the same text the first.
+fn each_once(alloc: Global, exprs: &Exprs, names: &[NameId]) -> Result<Vec<NameId>, AllocError>
+    ensures bound { IfOk result (λ own. BindAsMany (named_each (names_at exprs.now names.now)) (named_each (names_at exprs.now own.items))) }
+    ensures fewest { names.now ≡ [] → IfOk result (λ own. own.items ≡ []) }
+{
+    let mut seen = IndexSet::new(alloc);
+    let mut own = Vec::new(alloc);
+    for name in names {
+        let is_new = seen.insert(exprs.name_of(*name))?;
+        if is_new {
+            own.push(*name)?;
+        }
+    }
+    Ok(own)
+}
+
+// Names as names around code, if there are any.
+fn around_of(alloc: Global, names: &[NameId]) -> Result<Option<Box<Around>>, AllocError>
+    ensures bound { (x : Arena) → IfOk result (λ around. BindAsMany (named_each (names_at x names.now)) (patterns_around x around)) }
     ensures fewest { names.now ≡ [] → IfOk result (λ around. around ≡ None) }
 {
     if names.is_empty() {
         return Ok(None);
     }
-    let pattern = balanced(alloc, names)?;
-    Ok(Some(Box::new(alloc, pattern)?))
+    let around = balanced(alloc, names)?;
+    Ok(Some(Box::new(alloc, around)?))
 }
 
-// A pattern of names, as low as can be.
-fn balanced(alloc: Global, names: &[&str]) -> Result<Pat, AllocError>
-    ensures { IfOk result (λ pattern. BindAsMany (named_each (names_seen names.now)) (pattern_of pattern ∷ [])) }
+// The same of some, as low as can be.
+fn balanced(alloc: Global, names: &[NameId]) -> Result<Around, AllocError>
+    ensures { (x : Arena) → IfOk result (λ around. BindAsMany (named_each (names_at x names.now)) (pattern_around x around ∷ [])) }
 {
     match names {
-        [] => Ok(Pat::unnamed()),
-        [name] => {
-            let start = Spot { line: 0, column: 0 };
-            Ok(Pat::name(String::from_str(alloc, name)?, start))
-        }
+        [] => Ok(Around::Nothing),
+        [name] => Ok(Around::Name(*name)),
         _ => {
             let (left, right) = names.split_at(names.len() / 2);
-            Pat::both(alloc, balanced(alloc, left)?, balanced(alloc, right)?)
+            let first = balanced(alloc, left)?;
+            let second = balanced(alloc, right)?;
+            Ok(Around::Both(Box::new(alloc, first)?, Box::new(alloc, second)?))
         }
     }
 }
 
 // Puts the names behind others that neither these patterns nor those names bind: none where the patterns bind each.
 #[cycle(gather)]
-fn gather<'a>(
+fn gather(
     alloc: Global,
-    exprs: &'a Exprs,
+    exprs: &Exprs,
     id: ExprId,
     patterns: &Patterns,
-    names: &mut IndexSet<&'a str>,
+    names: &mut Vec<NameId>,
 ) -> Result<(), AllocError>
-    ensures kept { OnOk result (BindAsMany (named_each (names_seen names.old.keys)) (named_each (names_seen names.new.keys))) }
-    ensures closed { OnOk result (is_closed (patterns_of patterns.now ++ named_each (names_seen names.new.keys)) (expression exprs.now id) ≡ true) }
-    ensures fewest { OnOk result (is_closed (patterns_of patterns.now) (expression exprs.now id) ≡ true → names.new.keys ≡ names.old.keys) }
+    ensures kept { OnOk result (BindAsMany (named_each (names_at exprs.now names.old.items)) (named_each (names_at exprs.now names.new.items))) }
+    ensures closed { OnOk result (is_closed (patterns_of patterns.now ++ named_each (names_at exprs.now names.new.items)) (expression exprs.now id) ≡ true) }
+    ensures fewest { OnOk result (is_closed (patterns_of patterns.now) (expression exprs.now id) ≡ true → names.new.items ≡ names.old.items) }
 {
     match exprs.node(id) {
         ExprNode::Unit | ExprNode::Truth(_) | ExprNode::Int(_) | ExprNode::Constant(_) => Ok(()),
-        ExprNode::Name(name) => note(exprs.name_of(name), patterns, names),
+        ExprNode::Name(name) => note(exprs, name, patterns, names),
         ExprNode::Applied(_, part) | ExprNode::Called(_, _, part) => {
             gather(alloc, exprs, part, patterns, names)
         }
@@ -84,31 +150,31 @@ fn gather<'a>(
             gather(alloc, exprs, condition, patterns, names)?;
             gather_both(alloc, exprs, first, second, patterns, names)
         }
-        ExprNode::Mapped(part, _, pattern, body) => {
-            gather(alloc, exprs, part, patterns, names)?;
-            gather_within(alloc, exprs, pattern, body, patterns, names)
+        ExprNode::Mapped(node) => {
+            gather(alloc, exprs, node.part, patterns, names)?;
+            gather_within(alloc, exprs, node.pattern, node.body, patterns, names)
         }
-        ExprNode::Folded(first, _, second, pattern, body) => {
-            gather_both(alloc, exprs, first, second, patterns, names)?;
-            gather_within(alloc, exprs, pattern, body, patterns, names)
+        ExprNode::Folded(node) => {
+            gather_both(alloc, exprs, node.first, node.second, patterns, names)?;
+            gather_within(alloc, exprs, node.pattern, node.body, patterns, names)
         }
     }
 }
 
 // The same of two expressions.
 #[cycle(gather)]
-fn gather_both<'a>(
+fn gather_both(
     alloc: Global,
-    exprs: &'a Exprs,
+    exprs: &Exprs,
     first: ExprId,
     second: ExprId,
     patterns: &Patterns,
-    names: &mut IndexSet<&'a str>,
+    names: &mut Vec<NameId>,
 ) -> Result<(), AllocError>
-    ensures kept { OnOk result (BindAsMany (named_each (names_seen names.old.keys)) (named_each (names_seen names.new.keys))) }
-    ensures first { OnOk result (is_closed (patterns_of patterns.now ++ named_each (names_seen names.new.keys)) (expression exprs.now first) ≡ true) }
-    ensures second { OnOk result (is_closed (patterns_of patterns.now ++ named_each (names_seen names.new.keys)) (expression exprs.now second) ≡ true) }
-    ensures fewest { OnOk result (is_closed (patterns_of patterns.now) (expression exprs.now first) ≡ true → is_closed (patterns_of patterns.now) (expression exprs.now second) ≡ true → names.new.keys ≡ names.old.keys) }
+    ensures kept { OnOk result (BindAsMany (named_each (names_at exprs.now names.old.items)) (named_each (names_at exprs.now names.new.items))) }
+    ensures first { OnOk result (is_closed (patterns_of patterns.now ++ named_each (names_at exprs.now names.new.items)) (expression exprs.now first) ≡ true) }
+    ensures second { OnOk result (is_closed (patterns_of patterns.now ++ named_each (names_at exprs.now names.new.items)) (expression exprs.now second) ≡ true) }
+    ensures fewest { OnOk result (is_closed (patterns_of patterns.now) (expression exprs.now first) ≡ true → is_closed (patterns_of patterns.now) (expression exprs.now second) ≡ true → names.new.items ≡ names.old.items) }
 {
     gather(alloc, exprs, first, patterns, names)?;
     gather(alloc, exprs, second, patterns, names)
@@ -116,17 +182,17 @@ fn gather_both<'a>(
 
 // The same of a function's expression: its pattern is that of a frame inside the others.
 #[cycle(gather)]
-fn gather_within<'a>(
+fn gather_within(
     alloc: Global,
-    exprs: &'a Exprs,
+    exprs: &Exprs,
     pattern: PatternId,
     body: ExprId,
     patterns: &Patterns,
-    names: &mut IndexSet<&'a str>,
+    names: &mut Vec<NameId>,
 ) -> Result<(), AllocError>
-    ensures kept { OnOk result (BindAsMany (named_each (names_seen names.old.keys)) (named_each (names_seen names.new.keys))) }
-    ensures closed { OnOk result (is_closed (pattern_of (placed_at exprs.now pattern) ∷ (patterns_of patterns.now ++ named_each (names_seen names.new.keys))) (expression exprs.now body) ≡ true) }
-    ensures fewest { OnOk result (is_closed (pattern_of (placed_at exprs.now pattern) ∷ patterns_of patterns.now) (expression exprs.now body) ≡ true → names.new.keys ≡ names.old.keys) }
+    ensures kept { OnOk result (BindAsMany (named_each (names_at exprs.now names.old.items)) (named_each (names_at exprs.now names.new.items))) }
+    ensures closed { OnOk result (is_closed (pattern_of (placed_at exprs.now pattern) ∷ (patterns_of patterns.now ++ named_each (names_at exprs.now names.new.items))) (expression exprs.now body) ≡ true) }
+    ensures fewest { OnOk result (is_closed (pattern_of (placed_at exprs.now pattern) ∷ patterns_of patterns.now) (expression exprs.now body) ≡ true → names.new.items ≡ names.old.items) }
 {
     let frame = FramePattern::new(alloc, (&*exprs).placed(pattern))?;
     let inner = (&*patterns).within(&frame);
@@ -134,17 +200,18 @@ fn gather_within<'a>(
 }
 
 // The same of a name.
-fn note<'a>(
-    name: &'a str,
+fn note(
+    exprs: &Exprs,
+    name: NameId,
     patterns: &Patterns,
-    names: &mut IndexSet<&'a str>,
+    names: &mut Vec<NameId>,
 ) -> Result<(), AllocError>
-    ensures kept { OnOk result (BindAsMany (named_each (names_seen names.old.keys)) (named_each (names_seen names.new.keys))) }
-    ensures bound { OnOk result (is_some (place_in name.now (patterns_of patterns.now ++ named_each (names_seen names.new.keys))) ≡ true) }
-    ensures fewest { OnOk result (is_some (place_in name.now (patterns_of patterns.now)) ≡ true → names.new.keys ≡ names.old.keys) }
+    ensures kept { OnOk result (BindAsMany (named_each (names_at exprs.now names.old.items)) (named_each (names_at exprs.now names.new.items))) }
+    ensures bound { OnOk result (is_some (place_in (name_at exprs.now name) (patterns_of patterns.now ++ named_each (names_at exprs.now names.new.items))) ≡ true) }
+    ensures fewest { OnOk result (is_some (place_in (name_at exprs.now name) (patterns_of patterns.now)) ≡ true → names.new.items ≡ names.old.items) }
 {
-    if !patterns.binds(name) {
-        names.insert(name)?;
+    if !patterns.binds(exprs.name_of(name)) {
+        names.push(name)?;
     }
     Ok(())
 }

@@ -14,8 +14,8 @@ ghost use Rattle.sf_code.specs.PlaceView.{patterns_of};
 use crate::code::Code;
 use crate::pattern::FramePattern;
 use crate::place::Patterns;
-use sf_expr::{Constant, ExprId, ExprNode, Exprs, NameId, PatternId};
-use sf_operator::{Folding, Mapping, Operator, number_in};
+use sf_expr::{Constant, ExprId, ExprNode, Exprs, Folded, Mapped, NameId, PatternId};
+use sf_operator::{Operator, number_in};
 use sf_value::Value;
 use std::alloc::{AllocError, Global};
 
@@ -49,12 +49,8 @@ pub(crate) fn compile(
         ExprNode::Conditional(condition, first, second) => {
             conditional(alloc, exprs, condition, first, second, patterns)
         }
-        ExprNode::Mapped(part, mapping, pattern, body) => {
-            mapped(alloc, exprs, part, mapping, pattern, body, patterns)
-        }
-        ExprNode::Folded(first, folding, second, pattern, body) => folded(
-            alloc, exprs, first, folding, second, pattern, body, patterns,
-        ),
+        ExprNode::Mapped(node) => mapped(alloc, exprs, node, patterns),
+        ExprNode::Folded(node) => folded(alloc, exprs, node, patterns),
         ExprNode::Called(name, _, part) => called(alloc, exprs, name, part, patterns),
     }
 }
@@ -193,19 +189,16 @@ fn conditional(
 fn mapped(
     alloc: Global,
     exprs: &Exprs,
-    part: ExprId,
-    mapping: Mapping,
-    pattern: PatternId,
-    body: ExprId,
+    node: Mapped,
     patterns: &Patterns,
 ) -> Result<Code, AllocError>
     ensures { let ps = patterns_of patterns.now in
-        let p = pattern_of (placed_at exprs.now pattern) in
-        IfOk result (λ code. code_of code ≡ trees.mapped (code_under ps (expression exprs.now part)) mapping (code_under (p ∷ ps) (expression exprs.now body))) }
+        let p = pattern_of (placed_at exprs.now node.pattern) in
+        IfOk result (λ code. code_of code ≡ trees.mapped (code_under ps (expression exprs.now node.part)) node.mapping (code_under (p ∷ ps) (expression exprs.now node.body))) }
 {
-    let part = boxed(alloc, exprs, part, patterns)?;
-    let body = within(alloc, exprs, pattern, body, patterns)?;
-    Ok(Code::Mapped(part, mapping, body))
+    let part = boxed(alloc, exprs, node.part, patterns)?;
+    let body = within(alloc, exprs, node.pattern, node.body, patterns)?;
+    Ok(Code::Mapped(part, node.mapping, body))
 }
 
 /// The code of a form on two expressions with a function.
@@ -213,20 +206,16 @@ fn mapped(
 fn folded(
     alloc: Global,
     exprs: &Exprs,
-    first: ExprId,
-    folding: Folding,
-    second: ExprId,
-    pattern: PatternId,
-    body: ExprId,
+    node: Folded,
     patterns: &Patterns,
 ) -> Result<Code, AllocError>
     ensures { let ps = patterns_of patterns.now in
-        let p = pattern_of (placed_at exprs.now pattern) in
-        IfOk result (λ code. code_of code ≡ trees.folded (code_under ps (expression exprs.now first)) folding (code_under ps (expression exprs.now second)) (code_under (p ∷ ps) (expression exprs.now body))) }
+        let p = pattern_of (placed_at exprs.now node.pattern) in
+        IfOk result (λ code. code_of code ≡ trees.folded (code_under ps (expression exprs.now node.first)) node.folding (code_under ps (expression exprs.now node.second)) (code_under (p ∷ ps) (expression exprs.now node.body))) }
 {
-    let (first, second) = both(alloc, exprs, first, second, patterns)?;
-    let body = within(alloc, exprs, pattern, body, patterns)?;
-    Ok(Code::Folded(first, folding, second, body))
+    let (first, second) = both(alloc, exprs, node.first, node.second, patterns)?;
+    let body = within(alloc, exprs, node.pattern, node.body, patterns)?;
+    Ok(Code::Folded(first, node.folding, second, body))
 }
 
 /// The code of a call of a stored function on an expression.

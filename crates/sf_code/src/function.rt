@@ -7,11 +7,11 @@ ghost use Rattle.sf_expr.specs.Evaluation.{Scope, functions_in, eval, apply as a
 ghost use Rattle.sf_operator.specs.Answers.{Evaluates, EvaluatesAs};
 ghost use Rattle.sf_code.specs.CodeView.{code_of};
 ghost use Rattle.sf_code.specs.Compiling.{code_under, is_closed, is_closed_function};
-ghost use Rattle.sf_code.specs.PlaceView.{around_pattern};
+ghost use Rattle.sf_code.specs.Around.{patterns_around};
 ghost use Rattle.sf_code.specs.Running.{run as worth_of};
 ghost use Rattle.sf_code.specs.Worth.{IsCodeOf, IsCodeOfFunction, IsCodeOfIn, IsCodeOfFunctionIn};
 
-use crate::around::names_around;
+use crate::around::{Around, names_around, pattern_of_around};
 use crate::code::Code;
 use crate::compiler::compile;
 use crate::frames::Frames;
@@ -20,7 +20,7 @@ use crate::pattern::FramePattern;
 use crate::place::Patterns;
 use crate::rearranging::{paired_halves, rearranged};
 use crate::running::run;
-use sf_expr::{ExprId, Exprs, FunctionId, Pat};
+use sf_expr::{ExprId, Exprs, FunctionId};
 use sf_func::Holds;
 use sf_operator::EvalFault;
 use sf_value::Value;
@@ -29,7 +29,7 @@ use std::mem;
 
 /// The code of an expression: without a frame for names around it where it has no names.
 pub fn expression_code(alloc: Global, exprs: &Exprs, id: ExprId) -> Result<OpenCode, AllocError>
-    ensures code { IfOk result (λ code. IsCodeOf (expression exprs.now id) code) }
+    ensures code { IfOk result (λ code. IsCodeOf exprs.now (expression exprs.now id) code) }
     ensures bare { is_closed [] (expression exprs.now id) ≡ true → IfOk result (λ code. code.around ≡ None) }
 {
     let around = names_around(alloc, exprs, id, &Patterns::Empty)?;
@@ -39,7 +39,7 @@ pub fn expression_code(alloc: Global, exprs: &Exprs, id: ExprId) -> Result<OpenC
 
 /// The code of a function: without a frame for names around it where its own pattern binds each of its names.
 pub fn function_code(alloc: Global, exprs: &Exprs, id: FunctionId) -> Result<OpenCode, AllocError>
-    ensures code { IfOk result (λ code. IsCodeOfFunction (function_at exprs.now id) code) }
+    ensures code { IfOk result (λ code. IsCodeOfFunction exprs.now (function_at exprs.now id) code) }
     ensures bare { is_closed_function (function_at exprs.now id) ≡ true → IfOk result (λ code. code.around ≡ None) }
 {
     let pattern = exprs.pattern(id);
@@ -55,11 +55,12 @@ fn code_over(
     alloc: Global,
     exprs: &Exprs,
     id: ExprId,
-    around: &Option<Box<Pat>>,
+    around: &Option<Box<Around>>,
 ) -> Result<Code, AllocError>
-    ensures { IfOk result (λ code. code_of code ≡ code_under (around_pattern around.now) (expression exprs.now id)) }
+    ensures { IfOk result (λ code. code_of code ≡ code_under (patterns_around exprs.now around.now) (expression exprs.now id)) }
 {
-    let outside = FramePattern::around(alloc, around)?;
+    let pattern = pattern_of_around(alloc, exprs, around)?;
+    let outside = FramePattern::around(alloc, &pattern)?;
     compile(alloc, exprs, id, &Patterns::around(&outside))
 }
 
@@ -69,11 +70,12 @@ fn code_within(
     exprs: &Exprs,
     frame: &FramePattern,
     body: ExprId,
-    around: &Option<Box<Pat>>,
+    around: &Option<Box<Around>>,
 ) -> Result<Code, AllocError>
-    ensures { IfOk result (λ code. code_of code ≡ code_under (pattern_of frame.now.pattern.now ∷ around_pattern around.now) (expression exprs.now body)) }
+    ensures { IfOk result (λ code. code_of code ≡ code_under (pattern_of frame.now.pattern.now ∷ patterns_around exprs.now around.now) (expression exprs.now body)) }
 {
-    let outside = FramePattern::around(alloc, around)?;
+    let pattern = pattern_of_around(alloc, exprs, around)?;
+    let outside = FramePattern::around(alloc, &pattern)?;
     let outside = Patterns::around(&outside);
     compile(alloc, exprs, body, &outside.within(frame))
 }

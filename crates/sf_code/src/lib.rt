@@ -28,6 +28,7 @@ mod rearranging;
 mod running;
 
 pub use arithmetic::{Calculation, is_arithmetic};
+pub use around::Around;
 pub use code::Code;
 pub use evaluation::{eval, evaluate_among};
 pub use function::{apply, apply_in_place, evaluate, expression_code, function_code};

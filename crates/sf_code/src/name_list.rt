@@ -4,6 +4,7 @@ ghost use Rattle.sf_code.specs.Names.{value_named};
 ghost use Rattle.sf_code.specs.Listed.{listed};
 
 use crate::names::Names;
+use sf_expr::{Exprs, NameId};
 use sf_value::Value;
 
 /// A name with its value.
@@ -18,6 +19,8 @@ pub struct NamedValue {
 /// Names in a list, each with its value: of the same names the first counts.
 #[derive(Clone, Copy)]
 pub struct NamedValues<'a> {
+    /// The expressions among which ids of names stand.
+    pub expressions: &'a Exprs,
     /// The list.
     pub values: &'a [NamedValue],
 }
@@ -25,8 +28,14 @@ pub struct NamedValues<'a> {
 impl<'a> Names for NamedValues<'a> {
     ghost values = { λ n. listed n.values.now };
 
-    fn value<'r>(&'r self, name: &str) -> Option<&'r Value> {
-        first_named(self.values, name)
+    ghost expressions = { λ n. n.expressions.now };
+
+    fn expressions(&self) -> &Exprs {
+        self.expressions
+    }
+
+    fn value<'r>(&'r self, name: NameId) -> Option<&'r Value> {
+        first_named(self.values, self.expressions.name_of(name))
     }
 }
 

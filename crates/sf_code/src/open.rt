@@ -2,14 +2,14 @@
 ghost use Rattle.std.specs.Prelude.{◌≡◌, IfOk, option_to_list};
 ghost use Rattle.sf_expr.specs.Evaluation.{Scope};
 ghost use Rattle.sf_expr.specs.Expressions.{Function};
-ghost use Rattle.sf_expr.specs.Patterns.{pattern_of};
 ghost use Rattle.sf_func.specs.Registries.{AnswersByName};
+ghost use Rattle.sf_code.specs.Around.{pattern_around};
 ghost use Rattle.sf_code.specs.Names.{scope_with};
 ghost use Rattle.sf_code.specs.Worth.{pattern_values, frame_around, IsCodeOfFunction, IsClosureOf};
 
+use crate::around::Around;
 use crate::code::Code;
 use crate::names::Names;
-use sf_expr::{Pat, PatForm};
 use sf_value::Value;
 use std::alloc::{AllocError, Global};
 use std::rc::Rc;
@@ -20,33 +20,33 @@ use std::rc::Rc;
 pub struct OpenCode {
     /// The code.
     pub code: Code,
-    /// The pattern of its outermost frame, which binds the names around it; none where it has no such name.
-    pub around: Option<Box<Pat>>,
+    /// The names around it, in the shape of its outermost frame; none where it has no such name.
+    pub around: Option<Box<Around>>,
 }
 
 impl OpenCode {
-    /// The value of its outermost frame: of the names around it, in the pattern's shape. The error is a want of memory.
+    /// The value of its outermost frame: of the names around it, in their shape. The error is a want of memory.
     pub fn frame<N: Names>(&self, alloc: Global, names: &N) -> Result<Option<Value>, AllocError>
-        ensures { IfOk result (λ frame. (f : AnswersByName) → option_to_list frame ≡ frame_around self.now.around (scope_with (N.values names.now) f)) }
+        ensures { IfOk result (λ frame. (f : AnswersByName) → option_to_list frame ≡ frame_around (N.expressions names.now) self.now.around (scope_with (N.values names.now) f)) }
     {
         match &self.around {
             None => Ok(None),
-            Some(pattern) => Ok(Some(gathered(alloc, pattern, names)?)),
+            Some(around) => Ok(Some(gathered(alloc, around, names)?)),
         }
     }
 }
 
-// The values of a pattern's names, in the pattern's shape.
-fn gathered<N: Names>(alloc: Global, pattern: &Pat, names: &N) -> Result<Value, AllocError>
-    ensures { IfOk result (λ value. (f : AnswersByName) → value ≡ pattern_values (scope_with (N.values names.now) f) (pattern_of pattern.now)) }
+// The values of names, in their shape.
+fn gathered<N: Names>(alloc: Global, around: &Around, names: &N) -> Result<Value, AllocError>
+    ensures { IfOk result (λ value. (f : AnswersByName) → value ≡ pattern_values (scope_with (N.values names.now) f) (pattern_around (N.expressions names.now) around.now)) }
 {
-    match pattern.form() {
-        PatForm::Unnamed => Ok(Value::unit()),
-        PatForm::Name(name, _) => match names.value(name.as_str()) {
+    match around {
+        Around::Nothing => Ok(Value::unit()),
+        Around::Name(name) => match names.value(*name) {
             Some(value) => value.clone_in(alloc),
             None => Ok(Value::int(0)),
         },
-        PatForm::Both(first, second) => {
+        Around::Both(first, second) => {
             let first = gathered(alloc, first, names)?;
             let second = gathered(alloc, second, names)?;
             Value::pair(alloc, first, second)
@@ -70,7 +70,7 @@ impl Closure {
         function: &Rc<OpenCode>,
         names: &N,
     ) -> Result<Closure, AllocError>
-        ensures made { IfOk result (λ closure. (f : AnswersByName) (g : Function) → IsCodeOfFunction g function.now.value →
+        ensures made { IfOk result (λ closure. (f : AnswersByName) (g : Function) → IsCodeOfFunction (N.expressions names.now) g function.now.value →
             IsClosureOf (scope_with (N.values names.now) f) g closure) }
         ensures bare { function.now.value.around ≡ None → IfOk result (λ closure. closure.around ≡ None) }
     {

@@ -1,5 +1,5 @@
 //! What code is worth.
-ghost use Rattle.std.specs.Prelude.{◌≡◌, ◌∷◌, IfOk, Option, cond};
+ghost use Rattle.std.specs.Prelude.{◌≡◌, ◌∷◌, IfOk, Option, cond, map};
 ghost use Rattle.sf_code.specs.Codes as trees;
 ghost use Rattle.sf_code.specs.Running.{run as worth_of};
 ghost use Rattle.sf_code.specs.CodeView.{code_of};
@@ -15,7 +15,7 @@ ghost use Rattle.sf_code.specs.FrameView.{found_value};
 ghost use Rattle.sf_expr.specs.Evaluation.{granted};
 ghost use Rattle.sf_func.specs.Meaning.{Applied};
 ghost use Rattle.sf_code.specs.Numbers.{AnswersNumber, AnswersTruth};
-ghost use Rattle.sf_value.specs.View.{rows_of};
+ghost use Rattle.sf_value.specs.View.{key_of, rows_under};
 ghost use Rattle.sf_operator.specs.Outcomes.{Evaluated, answer as worth_as, ◌>>=◌ as followed, known};
 ghost use Rattle.sf_operator.specs.FunctionForms.{mapped_value, folded_value, folded_rows};
 ghost use Rattle.sf_operator.specs.declared.operator.Mapping.TheVariants as mappings;
@@ -28,7 +28,7 @@ use sf_operator::{
     Arithmetic, Comparison, EvalFault, Folding, Logic, Mapping, Operator, Unary, calculate, copied,
     decide, is_true, number_in, operate, operate_on, payload_in, rows_in,
 };
-use sf_value::{Key, Value, ValueFault};
+use sf_value::{Rows, Value, ValueFault};
 use std::alloc::{AllocError, Global};
 
 /// What code is worth over the values of frames, or the first fault of its operations: operands stand from left to right.
@@ -644,21 +644,24 @@ fn fold<F: Holds>(
 #[cycle(run)]
 fn fold_rows<F: Holds>(
     alloc: Global,
-    rows: &[(Key, Value)],
+    rows: Rows,
     start: Value,
     body: &Code,
     frames: &Frames,
     functions: &F,
 ) -> Result<Value, EvalFault>
-    ensures { Evaluates result (folded_rows (rows_of rows.now) start (λ x. worth_of (code_of body.now) (x ∷ frames_of frames.now) (F.answers functions.now))) }
+    ensures { Evaluates result (folded_rows (rows_under (map key_of rows.entry.keys.now) rows.entry.values.now) start (λ x. worth_of (code_of body.now) (x ∷ frames_of frames.now) (F.answers functions.now))) }
 {
     let mut so_far = start;
     let mut argument = Value::unit();
     let mut rest = rows;
-    while let [(key, value), after @ ..] = rest {
+    while let [key, keys @ ..] = rest.keys {
+        let [value, values @ ..] = rest.values else {
+            break;
+        };
         argument = next_argument(alloc, argument, so_far, key, value)?;
         so_far = answer(alloc, body, &argument, frames, functions)?;
-        rest = after;
+        rest = Rows { keys, values };
     }
     Ok(so_far)
 }

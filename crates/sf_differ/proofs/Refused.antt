@@ -45,22 +45,22 @@ module _ (x : Exprs) (R : Names) (s : Spot) where
       rw (typed_judged x R i c h, typed_judged x R j t l, typed_judged x R k u m) (unmade (conditional_kind c t u) (λ m. none_stands w (t, u, m)) w.at)
   node_refused (other_differs {i = i} {j = j} {k = k} {c = c} {t = t} {u = u} h l m w) =
       rw (typed_judged x R i c h, typed_judged x R j t l, typed_judged x R k u m) (unmade (conditional_kind c t u) (λ m. none_stands w m) w.at)
-  node_refused (mapping_differs {i = i} {m = m} {t = t} {d = d} h w) =
-      let none : fitting_at s (mapped_argument m t) ≡ Err (breach_of Mismatch d.spot) = unmade (mapped_argument m t) (λ m. none_stands w m) w.at in
-      rw (typed_judged x R i t h, none) refl
-  node_refused (mapped_pattern_differs {i = i} {m = m} {t = t} {a = a} h e f w) =
-      rw (typed_judged x R i t h, fits_at s (mapped_argument m t) a e f, w.refused.first R) refl
-  node_refused (mapped_differs {i = i} {j = j} {m = m} {p = p} {t = t} {a = a} {u = u} {S = S} h e f binds l w) =
-      rw (typed_judged x R i t h, fits_at s (mapped_argument m t) a e f, binds_binding s (placed_at x p) binds, typed_judged x S j u l) (unmade (mapped_kind m t u) (λ m. none_stands w m) w.at)
-  node_refused (folding_differs {i = i} {j = j} {o = o} {t = t} {u = u} {d = d} h l w) =
-      let none : fitting_at s (folded_argument o t u) ≡ Err (breach_of Mismatch d.spot) = unmade (folded_argument o t u) (λ m. none_stands w (u, m)) w.at in
-      rw (typed_judged x R i t h, typed_judged x R j u l, none) refl
-  node_refused (folded_pattern_differs {i = i} {j = j} {o = o} {t = t} {u = u} {a = a} h l e f w) =
-      rw (typed_judged x R i t h, typed_judged x R j u l, fits_at s (folded_argument o t u) a e f, w.refused.first R) refl
-  node_refused (second_differs {i = i} {j = j} {k = k} {o = o} {p = p} {t = t} {u = u} {a = a} {v = v} {S = S} h l e f binds m w) =
-      rw (typed_judged x R i t h, typed_judged x R j u l, fits_at s (folded_argument o t u) a e f, binds_binding s (placed_at x p) binds, typed_judged x S k v m) (unmade (folded_kind o t u v) (λ m. none_stands w (v, m)) w.at)
-  node_refused (folded_differs {i = i} {j = j} {k = k} {o = o} {p = p} {t = t} {u = u} {a = a} {v = v} {S = S} h l e f binds m w) =
-      rw (typed_judged x R i t h, typed_judged x R j u l, fits_at s (folded_argument o t u) a e f, binds_binding s (placed_at x p) binds, typed_judged x S k v m) (unmade (folded_kind o t u v) (λ m. none_stands w m) w.at)
+  node_refused (mapping_differs {n = n} {t = t} {d = d} h w) =
+      let none : fitting_at s (mapped_argument n.mapping t) ≡ Err (breach_of Mismatch d.spot) = unmade (mapped_argument n.mapping t) (λ m. none_stands w m) w.at in
+      rw (typed_judged x R n.part t h, none) refl
+  node_refused (mapped_pattern_differs {n = n} {t = t} {a = a} h e f w) =
+      rw (typed_judged x R n.part t h, fits_at s (mapped_argument n.mapping t) a e f, w.refused.first R) refl
+  node_refused (mapped_differs {n = n} {t = t} {a = a} {u = u} {S = S} h e f binds l w) =
+      rw (typed_judged x R n.part t h, fits_at s (mapped_argument n.mapping t) a e f, binds_binding s (placed_at x n.pattern) binds, typed_judged x S n.body u l) (unmade (mapped_kind n.mapping t u) (λ m. none_stands w m) w.at)
+  node_refused (folding_differs {n = n} {t = t} {u = u} {d = d} h l w) =
+      let none : fitting_at s (folded_argument n.folding t u) ≡ Err (breach_of Mismatch d.spot) = unmade (folded_argument n.folding t u) (λ m. none_stands w (u, m)) w.at in
+      rw (typed_judged x R n.first t h, typed_judged x R n.second u l, none) refl
+  node_refused (folded_pattern_differs {n = n} {t = t} {u = u} {a = a} h l e f w) =
+      rw (typed_judged x R n.first t h, typed_judged x R n.second u l, fits_at s (folded_argument n.folding t u) a e f, w.refused.first R) refl
+  node_refused (second_differs {n = n} {t = t} {u = u} {a = a} {v = v} {S = S} h l e f binds m w) =
+      rw (typed_judged x R n.first t h, typed_judged x R n.second u l, fits_at s (folded_argument n.folding t u) a e f, binds_binding s (placed_at x n.pattern) binds, typed_judged x S n.body v m) (unmade (folded_kind n.folding t u v) (λ m. none_stands w (v, m)) w.at)
+  node_refused (folded_differs {n = n} {t = t} {u = u} {a = a} {v = v} {S = S} h l e f binds m w) =
+      rw (typed_judged x R n.first t h, typed_judged x R n.second u l, fits_at s (folded_argument n.folding t u) a e f, binds_binding s (placed_at x n.pattern) binds, typed_judged x S n.body v m) (unmade (folded_kind n.folding t u v) (λ m. none_stands w m) w.at)
   node_refused (called_differs {i = i} {fs = fs} {t = t} h named w) = rw (typed_judged x R i t h, named) (unmade (called_kind fs.from fs.to t) (λ m. none_stands w m) w.at)
 
   part_refused : {n : ExprNode} {S : Names} {j : ExprId} {b : Breach} → ReachesPart x R n S j → judged x j S ≡ Err b → form_judged x (judged x) s n R ≡ Err b
@@ -73,11 +73,11 @@ module _ (x : Exprs) (R : Names) (s : Spot) where
   part_refused (one_part {i = i} {c = c} h) e = rw (typed_judged x R i c h, e) refl
   part_refused (other_part {i = i} {j = j} {c = c} {t = t} h l) e = rw (typed_judged x R i c h, typed_judged x R j t l, e) refl
   part_refused mapped_part e = rw e refl
-  part_refused (mapped_body {i = i} {m = m} {p = p} {t = t} {a = a} h g f binds) e = rw (typed_judged x R i t h, fits_at s (mapped_argument m t) a g f, binds_binding s (placed_at x p) binds, e) refl
+  part_refused (mapped_body {n = n} {t = t} {a = a} h g f binds) e = rw (typed_judged x R n.part t h, fits_at s (mapped_argument n.mapping t) a g f, binds_binding s (placed_at x n.pattern) binds, e) refl
   part_refused folded_first e = rw e refl
-  part_refused (folded_second {i = i} {t = t} h) e = rw (typed_judged x R i t h, e) refl
-  part_refused (folded_body {i = i} {j = j} {o = o} {p = p} {t = t} {u = u} {a = a} h l g f binds) e =
-      rw (typed_judged x R i t h, typed_judged x R j u l, fits_at s (folded_argument o t u) a g f, binds_binding s (placed_at x p) binds, e) refl
+  part_refused (folded_second {n = n} {t = t} h) e = rw (typed_judged x R n.first t h, e) refl
+  part_refused (folded_body {n = n} {t = t} {u = u} {a = a} h l g f binds) e =
+      rw (typed_judged x R n.first t h, typed_judged x R n.second u l, fits_at s (folded_argument n.folding t u) a g f, binds_binding s (placed_at x n.pattern) binds, e) refl
   part_refused called_part e = rw e refl
 
 module _ (x : Exprs) where

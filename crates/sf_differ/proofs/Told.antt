@@ -2,6 +2,8 @@
 use Rattle.std.proofs.Common.{◌≡◌, Option, Some, None, Result, Ok, Err, IfOk, IfErr, IsErrAnd, sym, subst}
 use Rattle.sf_value.specs.Values.{Kind}
 use Rattle.sf_refusal.specs.declared.spot.Spot.{Spot}
+use Rattle.sf_refusal.specs.declared.refusal.Refusal.{Refusal}
+use Rattle.sf_refusal.specs.declared.refusal.Refusal.TheVariants as refusals
 use Rattle.sf_expr.specs.declared.exprs.ExprId.{ExprId}
 use Rattle.sf_expr.specs.declared.exprs.ExprNode.{ExprNode}
 use Rattle.sf_expr.specs.declared.exprs.Exprs.{Exprs}
@@ -12,8 +14,8 @@ use Rattle.sf_expr.specs.Typing.{Names, Binds, HasType, FunctionTakes, function_
 use Rattle.sf_differ.specs.declared.difference.Wanted.{Wanted}
 use Rattle.sf_differ.specs.declared.difference.Difference.{Difference}
 use Rattle.sf_differ.specs.declared.blame.Blame.{Blame}
-use Rattle.sf_differ.specs.declared.blame.Blame.TheVariants.{Differs, Memory}
-use Rattle.sf_differ.specs.Differences.{SuitsAny, WantsAny, IsOther, DiffersAt, Explains, tells, tells_nothing, lacks_room}
+use Rattle.sf_differ.specs.declared.blame.Blame.TheVariants.{Differs, Silent, Memory}
+use Rattle.sf_differ.specs.Differences.{SuitsAny, WantsAny, IsOther, DiffersAt, Explains, tells, tells_nothing, lacks_room, left_unsaid}
 use Rattle.sf_differ.specs.Differing.{PatternDiffers, NodeDiffers, ReachesPart, ExpressionDiffers, differs_itself, differs_within, BoundDiffers, bound_pattern, bound_body}
 
 -- what follows from what is told
@@ -37,6 +39,11 @@ told_on {P = P} (Err e) b is h = subst (Explains P) (sym is) h
 -- what a `?` returns where memory was wanting
 pub room_on : {A : Type 0} (P : Difference → Type 0) (answer : Result A Blame) → IsErrAnd answer (λ e. e ≡ Memory) → IfErr answer (λ e. Explains P e)
 room_on P answer is = told_on answer Memory is lacks_room
+
+-- what it returns where typing is refused
+pub unsaid_on : {A : Type 0} (P : Difference → Type 0) (answer : Result A Blame) (r : Refusal) → IsErrAnd answer (λ e. e ≡ left_unsaid r) → IfErr answer (λ e. Explains P e)
+unsaid_on P answer (refusals.Broken b) is = told_on answer Silent is tells_nothing
+unsaid_on P answer refusals.Memory is = told_on answer Memory is lacks_room
 
 module _ (can : Kind → Type 0) (o : Option Wanted) (wants : WantsAny can o) where
   -- a type differs where it is none of those that are wanted

@@ -2,6 +2,8 @@
 use Rattle.std.specs.Prelude.{◌≡◌, Option, Some, None, IsTrue, ⊤}
 use Rattle.sf_value.specs.Values.{KeyKind, Kind, pair_kind, event_kind, table_kind}
 use Rattle.sf_refusal.specs.declared.spot.Spot.{Spot}
+use Rattle.sf_refusal.specs.declared.refusal.Refusal.{Refusal}
+use Rattle.sf_refusal.specs.declared.refusal.Refusal.TheVariants as refusals
 use Rattle.sf_operator.specs.Kinds.{is_ordered}
 use Rattle.sf_differ.specs.declared.difference.Wanted.{Wanted}
 use Rattle.sf_differ.specs.declared.difference.Wanted.TheVariants.{Exactly, Pair, PairWith, Event, EventBeside, Table, Ordered}
@@ -53,3 +55,8 @@ pub data Explains (P : Difference → Type 0) : Blame → Type 0 where
   tells : {d : Difference} → P d → Explains P (Differs d)
   tells_nothing : Explains P Silent
   lacks_room : Explains P Memory
+
+-- of a rule that is broken nothing is said; want of memory stays one
+abbrev pub left_unsaid : Refusal → Blame
+left_unsaid (refusals.Broken b) = Silent
+left_unsaid refusals.Memory = Memory

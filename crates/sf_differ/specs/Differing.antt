@@ -9,12 +9,11 @@ use Rattle.sf_func.specs.declared.signatures.Signatures.{Signatures}
 use Rattle.sf_func.specs.Signatures.{signatures_in}
 use Rattle.sf_operator.specs.declared.operator.Operator.{Operator}
 use Rattle.sf_operator.specs.declared.operator.Unary.{Unary}
-use Rattle.sf_operator.specs.declared.operator.Mapping.{Mapping}
-use Rattle.sf_operator.specs.declared.operator.Folding.{Folding}
 use Rattle.sf_operator.specs.Kinds.{unary_kind, binary_kind, conditional_kind, mapped_argument, mapped_kind, called_kind, folded_argument, folded_kind}
 use Rattle.sf_expr.specs.declared.exprs.ExprId.{ExprId}
 use Rattle.sf_expr.specs.declared.exprs.NameId.{NameId}
-use Rattle.sf_expr.specs.declared.exprs.PatternId.{PatternId}
+use Rattle.sf_expr.specs.declared.exprs.Mapped.{Mapped}
+use Rattle.sf_expr.specs.declared.exprs.Folded.{Folded}
 use Rattle.sf_expr.specs.declared.exprs.FunctionId.{FunctionId}
 use Rattle.sf_expr.specs.declared.exprs.ExprNode.{ExprNode}
 use Rattle.sf_expr.specs.declared.exprs.ExprNode.TheVariants as nodes
@@ -67,24 +66,24 @@ pub data NodeDiffers (x : Exprs) (R : Names) (s : Spot) : ExprNode → Differenc
   other_differs : {i j k : ExprId} {c t u : Kind} {d : Difference}
       → HasType R (expression x i) c → HasType R (expression x j) t → HasType R (expression x k) u
       → DiffersAt (λ e. IsMade (conditional_kind c t e)) s u d → NodeDiffers x R s (nodes.Conditional i j k) d
-  mapping_differs : {i j : ExprId} {m : Mapping} {p : PatternId} {t : Kind} {d : Difference}
-      → HasType R (expression x i) t → DiffersAt (λ a. IsMade (mapped_argument m a)) s t d → NodeDiffers x R s (nodes.Mapped i m p j) d
-  mapped_pattern_differs : {i j : ExprId} {m : Mapping} {p : PatternId} {t a : Kind} {d : Difference}
-      → HasType R (expression x i) t → mapped_argument m t ≡ Some a → Fits a → PatternDiffers (placed_at x p) a s d → NodeDiffers x R s (nodes.Mapped i m p j) d
-  mapped_differs : {i j : ExprId} {m : Mapping} {p : PatternId} {t a u : Kind} {S : Names} {d : Difference}
-      → HasType R (expression x i) t → mapped_argument m t ≡ Some a → Fits a → Binds (pattern_of (placed_at x p)) a R S → HasType S (expression x j) u
-      → DiffersAt (λ b. IsMade (mapped_kind m t b)) s u d → NodeDiffers x R s (nodes.Mapped i m p j) d
-  folding_differs : {i j k : ExprId} {o : Folding} {p : PatternId} {t u : Kind} {d : Difference}
-      → HasType R (expression x i) t → HasType R (expression x j) u → DiffersAt (λ a. (b : Kind) × IsMade (folded_argument o a b)) s t d → NodeDiffers x R s (nodes.Folded i o j p k) d
-  folded_pattern_differs : {i j k : ExprId} {o : Folding} {p : PatternId} {t u a : Kind} {d : Difference}
-      → HasType R (expression x i) t → HasType R (expression x j) u → folded_argument o t u ≡ Some a → Fits a → PatternDiffers (placed_at x p) a s d
-      → NodeDiffers x R s (nodes.Folded i o j p k) d
-  second_differs : {i j k : ExprId} {o : Folding} {p : PatternId} {t u a v : Kind} {S : Names} {d : Difference}
-      → HasType R (expression x i) t → HasType R (expression x j) u → folded_argument o t u ≡ Some a → Fits a → Binds (pattern_of (placed_at x p)) a R S → HasType S (expression x k) v
-      → DiffersAt (λ b. (c : Kind) × IsMade (folded_kind o t b c)) s u d → NodeDiffers x R s (nodes.Folded i o j p k) d
-  folded_differs : {i j k : ExprId} {o : Folding} {p : PatternId} {t u a v : Kind} {S : Names} {d : Difference}
-      → HasType R (expression x i) t → HasType R (expression x j) u → folded_argument o t u ≡ Some a → Fits a → Binds (pattern_of (placed_at x p)) a R S → HasType S (expression x k) v
-      → DiffersAt (λ c. IsMade (folded_kind o t u c)) s v d → NodeDiffers x R s (nodes.Folded i o j p k) d
+  mapping_differs : {n : Mapped} {t : Kind} {d : Difference}
+      → HasType R (expression x n.part) t → DiffersAt (λ a. IsMade (mapped_argument n.mapping a)) s t d → NodeDiffers x R s (nodes.Mapped n) d
+  mapped_pattern_differs : {n : Mapped} {t a : Kind} {d : Difference}
+      → HasType R (expression x n.part) t → mapped_argument n.mapping t ≡ Some a → Fits a → PatternDiffers (placed_at x n.pattern) a s d → NodeDiffers x R s (nodes.Mapped n) d
+  mapped_differs : {n : Mapped} {t a u : Kind} {S : Names} {d : Difference}
+      → HasType R (expression x n.part) t → mapped_argument n.mapping t ≡ Some a → Fits a → Binds (pattern_of (placed_at x n.pattern)) a R S → HasType S (expression x n.body) u
+      → DiffersAt (λ b. IsMade (mapped_kind n.mapping t b)) s u d → NodeDiffers x R s (nodes.Mapped n) d
+  folding_differs : {n : Folded} {t u : Kind} {d : Difference}
+      → HasType R (expression x n.first) t → HasType R (expression x n.second) u → DiffersAt (λ a. (b : Kind) × IsMade (folded_argument n.folding a b)) s t d → NodeDiffers x R s (nodes.Folded n) d
+  folded_pattern_differs : {n : Folded} {t u a : Kind} {d : Difference}
+      → HasType R (expression x n.first) t → HasType R (expression x n.second) u → folded_argument n.folding t u ≡ Some a → Fits a → PatternDiffers (placed_at x n.pattern) a s d
+      → NodeDiffers x R s (nodes.Folded n) d
+  second_differs : {n : Folded} {t u a v : Kind} {S : Names} {d : Difference}
+      → HasType R (expression x n.first) t → HasType R (expression x n.second) u → folded_argument n.folding t u ≡ Some a → Fits a → Binds (pattern_of (placed_at x n.pattern)) a R S → HasType S (expression x n.body) v
+      → DiffersAt (λ b. (c : Kind) × IsMade (folded_kind n.folding t b c)) s u d → NodeDiffers x R s (nodes.Folded n) d
+  folded_differs : {n : Folded} {t u a v : Kind} {S : Names} {d : Difference}
+      → HasType R (expression x n.first) t → HasType R (expression x n.second) u → folded_argument n.folding t u ≡ Some a → Fits a → Binds (pattern_of (placed_at x n.pattern)) a R S → HasType S (expression x n.body) v
+      → DiffersAt (λ c. IsMade (folded_kind n.folding t u c)) s v d → NodeDiffers x R s (nodes.Folded n) d
   called_differs : {g : NameId} {n : Spot} {i : ExprId} {fs : FunctionTypes} {t : Kind} {d : Difference}
       → HasType R (expression x i) t → types_named (name_at x g) (functions_of R) ≡ Some fs → DiffersAt (λ a. IsMade (called_kind fs.from fs.to a)) s t d → NodeDiffers x R s (nodes.Called g n i) d
 
@@ -98,13 +97,13 @@ pub data ReachesPart (x : Exprs) (R : Names) : ExprNode → Names → ExprId →
   condition_part : {i j k : ExprId} → ReachesPart x R (nodes.Conditional i j k) R i
   one_part : {i j k : ExprId} {c : Kind} → HasType R (expression x i) c → ReachesPart x R (nodes.Conditional i j k) R j
   other_part : {i j k : ExprId} {c t : Kind} → HasType R (expression x i) c → HasType R (expression x j) t → ReachesPart x R (nodes.Conditional i j k) R k
-  mapped_part : {i j : ExprId} {m : Mapping} {p : PatternId} → ReachesPart x R (nodes.Mapped i m p j) R i
-  mapped_body : {i j : ExprId} {m : Mapping} {p : PatternId} {t a : Kind} {S : Names}
-      → HasType R (expression x i) t → mapped_argument m t ≡ Some a → Fits a → Binds (pattern_of (placed_at x p)) a R S → ReachesPart x R (nodes.Mapped i m p j) S j
-  folded_first : {i j k : ExprId} {o : Folding} {p : PatternId} → ReachesPart x R (nodes.Folded i o j p k) R i
-  folded_second : {i j k : ExprId} {o : Folding} {p : PatternId} {t : Kind} → HasType R (expression x i) t → ReachesPart x R (nodes.Folded i o j p k) R j
-  folded_body : {i j k : ExprId} {o : Folding} {p : PatternId} {t u a : Kind} {S : Names}
-      → HasType R (expression x i) t → HasType R (expression x j) u → folded_argument o t u ≡ Some a → Fits a → Binds (pattern_of (placed_at x p)) a R S → ReachesPart x R (nodes.Folded i o j p k) S k
+  mapped_part : {n : Mapped} → ReachesPart x R (nodes.Mapped n) R n.part
+  mapped_body : {n : Mapped} {t a : Kind} {S : Names}
+      → HasType R (expression x n.part) t → mapped_argument n.mapping t ≡ Some a → Fits a → Binds (pattern_of (placed_at x n.pattern)) a R S → ReachesPart x R (nodes.Mapped n) S n.body
+  folded_first : {n : Folded} → ReachesPart x R (nodes.Folded n) R n.first
+  folded_second : {n : Folded} {t : Kind} → HasType R (expression x n.first) t → ReachesPart x R (nodes.Folded n) R n.second
+  folded_body : {n : Folded} {t u a : Kind} {S : Names}
+      → HasType R (expression x n.first) t → HasType R (expression x n.second) u → folded_argument n.folding t u ≡ Some a → Fits a → Binds (pattern_of (placed_at x n.pattern)) a R S → ReachesPart x R (nodes.Folded n) S n.body
   called_part : {g : NameId} {n : Spot} {i : ExprId} → ReachesPart x R (nodes.Called g n i) R i
 
 -- In the expression at an id the first rule that is broken is that types fit, and these differ: in the form at the id itself,

@@ -1,8 +1,10 @@
 //! Why nothing is found, and what differs.
 ghost use Rattle.std.specs.Prelude.{◌≡◌};
 ghost use Rattle.sf_differ.specs.declared.blame.Blame.TheVariants.{Memory};
+ghost use Rattle.sf_differ.specs.Differences.{left_unsaid};
 
 use crate::difference::Difference;
+use sf_refusal::Refusal;
 use std::alloc::AllocError;
 
 /// What is said of a form that is refused.
@@ -21,5 +23,16 @@ impl From<AllocError> for Blame {
 
     fn from(_error: AllocError) -> Blame {
         Blame::Memory
+    }
+}
+
+impl From<Refusal> for Blame {
+    ghost from_gives = { λ refusal b. b ≡ left_unsaid refusal };
+
+    fn from(refusal: Refusal) -> Blame {
+        match refusal {
+            Refusal::Broken(_) => Blame::Silent,
+            Refusal::Memory => Blame::Memory,
+        }
     }
 }

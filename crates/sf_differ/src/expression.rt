@@ -1,6 +1,6 @@
 //! What differs in an expression that is refused.
 ghost use Rattle.std.specs.Prelude.{◌≡◌, IfOk, IfErr};
-ghost use Rattle.sf_expr.specs.declared.exprs.ExprNode.TheVariants.{Conditional, Mapped, Folded};
+ghost use Rattle.sf_expr.specs.declared.exprs.ExprNode.TheVariants.{Conditional};
 ghost use Rattle.sf_expr.specs.Arena.{expression, node_at, id_number, PartsBelow};
 ghost use Rattle.sf_expr.specs.Arena.{function_at};
 ghost use Rattle.sf_expr.specs.Expressions.{function as function_of};
@@ -18,8 +18,8 @@ use crate::wanting::{
     right_wanted, second_wanted,
 };
 use sf_expr::{
-    ExprId, ExprNode, Exprs, Folding, Frame, FunctionId, Mapping, NameId, Operator, Pat, PatternId,
-    TypeScope, Unary, type_of,
+    ExprId, ExprNode, Exprs, Folded, Frame, FunctionId, Mapped, NameId, Operator, Pat, TypeScope,
+    Unary, type_of,
 };
 use sf_func::Signatures;
 use sf_operator::{folded_argument_type, mapped_argument_type};
@@ -57,16 +57,8 @@ fn explain(
         ExprNode::Conditional(condition, first, second) => {
             explain_conditional(alloc, exprs, id, condition, first, second, names, functions)
         }
-        ExprNode::Mapped(part, mapping, pattern, body) => {
-            explain_mapped(
-                alloc, exprs, id, part, mapping, pattern, body, names, functions,
-            )
-        }
-        ExprNode::Folded(first, folding, second, pattern, body) => {
-            explain_folded(
-                alloc, exprs, id, first, folding, second, pattern, body, names, functions,
-            )
-        }
+        ExprNode::Mapped(node) => explain_mapped(alloc, exprs, id, node, names, functions),
+        ExprNode::Folded(node) => explain_folded(alloc, exprs, id, node, names, functions),
         ExprNode::Called(function, place, part) => {
             explain_called(alloc, exprs, id, function, place, part, names, functions)
         }
@@ -188,28 +180,23 @@ fn explain_mapped(
     alloc: Global,
     exprs: &Exprs,
     id: ExprId,
-    part: ExprId,
-    mapping: Mapping,
-    pattern: PatternId,
-    body: ExprId,
+    node: Mapped,
     names: &TypeScope,
     functions: &Signatures,
 ) -> Result<(), Blame>
-    requires there { node_at exprs.now id ≡ Mapped part mapping pattern body }
-    requires below { PartsBelow (Mapped part mapping pattern body) (id_number id) }
+    requires there { node_at exprs.now id ≡ ExprNode.Mapped node }
+    requires below { PartsBelow (ExprNode.Mapped node) (id_number id) }
     ensures { IfErr result (λ b. Explains (ExpressionDiffers exprs.now (types_under names.now functions.now) id) b) }
 {
     let spot = exprs.spot(id);
-    let given = typed(alloc, exprs, part, names, functions)?;
-    suited(alloc, &given, mapping_wanted(mapping), spot)?;
-    let Ok(argument) = mapped_argument_type(alloc, mapping, &given, spot) else {
-        return Ok(());
-    };
-    let pattern = exprs.placed(pattern);
+    let given = typed(alloc, exprs, node.part, names, functions)?;
+    suited(alloc, &given, mapping_wanted(node.mapping), spot)?;
+    let argument = mapped_argument_type(alloc, node.mapping, &given, spot)?;
+    let pattern = exprs.placed(node.pattern);
     let made = typed_behind(
-        alloc, exprs, pattern, body, &argument, names, functions, spot,
+        alloc, exprs, pattern, node.body, &argument, names, functions, spot,
     )?;
-    suited(alloc, &made, mapped_wanted(mapping), spot)
+    suited(alloc, &made, mapped_wanted(node.mapping), spot)
 }
 
 /// What differs in the fold at an id.
@@ -218,32 +205,26 @@ fn explain_folded(
     alloc: Global,
     exprs: &Exprs,
     id: ExprId,
-    first: ExprId,
-    folding: Folding,
-    second: ExprId,
-    pattern: PatternId,
-    body: ExprId,
+    node: Folded,
     names: &TypeScope,
     functions: &Signatures,
 ) -> Result<(), Blame>
-    requires there { node_at exprs.now id ≡ Folded first folding second pattern body }
-    requires below { PartsBelow (Folded first folding second pattern body) (id_number id) }
+    requires there { node_at exprs.now id ≡ ExprNode.Folded node }
+    requires below { PartsBelow (ExprNode.Folded node) (id_number id) }
     ensures { IfErr result (λ b. Explains (ExpressionDiffers exprs.now (types_under names.now functions.now) id) b) }
 {
     let spot = exprs.spot(id);
-    let one = typed(alloc, exprs, first, names, functions)?;
-    let other = typed(alloc, exprs, second, names, functions)?;
-    suited(alloc, &one, folding_wanted(folding), spot)?;
-    let Ok(argument) = folded_argument_type(alloc, folding, &one, &other, spot) else {
-        return Ok(());
-    };
-    let pattern = exprs.placed(pattern);
+    let one = typed(alloc, exprs, node.first, names, functions)?;
+    let other = typed(alloc, exprs, node.second, names, functions)?;
+    suited(alloc, &one, folding_wanted(node.folding), spot)?;
+    let argument = folded_argument_type(alloc, node.folding, &one, &other, spot)?;
+    let pattern = exprs.placed(node.pattern);
     let made = typed_behind(
-        alloc, exprs, pattern, body, &argument, names, functions, spot,
+        alloc, exprs, pattern, node.body, &argument, names, functions, spot,
     )?;
-    let wanted = second_wanted(alloc, folding, &one)?;
+    let wanted = second_wanted(alloc, node.folding, &one)?;
     suited(alloc, &other, wanted, spot)?;
-    let wanted = folded_wanted(alloc, folding, &one, &other)?;
+    let wanted = folded_wanted(alloc, node.folding, &one, &other)?;
     suited(alloc, &made, wanted, spot)
 }
 

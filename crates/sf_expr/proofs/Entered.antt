@@ -45,8 +45,8 @@ local b es more entry h = at_node entry.node h
     at_node (nodes.Applied o a) h = ap (λ i. applied o i) (part a.0 (omega arith))
     at_node (nodes.Operation a op c) h = ap₂ (λ i j. operation i op j) (part a.0 (omega arith)) (part c.0 (omega arith))
     at_node (nodes.Conditional a c d) h = ap₂ (λ (i : Expression) (p : Expression × Expression). conditional i p.0 p.1) (part a.0 (omega arith)) (ap₂ (λ (j k : Expression). (j, k)) (part c.0 (omega arith)) (part d.0 (omega arith)))
-    at_node (nodes.Mapped a m p c) h = ap₂ (λ i j. mapped i m (pattern_of (placed_among b.patterns p.0)) j) (part a.0 (omega arith)) (part c.0 (omega arith))
-    at_node (nodes.Folded a o c p d) h = ap₂ (λ (i : Expression) (q : Expression × Expression). folded i o q.0 (pattern_of (placed_among b.patterns p.0)) q.1) (part a.0 (omega arith)) (ap₂ (λ (j k : Expression). (j, k)) (part c.0 (omega arith)) (part d.0 (omega arith)))
+    at_node (nodes.Mapped n) h = ap₂ (λ i j. mapped i n.mapping (pattern_of (placed_among b.patterns n.pattern.0)) j) (part n.part.0 (omega arith)) (part n.body.0 (omega arith))
+    at_node (nodes.Folded n) h = ap₂ (λ (i : Expression) (q : Expression × Expression). folded i n.folding q.0 (pattern_of (placed_among b.patterns n.pattern.0)) q.1) (part n.first.0 (omega arith)) (ap₂ (λ (j k : Expression). (j, k)) (part n.second.0 (omega arith)) (part n.body.0 (omega arith)))
     at_node (nodes.Called g s a) h = ap (λ i. called (name_among b.names g.0) i) (part a.0 (omega arith))
 
 -- Names, literals and patterns of which there are more.
@@ -66,8 +66,8 @@ same_beside b c es (nodes.Pair i j) m h k l = refl
 same_beside b c es (nodes.Applied o i) m h k l = refl
 same_beside b c es (nodes.Operation i op j) m h k l = refl
 same_beside b c es (nodes.Conditional i j d) m h k l = refl
-same_beside b c es (nodes.Mapped i f p j) m h k l = ap (λ q. mapped (among es i.0) f (pattern_of q) (among es j.0)) (m.patterns.same p.0 placed_unnamed (omega arith))
-same_beside b c es (nodes.Folded i f j p d) m h k l = ap (λ q. folded (among es i.0) f (among es j.0) (pattern_of q) (among es d.0)) (m.patterns.same p.0 placed_unnamed (omega arith))
+same_beside b c es (nodes.Mapped n) m h k l = ap (λ q. mapped (among es n.part.0) n.mapping (pattern_of q) (among es n.body.0)) (m.patterns.same n.pattern.0 placed_unnamed (omega arith))
+same_beside b c es (nodes.Folded n) m h k l = ap (λ q. folded (among es n.first.0) n.folding (among es n.second.0) (pattern_of q) (among es n.body.0)) (m.patterns.same n.pattern.0 placed_unnamed (omega arith))
 same_beside b c es (nodes.Called g s i) m h k l = ap (λ n. called n (among es i.0)) (m.names.same g.0 [] (omega arith))
 
 expressions_beside : (b c : Beside) (entries : List (Entry ExprNode)) → IsMore b c → IsArena b entries → (i : ℕ) → expression_at c entries i ≡ expression_at b entries i
@@ -151,8 +151,8 @@ made_expression x (nodes.Pair a b) = refl
 made_expression x (nodes.Applied o a) = refl
 made_expression x (nodes.Operation a op b) = refl
 made_expression x (nodes.Conditional a b c) = refl
-made_expression x (nodes.Mapped a m p b) = refl
-made_expression x (nodes.Folded a o b p c) = refl
+made_expression x (nodes.Mapped n) = refl
+made_expression x (nodes.Folded n) = refl
 made_expression x (nodes.Called g s a) = refl
 
 -- What a node needs of an arena.
@@ -174,8 +174,8 @@ needed x (nodes.Pair a b) h = record { parts = omega (arith, h.0, h.1); names = 
 needed x (nodes.Applied o a) h = record { parts = omega (arith, h); names = omega arith; constants = omega arith; patterns = omega arith }
 needed x (nodes.Operation a op b) h = record { parts = omega (arith, h.0, h.1); names = omega arith; constants = omega arith; patterns = omega arith }
 needed x (nodes.Conditional a b c) h = record { parts = omega (arith, h.0, h.1, h.2); names = omega arith; constants = omega arith; patterns = omega arith }
-needed x (nodes.Mapped a m p b) h = record { parts = omega (arith, h.0, h.2); names = omega arith; constants = omega arith; patterns = h.1 }
-needed x (nodes.Folded a o b p c) h = record { parts = omega (arith, h.0, h.1, h.3); names = omega arith; constants = omega arith; patterns = h.2 }
+needed x (nodes.Mapped n) h = record { parts = omega (arith, h.0, h.2); names = omega arith; constants = omega arith; patterns = h.1 }
+needed x (nodes.Folded n) h = record { parts = omega (arith, h.0, h.1, h.3); names = omega arith; constants = omega arith; patterns = h.2 }
 needed x (nodes.Called g s a) h = record { parts = omega (arith, h.1); names = h.0; constants = omega arith; patterns = omega arith }
 
 -- the entries after a call that adds, whatever it answers
@@ -392,8 +392,8 @@ builds x id = subst (λ e. Builds x (entry_of x id).node e) (sym (expression_nod
     of_node (nodes.Applied o a) = builds_applied
     of_node (nodes.Operation a op b) = builds_operation
     of_node (nodes.Conditional a b c) = builds_conditional
-    of_node (nodes.Mapped a m p b) = builds_mapped
-    of_node (nodes.Folded a o b p c) = builds_folded
+    of_node (nodes.Mapped n) = builds_mapped
+    of_node (nodes.Folded n) = builds_folded
     of_node (nodes.Called g s a) = builds_called
 
 -- what a node stands for
@@ -428,8 +428,8 @@ parts_below x id = of_node (entry_at (entries_of x.arena) id.0).node (x.ordered.
     of_node (nodes.Applied o a) h = omega arith
     of_node (nodes.Operation a op b) h = (omega arith, omega arith)
     of_node (nodes.Conditional a b c) h = (omega arith, omega arith, omega arith)
-    of_node (nodes.Mapped a m p b) h = (omega arith, omega arith)
-    of_node (nodes.Folded a o b p c) h = (omega arith, omega arith, omega arith)
+    of_node (nodes.Mapped n) h = (omega arith, omega arith)
+    of_node (nodes.Folded n) h = (omega arith, omega arith, omega arith)
     of_node (nodes.Called g s a) h = omega arith
 
 -- the parts of a node are held
@@ -454,10 +454,10 @@ parts_held x id = of_node (entry_at (entries_of x.arena) id.0).node (x.ordered.i
     of_node (nodes.Operation a op c) b k l q (inr h) = (omega arith, omega arith)
     of_node (nodes.Conditional a c d) b k l q (inl z) = absurd (omega arith)
     of_node (nodes.Conditional a c d) b k l q (inr h) = (omega arith, omega arith, omega arith)
-    of_node (nodes.Mapped a m p c) b k l q (inl z) = absurd (omega arith)
-    of_node (nodes.Mapped a m p c) b k l q (inr h) = (omega arith, q, omega arith)
-    of_node (nodes.Folded a o c p d) b k l q (inl z) = absurd (omega arith)
-    of_node (nodes.Folded a o c p d) b k l q (inr h) = (omega arith, omega arith, q, omega arith)
+    of_node (nodes.Mapped n) b k l q (inl z) = absurd (omega arith)
+    of_node (nodes.Mapped n) b k l q (inr h) = (omega arith, q, omega arith)
+    of_node (nodes.Folded n) b k l q (inl z) = absurd (omega arith)
+    of_node (nodes.Folded n) b k l q (inr h) = (omega arith, omega arith, q, omega arith)
     of_node (nodes.Called g s a) b k l q (inl z) = absurd (omega arith)
     of_node (nodes.Called g s a) b k l q (inr h) = (k, omega arith)
 

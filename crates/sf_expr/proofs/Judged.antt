@@ -63,11 +63,11 @@ local x js more entry = at_node entry.spot entry.node
     at_node s (nodes.Operation i op j) h = ap₂ {C = Judge} (λ (f g : Judge) (R : Names). f R >>= λ t. g R >>= λ u. fitting_at s (binary_kind op t u)) (one i (omega arith)) (one j (omega arith))
     at_node s (nodes.Conditional i j k) h =
         ap₂ {C = Judge} (λ (f : Judge) (g : Judge × Judge) (R : Names). f R >>= λ c. g.0 R >>= λ t. g.1 R >>= λ u. fitting_at s (conditional_kind c t u)) (one i (omega arith)) (ap₂ (λ (f g : Judge). (f, g)) (one j (omega arith)) (one k (omega arith)))
-    at_node s (nodes.Mapped i m p j) h =
-        ap₂ {C = Judge} (λ (f g : Judge) (R : Names). f R >>= λ t. fitting_at s (mapped_argument m t) >>= λ a. (binding_at s (placed_at x p) a R >>= g) >>= λ u. fitting_at s (mapped_kind m t u)) (one i (omega arith)) (one j (omega arith))
-    at_node s (nodes.Folded i o j p k) h =
-        ap₂ {C = Judge} (λ (f : Judge) (g : Judge × Judge) (R : Names). f R >>= λ t. g.0 R >>= λ u. fitting_at s (folded_argument o t u) >>= λ a. (binding_at s (placed_at x p) a R >>= g.1) >>= λ v. fitting_at s (folded_kind o t u v))
-        (one i (omega arith)) (ap₂ (λ (f g : Judge). (f, g)) (one j (omega arith)) (one k (omega arith)))
+    at_node s (nodes.Mapped n) h =
+        ap₂ {C = Judge} (λ (f g : Judge) (R : Names). f R >>= λ t. fitting_at s (mapped_argument n.mapping t) >>= λ a. (binding_at s (placed_at x n.pattern) a R >>= g) >>= λ u. fitting_at s (mapped_kind n.mapping t u)) (one n.part (omega arith)) (one n.body (omega arith))
+    at_node s (nodes.Folded n) h =
+        ap₂ {C = Judge} (λ (f : Judge) (g : Judge × Judge) (R : Names). f R >>= λ t. g.0 R >>= λ u. fitting_at s (folded_argument n.folding t u) >>= λ a. (binding_at s (placed_at x n.pattern) a R >>= g.1) >>= λ v. fitting_at s (folded_kind n.folding t u v))
+        (one n.first (omega arith)) (ap₂ (λ (f g : Judge). (f, g)) (one n.second (omega arith)) (one n.body (omega arith)))
     at_node s (nodes.Called g n i) h = ap {B = Judge} (λ (f : Judge) (R : Names). f R >>= λ t. calling_at n s (types_named (name_at x g) (functions_of R)) t) (one i (omega arith))
 
 -- an expression is judged by its node
@@ -232,8 +232,8 @@ module _ (x : Exprs) (i : ExprId) (R : Names) (part : (j : ExprId) → id_number
   form_found s (nodes.Applied o a) p w = applied_found s o (judged x a R) ∙ ap (applied_type o) (part a p R)
   form_found s (nodes.Operation a op b) p w = operation_found s op (judged x a R) (judged x b R) ∙ ap₂ (operation_type op) (part a p.0 R) (part b p.1 R)
   form_found s (nodes.Conditional a b c) p w = rw (sym (part a p.0 R), sym (part b p.1 R), sym (part c p.2 R)) (conditional_found s (judged x a R) (judged x b R) (judged x c R))
-  form_found s (nodes.Mapped a m q b) p w = rw (sym (part a p.0 R)) (mapped_found s (placed_at x q) R (judged x b) (λ S. expression_type S (expression x b)) (part b p.1) m (judged x a R))
-  form_found s (nodes.Folded a o b q c) p w = rw (sym (part a p.0 R), sym (part b p.1 R)) (folded_found s (placed_at x q) R (judged x c) (λ S. expression_type S (expression x c)) (part c p.2) o (judged x a R) (judged x b R))
+  form_found s (nodes.Mapped n) p w = rw (sym (part n.part p.0 R)) (mapped_found s (placed_at x n.pattern) R (judged x n.body) (λ S. expression_type S (expression x n.body)) (part n.body p.1) n.mapping (judged x n.part R))
+  form_found s (nodes.Folded n) p w = rw (sym (part n.first p.0 R), sym (part n.second p.1 R)) (folded_found s (placed_at x n.pattern) R (judged x n.body) (λ S. expression_type S (expression x n.body)) (part n.body p.2) n.folding (judged x n.first R) (judged x n.second R))
   form_found s (nodes.Called g n a) p w = rw (sym (part a p R)) (call_found s n (types_named (name_at x g) (functions_of R)) (judged x a R))
 
 found_within : (x : Exprs) (fuel : ℕ) (i : ExprId) (R : Names) → id_number i < fuel → accepted (judged x i R) ≡ expression_type R (expression x i)

@@ -8,3 +8,4 @@ pub mod Apart
 pub mod Naming
 pub mod Judged
 pub mod Inferred
+pub mod Numbered

@@ -3,14 +3,13 @@ use Rattle.std.proofs.Common.{◌≡◌, refl}
 use Rattle.sf_expr.specs.declared.exprs.ExprId.{ExprId}
 use Rattle.sf_expr.specs.declared.exprs.NameId.{NameId}
 use Rattle.sf_expr.specs.declared.exprs.ConstantId.{ConstantId}
-use Rattle.sf_expr.specs.declared.exprs.PatternId.{PatternId}
+use Rattle.sf_expr.specs.declared.exprs.Mapped.{Mapped}
+use Rattle.sf_expr.specs.declared.exprs.Folded.{Folded}
 use Rattle.sf_expr.specs.declared.exprs.ExprNode.TheVariants as nodes
 use Rattle.sf_expr.specs.declared.exprs.Exprs.{Exprs}
 use Rattle.sf_refusal.specs.declared.spot.Spot.{Spot}
 use Rattle.sf_operator.specs.declared.operator.Operator.{Operator}
 use Rattle.sf_operator.specs.declared.operator.Unary.{Unary}
-use Rattle.sf_operator.specs.declared.operator.Mapping.{Mapping}
-use Rattle.sf_operator.specs.declared.operator.Folding.{Folding}
 use Rattle.sf_expr.specs.Expressions.{Expression, variable, literal, unit_literal, truth_literal, int_literal, paired, applied, operation, conditional, mapped, folded, called}
 use Rattle.sf_expr.specs.Arena.{expression, name_at, literal_at, placed_at, Builds, builds_unit, builds_truth, builds_constant, builds_int, builds_name, builds_pair, builds_applied, builds_operation, builds_conditional, builds_mapped, builds_folded, builds_called}
 use Rattle.sf_expr.specs.Patterns.{pattern_of}
@@ -42,10 +41,10 @@ is_operation builds_operation = refl
 pub is_conditional : {x : Exprs} {a b c : ExprId} {e : Expression} → Builds x (nodes.Conditional a b c) e → e ≡ conditional (expression x a) (expression x b) (expression x c)
 is_conditional builds_conditional = refl
 
-pub is_mapped : {x : Exprs} {a b : ExprId} {m : Mapping} {p : PatternId} {e : Expression} → Builds x (nodes.Mapped a m p b) e → e ≡ mapped (expression x a) m (pattern_of (placed_at x p)) (expression x b)
+pub is_mapped : {x : Exprs} {n : Mapped} {e : Expression} → Builds x (nodes.Mapped n) e → e ≡ mapped (expression x n.part) n.mapping (pattern_of (placed_at x n.pattern)) (expression x n.body)
 is_mapped builds_mapped = refl
 
-pub is_folded : {x : Exprs} {a b c : ExprId} {o : Folding} {p : PatternId} {e : Expression} → Builds x (nodes.Folded a o b p c) e → e ≡ folded (expression x a) o (expression x b) (pattern_of (placed_at x p)) (expression x c)
+pub is_folded : {x : Exprs} {n : Folded} {e : Expression} → Builds x (nodes.Folded n) e → e ≡ folded (expression x n.first) n.folding (expression x n.second) (pattern_of (placed_at x n.pattern)) (expression x n.body)
 is_folded builds_folded = refl
 
 pub is_called : {x : Exprs} {g : NameId} {s : Spot} {a : ExprId} {e : Expression} → Builds x (nodes.Called g s a) e → e ≡ called (name_at x g) (expression x a)

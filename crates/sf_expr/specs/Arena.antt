@@ -6,13 +6,13 @@ use Rattle.sf_arena.specs.declared.entry.Entry.{Entry}
 use Rattle.sf_arena.specs.Arenas.{entries_of}
 use Rattle.sf_operator.specs.declared.operator.Operator.{Operator}
 use Rattle.sf_operator.specs.declared.operator.Unary.{Unary}
-use Rattle.sf_operator.specs.declared.operator.Mapping.{Mapping}
-use Rattle.sf_operator.specs.declared.operator.Folding.{Folding}
 use Rattle.sf_expr.specs.declared.exprs.ExprId.{ExprId}
 use Rattle.sf_expr.specs.declared.exprs.NameId.{NameId}
 use Rattle.sf_expr.specs.declared.exprs.ConstantId.{ConstantId}
 use Rattle.sf_expr.specs.declared.exprs.PatternId.{PatternId}
 use Rattle.sf_expr.specs.declared.exprs.FunctionId.{FunctionId}
+use Rattle.sf_expr.specs.declared.exprs.Mapped.{Mapped}
+use Rattle.sf_expr.specs.declared.exprs.Folded.{Folded}
 use Rattle.sf_expr.specs.declared.exprs.ExprNode.{ExprNode}
 use Rattle.sf_expr.specs.declared.exprs.ExprNode.TheVariants as nodes
 use Rattle.sf_expr.specs.declared.exprs.Exprs.{Exprs}
@@ -135,8 +135,8 @@ expression_of x (nodes.Pair a b) = paired (expression x a) (expression x b)
 expression_of x (nodes.Applied o a) = applied o (expression x a)
 expression_of x (nodes.Operation a op b) = operation (expression x a) op (expression x b)
 expression_of x (nodes.Conditional a b c) = conditional (expression x a) (expression x b) (expression x c)
-expression_of x (nodes.Mapped a m p b) = mapped (expression x a) m (pattern_of (placed_at x p)) (expression x b)
-expression_of x (nodes.Folded a o b p c) = folded (expression x a) o (expression x b) (pattern_of (placed_at x p)) (expression x c)
+expression_of x (nodes.Mapped n) = mapped (expression x n.part) n.mapping (pattern_of (placed_at x n.pattern)) (expression x n.body)
+expression_of x (nodes.Folded n) = folded (expression x n.first) n.folding (expression x n.second) (pattern_of (placed_at x n.pattern)) (expression x n.body)
 expression_of x (nodes.Called g s a) = called (name_at x g) (expression x a)
 
 -- A node with the ids of its parts stands for an expression with their trees.
@@ -150,8 +150,8 @@ pub data Builds (x : Exprs) : ExprNode → Expression → Type 0 where
   builds_applied : {o : Unary} {a : ExprId} → Builds x (nodes.Applied o a) (applied o (expression x a))
   builds_operation : {op : Operator} {a b : ExprId} → Builds x (nodes.Operation a op b) (operation (expression x a) op (expression x b))
   builds_conditional : {a b c : ExprId} → Builds x (nodes.Conditional a b c) (conditional (expression x a) (expression x b) (expression x c))
-  builds_mapped : {a b : ExprId} {m : Mapping} {p : PatternId} → Builds x (nodes.Mapped a m p b) (mapped (expression x a) m (pattern_of (placed_at x p)) (expression x b))
-  builds_folded : {a b c : ExprId} {o : Folding} {p : PatternId} → Builds x (nodes.Folded a o b p c) (folded (expression x a) o (expression x b) (pattern_of (placed_at x p)) (expression x c))
+  builds_mapped : {n : Mapped} → Builds x (nodes.Mapped n) (mapped (expression x n.part) n.mapping (pattern_of (placed_at x n.pattern)) (expression x n.body))
+  builds_folded : {n : Folded} → Builds x (nodes.Folded n) (folded (expression x n.first) n.folding (expression x n.second) (pattern_of (placed_at x n.pattern)) (expression x n.body))
   builds_called : {g : NameId} {s : Spot} {a : ExprId} → Builds x (nodes.Called g s a) (called (name_at x g) (expression x a))
 
 -- the ids of a node's parts, as numbers, are below a number
@@ -160,8 +160,8 @@ PartsBelow (nodes.Pair a b) n = (id_number a < n) × (id_number b < n)
 PartsBelow (nodes.Applied o a) n = id_number a < n
 PartsBelow (nodes.Operation a op b) n = (id_number a < n) × (id_number b < n)
 PartsBelow (nodes.Conditional a b c) n = (id_number a < n) × (id_number b < n) × (id_number c < n)
-PartsBelow (nodes.Mapped a m p b) n = (id_number a < n) × (id_number b < n)
-PartsBelow (nodes.Folded a o b p c) n = (id_number a < n) × (id_number b < n) × (id_number c < n)
+PartsBelow (nodes.Mapped node) n = (id_number node.part < n) × (id_number node.body < n)
+PartsBelow (nodes.Folded node) n = (id_number node.first < n) × (id_number node.second < n) × (id_number node.body < n)
 PartsBelow (nodes.Called g s a) n = id_number a < n
 PartsBelow k n = Unit {0}
 
@@ -173,8 +173,8 @@ HoldsParts x (nodes.Pair a b) = Holds x a × Holds x b
 HoldsParts x (nodes.Applied o a) = Holds x a
 HoldsParts x (nodes.Operation a op b) = Holds x a × Holds x b
 HoldsParts x (nodes.Conditional a b c) = Holds x a × Holds x b × Holds x c
-HoldsParts x (nodes.Mapped a m p b) = Holds x a × HoldsPattern x p × Holds x b
-HoldsParts x (nodes.Folded a o b p c) = Holds x a × Holds x b × HoldsPattern x p × Holds x c
+HoldsParts x (nodes.Mapped n) = Holds x n.part × HoldsPattern x n.pattern × Holds x n.body
+HoldsParts x (nodes.Folded n) = Holds x n.first × Holds x n.second × HoldsPattern x n.pattern × Holds x n.body
 HoldsParts x (nodes.Called g s a) = HoldsName x g × Holds x a
 HoldsParts x n = Unit {0}
 

@@ -51,8 +51,8 @@ made_over b es (nodes.Pair i j) = paired (among es i.0) (among es j.0)
 made_over b es (nodes.Applied o i) = applied o (among es i.0)
 made_over b es (nodes.Operation i op j) = operation (among es i.0) op (among es j.0)
 made_over b es (nodes.Conditional i j k) = conditional (among es i.0) (among es j.0) (among es k.0)
-made_over b es (nodes.Mapped i m p j) = mapped (among es i.0) m (pattern_of (placed_among b.patterns p.0)) (among es j.0)
-made_over b es (nodes.Folded i o j p k) = folded (among es i.0) o (among es j.0) (pattern_of (placed_among b.patterns p.0)) (among es k.0)
+made_over b es (nodes.Mapped n) = mapped (among es n.part.0) n.mapping (pattern_of (placed_among b.patterns n.pattern.0)) (among es n.body.0)
+made_over b es (nodes.Folded n) = folded (among es n.first.0) n.folding (among es n.second.0) (pattern_of (placed_among b.patterns n.pattern.0)) (among es n.body.0)
 made_over b es (nodes.Called g s i) = called (name_among b.names g.0) (among es i.0)
 
 -- how many expressions have to stand before a node
@@ -66,8 +66,8 @@ needs (nodes.Pair a b) = suc (max a.0 b.0)
 needs (nodes.Applied o a) = suc a.0
 needs (nodes.Operation a op b) = suc (max a.0 b.0)
 needs (nodes.Conditional a b c) = suc (max a.0 (max b.0 c.0))
-needs (nodes.Mapped a m p b) = suc (max a.0 b.0)
-needs (nodes.Folded a o b p c) = suc (max a.0 (max b.0 c.0))
+needs (nodes.Mapped n) = suc (max n.part.0 n.body.0)
+needs (nodes.Folded n) = suc (max n.first.0 (max n.second.0 n.body.0))
 needs (nodes.Called g s a) = suc a.0
 
 -- how many names have to be there for a node
@@ -83,8 +83,8 @@ needs_constants n = 0
 
 -- how many patterns have to be there for a node
 abbrev pub needs_patterns : ExprNode → ℕ
-needs_patterns (nodes.Mapped a m p b) = suc p.0
-needs_patterns (nodes.Folded a o b p c) = suc p.0
+needs_patterns (nodes.Mapped n) = suc n.pattern.0
+needs_patterns (nodes.Folded n) = suc n.pattern.0
 needs_patterns n = 0
 
 -- whether the numbers of a node are within signed 64 bits

@@ -90,17 +90,17 @@ form_judged x part at (nodes.Conditional i j k) R = do
   t ← part j R
   u ← part k R
   fitting_at at (conditional_kind c t u)
-form_judged x part at (nodes.Mapped i m p j) R = do
-  t ← part i R
-  a ← fitting_at at (mapped_argument m t)
-  u ← bound_judged at (placed_at x p) a (part j) R
-  fitting_at at (mapped_kind m t u)
-form_judged x part at (nodes.Folded i o j p k) R = do
-  t ← part i R
-  u ← part j R
-  a ← fitting_at at (folded_argument o t u)
-  v ← bound_judged at (placed_at x p) a (part k) R
-  fitting_at at (folded_kind o t u v)
+form_judged x part at (nodes.Mapped n) R = do
+  t ← part n.part R
+  a ← fitting_at at (mapped_argument n.mapping t)
+  u ← bound_judged at (placed_at x n.pattern) a (part n.body) R
+  fitting_at at (mapped_kind n.mapping t u)
+form_judged x part at (nodes.Folded n) R = do
+  t ← part n.first R
+  u ← part n.second R
+  a ← fitting_at at (folded_argument n.folding t u)
+  v ← bound_judged at (placed_at x n.pattern) a (part n.body) R
+  fitting_at at (folded_kind n.folding t u v)
 form_judged x part at (nodes.Called g s i) R = do
   t ← part i R
   calling_at s at (types_named (name_at x g) (functions_of R)) t

@@ -12,7 +12,9 @@ pub mod Meanings
 pub mod Scopes
 pub mod Entries
 pub mod Arena
+pub mod Numbered
 pub mod Judging
 pub mod Refusals
 pub mod Laws
 pub mod Inference
+pub mod Contexts

@@ -6,11 +6,14 @@ ghost use Rattle.sf_expr.specs.Patterns.{placed_unnamed, pattern_of};
 ghost use Rattle.sf_arena.specs.Arenas.{entries_of};
 ghost use Rattle.sf_expr.specs.Entries.{IsArena, AreFunctions, AreValued, AreShallowPatterns, none_of_unit, has_narrow};
 
+mod numbers;
+
 use crate::constant::Constant;
 use crate::pat::Pat;
 use crate::stored::{
     StoredFunction, StoredName, clone_constants, clone_functions, clone_names, clone_patterns,
 };
+pub use numbers::{NumberedPattern, Numbers};
 use sf_arena::{Arena, ArenaRefusal};
 use sf_operator::{Folding, Mapping, Operator, Unary};
 use sf_refusal::Spot;
@@ -58,12 +61,40 @@ pub enum ExprNode {
     Operation(ExprId, Operator, ExprId),
     /// The second where the first is true, the third where it is false.
     Conditional(ExprId, ExprId, ExprId),
-    /// A form on a value with a function, whose pattern and expression stand last.
-    Mapped(ExprId, Mapping, PatternId, ExprId),
-    /// A form on two values with a function, whose pattern and expression stand last.
-    Folded(ExprId, Folding, ExprId, PatternId, ExprId),
+    /// A form on a value with a function.
+    Mapped(Mapped),
+    /// A form on two values with a function.
+    Folded(Folded),
     /// A call of a stored function by its name, which stands there, on its argument.
     Called(NameId, Spot, ExprId),
+}
+
+/// A form on a value with a function.
+#[derive(Clone, Copy, Debug, PartialEq, Eq)]
+pub struct Mapped {
+    /// The value.
+    pub part: ExprId,
+    /// The form.
+    pub mapping: Mapping,
+    /// The pattern of the function.
+    pub pattern: PatternId,
+    /// The body of the function.
+    pub body: ExprId,
+}
+
+/// A form on two values with a function.
+#[derive(Clone, Copy, Debug, PartialEq, Eq)]
+pub struct Folded {
+    /// The first value.
+    pub first: ExprId,
+    /// The form.
+    pub folding: Folding,
+    /// The second value.
+    pub second: ExprId,
+    /// The pattern of the function.
+    pub pattern: PatternId,
+    /// The body of the function.
+    pub body: ExprId,
 }
 
 /// Expressions, of at most 100,000 nodes, of which at most 64 stand one inside another, with their names,
@@ -204,12 +235,14 @@ impl Exprs {
                 let branches = self.depth(first).max(self.depth(second));
                 1 + self.depth(condition).max(branches)
             }
-            ExprNode::Mapped(part, _, pattern, body) => {
-                1 + self.depth(part).max(self.depth_under(pattern, body))
+            ExprNode::Mapped(node) => {
+                let depth = self.depth_under(node.pattern, node.body);
+                1 + self.depth(node.part).max(depth)
             }
-            ExprNode::Folded(first, _, second, pattern, body) => {
-                let later = self.depth(second).max(self.depth_under(pattern, body));
-                1 + self.depth(first).max(later)
+            ExprNode::Folded(node) => {
+                let depth = self.depth_under(node.pattern, node.body);
+                let later = self.depth(node.second).max(depth);
+                1 + self.depth(node.first).max(later)
             }
         }
     }

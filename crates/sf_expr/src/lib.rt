@@ -12,7 +12,10 @@ mod stored;
 mod typing;
 
 pub use constant::{Constant, ConstantForm};
-pub use exprs::{ConstantId, ExprId, ExprNode, Exprs, FunctionId, NameId, PatternId};
+pub use exprs::{
+    ConstantId, ExprId, ExprNode, Exprs, Folded, FunctionId, Mapped, NameId, NumberedPattern,
+    Numbers, PatternId,
+};
 pub use frame::Frame;
 pub use laws::{found_type, one_refusal, some_type, typed_expression};
 pub use meaning::Meaning;

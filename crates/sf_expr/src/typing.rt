@@ -1,25 +1,25 @@
 //! The types of expressions.
-ghost use Rattle.std.specs.Prelude.{◌++◌, OnOk, Some};
+ghost use Rattle.std.specs.Prelude.{OnOk, Some};
 ghost use Rattle.sf_expr.specs.Typing.{Fits, named_in, with_types, literal_kind};
 ghost use Rattle.sf_expr.specs.Arena.{expression, function_at, spot_at, id_number, PartsBelow};
-ghost use Rattle.sf_expr.specs.declared.exprs.ExprNode.TheVariants.{Conditional, Mapped, Folded};
-ghost use Rattle.sf_expr.specs.Meanings.{names_from};
-ghost use Rattle.sf_expr.specs.Scopes.{names_of, entries_in, entries_around};
+ghost use Rattle.sf_expr.specs.declared.exprs.ExprNode.TheVariants.{Conditional};
+ghost use Rattle.sf_expr.specs.Scopes.{names_of};
+ghost use Rattle.sf_expr.specs.Contexts.{exprs_in, types_around, types_within};
 ghost use Rattle.sf_expr.specs.Judging.{fitting_at, naming_at, calling_at, bound_judged, form_judged, judged, function_judged, GivesFound};
 ghost use Rattle.sf_expr.specs.Refusals.{Types, TypesFunction, Judges, JudgesFunction, AnswersPair};
 ghost use Rattle.sf_func.specs.Registries.{types_named};
 ghost use Rattle.sf_func.specs.Signatures.{signatures_in};
 
 use crate::constant::{Constant, ConstantForm};
-use crate::exprs::{ExprId, ExprNode, Exprs, FunctionId, PatternId};
+use crate::exprs::{ExprId, ExprNode, Exprs, Folded, FunctionId, Mapped};
 use crate::frame::Frame;
 use crate::meaning::Meaning;
 use crate::pat::Pat;
 use crate::scope::TypeScope;
 use sf_func::Signatures;
 use sf_operator::{
-    Folding, Mapping, binary_type, called_type, conditional_type, event_type, folded_argument_type,
-    folded_type, mapped_argument_type, mapped_type, unary_type,
+    binary_type, called_type, conditional_type, event_type, folded_argument_type, folded_type,
+    mapped_argument_type, mapped_type, unary_type,
 };
 use sf_refusal::{Refusal, Rule, Spot};
 use sf_value::Ty;
@@ -74,74 +74,84 @@ fn name_type(alloc: Global, names: &TypeScope, name: &str, at: Spot) -> Result<T
     }
 }
 
+/// What expressions are typed under: the arena that they stand in, the names around them, and the types of stored functions.
+#[derive(Clone, Copy)]
+pub(crate) struct ExprContext<'a, 'n> {
+    alloc: Global,
+    exprs: &'a Exprs,
+    names: &'a TypeScope<'n>,
+    functions: &'a Signatures,
+}
+
 /// The type of an expression, or the first refusal, parts first.
 #[cycle(judge)]
-fn judge(
-    alloc: Global,
-    exprs: &Exprs,
-    id: ExprId,
-    names: &TypeScope,
-    functions: &Signatures,
-) -> Result<Ty, Refusal>
-    ensures { GivesFound result (judged exprs.now id (with_types (signatures_in functions.now) (names_of names.now))) }
+fn judge(context: &ExprContext, id: ExprId) -> Result<Ty, Refusal>
+    ensures { GivesFound result (judged (exprs_in context.now) id (types_around context.now)) }
 {
-    let node = exprs.node(id);
-    judge_form(alloc, exprs, id, node, names, functions)
+    let node = context.exprs.node(id);
+    judge_form(context, id, node)
 }
 
 /// The type of the form at an id, or the first refusal, parts first.
 #[cycle(judge)]
 #[tactic(auto, using(crate::proofs::Judged::stops_then, crate::proofs::Judged::kind_answers, crate::proofs::Judged::pair_answers))]
-fn judge_form(
-    alloc: Global,
-    exprs: &Exprs,
-    id: ExprId,
-    node: ExprNode,
-    names: &TypeScope,
-    functions: &Signatures,
-) -> Result<Ty, Refusal>
+fn judge_form(context: &ExprContext, id: ExprId, node: ExprNode) -> Result<Ty, Refusal>
     requires { PartsBelow node (id_number id) }
-    ensures { GivesFound result (form_judged exprs.now (judged exprs.now) (spot_at exprs.now id) node (with_types (signatures_in functions.now) (names_of names.now))) }
+    ensures { GivesFound result (form_judged (exprs_in context.now) (judged (exprs_in context.now)) (spot_at (exprs_in context.now) id) node (types_around context.now)) }
 {
     match node {
         ExprNode::Unit => Ok(Ty::unit()),
         ExprNode::Truth(_) => Ok(Ty::bool()),
         ExprNode::Int(_) => Ok(Ty::int()),
         ExprNode::Constant(constant) => {
-            constant_type(alloc, exprs.constant_at(constant), exprs.spot(id))
+            constant_type(
+                context.alloc,
+                context.exprs.constant_at(constant),
+                context.exprs.spot(id),
+            )
         }
-        ExprNode::Name(name) => name_type(alloc, names, exprs.name_of(name), exprs.spot(id)),
+        ExprNode::Name(name) => name_type(
+            context.alloc,
+            context.names,
+            context.exprs.name_of(name),
+            context.exprs.spot(id),
+        ),
         ExprNode::Pair(first, second) => {
-            let first = judge(alloc, exprs, first, names, functions)?;
-            let second = judge(alloc, exprs, second, names, functions)?;
-            pair_type(alloc, first, second, exprs.spot(id))
+            let first = judge(context, first)?;
+            let second = judge(context, second)?;
+            pair_type(context.alloc, first, second, context.exprs.spot(id))
         }
         ExprNode::Applied(operator, part) => {
-            let part = judge(alloc, exprs, part, names, functions)?;
-            unary_type(alloc, operator, &part, exprs.spot(id))
+            let part = judge(context, part)?;
+            unary_type(context.alloc, operator, &part, context.exprs.spot(id))
         }
         ExprNode::Operation(left, operator, right) => {
-            let left = judge(alloc, exprs, left, names, functions)?;
-            let right = judge(alloc, exprs, right, names, functions)?;
-            binary_type(alloc, operator, &left, &right, exprs.spot(id))
+            let left = judge(context, left)?;
+            let right = judge(context, right)?;
+            binary_type(
+                context.alloc,
+                operator,
+                &left,
+                &right,
+                context.exprs.spot(id),
+            )
         }
         ExprNode::Conditional(condition, first, second) => {
-            judge_conditional(alloc, exprs, id, condition, first, second, names, functions)
+            judge_conditional(context, id, condition, first, second)
         }
-        ExprNode::Mapped(part, mapping, pattern, body) => {
-            judge_mapped(
-                alloc, exprs, id, part, mapping, pattern, body, names, functions,
-            )
-        }
-        ExprNode::Folded(first, folding, second, pattern, body) => {
-            judge_folded(
-                alloc, exprs, id, first, folding, second, pattern, body, names, functions,
-            )
-        }
+        ExprNode::Mapped(node) => judge_mapped(context, id, node),
+        ExprNode::Folded(node) => judge_folded(context, id, node),
         ExprNode::Called(function, place, part) => {
-            let part = judge(alloc, exprs, part, names, functions)?;
-            let name = exprs.name_of(function);
-            call_type(alloc, functions, name, &part, place, exprs.spot(id))
+            let part = judge(context, part)?;
+            let name = context.exprs.name_of(function);
+            call_type(
+                context.alloc,
+                context.functions,
+                name,
+                &part,
+                place,
+                context.exprs.spot(id),
+            )
         }
     }
 }
@@ -150,109 +160,87 @@ fn judge_form(
 #[cycle(judge)]
 #[tactic(auto, using(crate::proofs::Judged::stops_then, crate::proofs::Judged::kind_answers))]
 fn judge_conditional(
-    alloc: Global,
-    exprs: &Exprs,
+    context: &ExprContext,
     id: ExprId,
     condition: ExprId,
     first: ExprId,
     second: ExprId,
-    names: &TypeScope,
-    functions: &Signatures,
 ) -> Result<Ty, Refusal>
     requires { PartsBelow (Conditional condition first second) (id_number id) }
-    ensures { GivesFound result (form_judged exprs.now (judged exprs.now) (spot_at exprs.now id) (Conditional condition first second) (with_types (signatures_in functions.now) (names_of names.now))) }
+    ensures { GivesFound result (form_judged (exprs_in context.now) (judged (exprs_in context.now)) (spot_at (exprs_in context.now) id) (Conditional condition first second) (types_around context.now)) }
 {
-    let condition = judge(alloc, exprs, condition, names, functions)?;
-    let first = judge(alloc, exprs, first, names, functions)?;
-    let second = judge(alloc, exprs, second, names, functions)?;
-    conditional_type(alloc, &condition, &first, &second, exprs.spot(id))
+    let condition = judge(context, condition)?;
+    let first = judge(context, first)?;
+    let second = judge(context, second)?;
+    conditional_type(
+        context.alloc,
+        &condition,
+        &first,
+        &second,
+        context.exprs.spot(id),
+    )
 }
 
-/// The type of the mapping at an id, with these parts, or why it has none.
+/// The type of the mapping at an id, or why it has none.
 #[cycle(judge)]
 #[tactic(auto, using(crate::proofs::Judged::stops_then, crate::proofs::Judged::kind_answers))]
-fn judge_mapped(
-    alloc: Global,
-    exprs: &Exprs,
-    id: ExprId,
-    part: ExprId,
-    mapping: Mapping,
-    pattern: PatternId,
-    body: ExprId,
-    names: &TypeScope,
-    functions: &Signatures,
-) -> Result<Ty, Refusal>
-    requires { PartsBelow (Mapped part mapping pattern body) (id_number id) }
-    ensures { GivesFound result (form_judged exprs.now (judged exprs.now) (spot_at exprs.now id) (Mapped part mapping pattern body) (with_types (signatures_in functions.now) (names_of names.now))) }
+fn judge_mapped(context: &ExprContext, id: ExprId, node: Mapped) -> Result<Ty, Refusal>
+    requires { PartsBelow (ExprNode.Mapped node) (id_number id) }
+    ensures { GivesFound result (form_judged (exprs_in context.now) (judged (exprs_in context.now)) (spot_at (exprs_in context.now) id) (ExprNode.Mapped node) (types_around context.now)) }
 {
-    let part = judge(alloc, exprs, part, names, functions)?;
-    let at = exprs.spot(id);
-    let argument = mapped_argument_type(alloc, mapping, &part, at)?;
-    let pattern = exprs.placed(pattern);
-    let made = judge_part(alloc, exprs, pattern, body, &argument, names, functions, at)?;
-    mapped_type(alloc, mapping, &part, &made, at)
+    let part = judge(context, node.part)?;
+    let at = context.exprs.spot(id);
+    let argument = mapped_argument_type(context.alloc, node.mapping, &part, at)?;
+    let pattern = context.exprs.placed(node.pattern);
+    let made = judge_part(context, pattern, node.body, &argument, at)?;
+    mapped_type(context.alloc, node.mapping, &part, &made, at)
 }
 
-/// The type of the fold at an id, with these parts, or why it has none.
+/// The type of the fold at an id, or why it has none.
 #[cycle(judge)]
 #[tactic(auto, using(crate::proofs::Judged::stops_then, crate::proofs::Judged::kind_answers))]
-fn judge_folded(
-    alloc: Global,
-    exprs: &Exprs,
-    id: ExprId,
-    first: ExprId,
-    folding: Folding,
-    second: ExprId,
-    pattern: PatternId,
-    body: ExprId,
-    names: &TypeScope,
-    functions: &Signatures,
-) -> Result<Ty, Refusal>
-    requires { PartsBelow (Folded first folding second pattern body) (id_number id) }
-    ensures { GivesFound result (form_judged exprs.now (judged exprs.now) (spot_at exprs.now id) (Folded first folding second pattern body) (with_types (signatures_in functions.now) (names_of names.now))) }
+fn judge_folded(context: &ExprContext, id: ExprId, node: Folded) -> Result<Ty, Refusal>
+    requires { PartsBelow (ExprNode.Folded node) (id_number id) }
+    ensures { GivesFound result (form_judged (exprs_in context.now) (judged (exprs_in context.now)) (spot_at (exprs_in context.now) id) (ExprNode.Folded node) (types_around context.now)) }
 {
-    let first = judge(alloc, exprs, first, names, functions)?;
-    let second = judge(alloc, exprs, second, names, functions)?;
-    let at = exprs.spot(id);
-    let argument = folded_argument_type(alloc, folding, &first, &second, at)?;
-    let pattern = exprs.placed(pattern);
-    let made = judge_part(alloc, exprs, pattern, body, &argument, names, functions, at)?;
-    folded_type(alloc, folding, &first, &second, &made, at)
+    let first = judge(context, node.first)?;
+    let second = judge(context, node.second)?;
+    let at = context.exprs.spot(id);
+    let argument = folded_argument_type(context.alloc, node.folding, &first, &second, at)?;
+    let pattern = context.exprs.placed(node.pattern);
+    let made = judge_part(context, pattern, node.body, &argument, at)?;
+    folded_type(context.alloc, node.folding, &first, &second, &made, at)
 }
 
 /// The type of an expression where a pattern before it binds names for the parts of a type, or the first refusal.
 #[cycle(judge)]
 fn judge_part(
-    alloc: Global,
-    exprs: &Exprs,
+    context: &ExprContext,
     pattern: &Pat,
     body: ExprId,
     from: &Ty,
-    around: &TypeScope,
-    functions: &Signatures,
     at: Spot,
 ) -> Result<Ty, Refusal>
-    ensures judged { GivesFound result (bound_judged at pattern.now from.now (judged exprs.now body) (with_types (signatures_in functions.now) (names_of around.now))) }
+    ensures judged { GivesFound result (bound_judged at pattern.now from.now (judged (exprs_in context.now) body) (types_around context.now)) }
     ensures fits { OnOk result (Fits from.now) }
 {
-    let frame = Frame::of_pattern(alloc, pattern, from, at)?;
-    judge_within(alloc, exprs, body, &frame, around, functions)
+    let frame = Frame::of_pattern(context.alloc, pattern, from, at)?;
+    judge_within(context, body, &frame)
 }
 
 /// The type of an expression where a frame puts names behind those around it, or the first refusal.
 #[cycle(judge)]
-fn judge_within(
-    alloc: Global,
-    exprs: &Exprs,
-    body: ExprId,
-    frame: &Frame,
-    around: &TypeScope,
-    functions: &Signatures,
-) -> Result<Ty, Refusal>
-    ensures { GivesFound result (judged exprs.now body (with_types (signatures_in functions.now) (names_from (entries_in frame.now ++ entries_around around.now)))) }
+fn judge_within(context: &ExprContext, body: ExprId, frame: &Frame) -> Result<Ty, Refusal>
+    ensures { GivesFound result (judged (exprs_in context.now) body (types_within frame.now context.now)) }
 {
-    let names = (&*around).within(alloc, &*frame)?;
-    judge(alloc, exprs, body, &names, functions)
+    let names = (&*context.names).within(context.alloc, &*frame)?;
+    let inner = ExprContext {
+        alloc: context.alloc,
+        exprs: context.exprs,
+        names: &names,
+        functions: context.functions,
+    };
+    judge(&inner, body)
 }
 
 /// The type of an expression, where names and functions have these types, or why it has none.
@@ -272,7 +260,13 @@ pub fn type_of(
     ensures first { Judges exprs.now (with_types (signatures_in functions.now) (names_of names.now)) id result }
     ensures judged { GivesFound result (judged exprs.now id (with_types (signatures_in functions.now) (names_of names.now))) }
 {
-    judge(alloc, exprs, id, names, functions)
+    let context = ExprContext {
+        alloc,
+        exprs,
+        names,
+        functions,
+    };
+    judge(&context, id)
 }
 
 /// The type that a function takes values of a type to, where the names around it and stored functions have these types, or
@@ -293,14 +287,17 @@ pub fn function_type<'a>(
     ensures first { JudgesFunction exprs.now (with_types (signatures_in functions.now) (names_of names.now)) function from.now at result }
     ensures judged { GivesFound result (function_judged exprs.now function at from.now (with_types (signatures_in functions.now) (names_of names.now))) }
 {
-    judge_part(
+    let context = ExprContext {
         alloc,
         exprs,
+        names,
+        functions,
+    };
+    judge_part(
+        &context,
         exprs.pattern(function),
         exprs.body(function),
         from,
-        names,
-        functions,
         at,
     )
 }

@@ -3,13 +3,11 @@ use Rattle.std.proofs.Common.{◌≡◌, suc, ◌+◌, true, false, List, [], �
 use Rattle.std.proofs.lemmas.List.{length-append}
 use Rattle.sf_operator.specs.declared.operator.Unary.{Unary}
 use Rattle.sf_operator.specs.declared.operator.Operator.{Operator}
-use Rattle.sf_operator.specs.declared.operator.Mapping.{Mapping}
-use Rattle.sf_operator.specs.declared.operator.Mapping.TheVariants as mappings
-use Rattle.sf_operator.specs.declared.operator.Folding.{Folding}
 use Rattle.sf_expr.specs.declared.exprs.ExprId.{ExprId}
 use Rattle.sf_expr.specs.declared.exprs.NameId.{NameId}
 use Rattle.sf_expr.specs.declared.exprs.FunctionId.{FunctionId}
-use Rattle.sf_expr.specs.declared.exprs.PatternId.{PatternId}
+use Rattle.sf_expr.specs.declared.exprs.Mapped.{Mapped}
+use Rattle.sf_expr.specs.declared.exprs.Folded.{Folded}
 use Rattle.sf_expr.specs.declared.exprs.ExprNode.TheVariants as expressions
 use Rattle.sf_expr.specs.Patterns.{PlacedPattern, pattern_of}
 use Rattle.sf_expr.specs.Expressions.{variable, literal, unit_literal, truth_literal, int_literal, paired, applied, operation, conditional, mapped, folded, called}
@@ -76,15 +74,14 @@ conditional_is : (p : Program) (e a b c : ExprId) → expression_node_at p e ≡
 unfolding expressions_of expression_under expression_node_at
 conditional_is p e a b c is = is_conditional (expression_builds (expressions_of p) e _ is)
 
-mapped_is : (p : Program) (e a b : ExprId) (m : Mapping) (q : PatternId) → expression_node_at p e ≡ expressions.Mapped a m q b
-    → expression_under p e ≡ mapped (expression_under p a) m (pattern_of (pattern_under p q)) (expression_under p b)
+mapped_is : (p : Program) (e : ExprId) (n : Mapped) → expression_node_at p e ≡ expressions.Mapped n → expression_under p e ≡ mapped (expression_under p n.part) n.mapping (pattern_of (pattern_under p n.pattern)) (expression_under p n.body)
 unfolding expressions_of expression_under expression_node_at pattern_under
-mapped_is p e a b m q is = is_mapped (expression_builds (expressions_of p) e _ is)
+mapped_is p e n is = is_mapped (expression_builds (expressions_of p) e _ is)
 
-folded_is : (p : Program) (e a b c : ExprId) (o : Folding) (q : PatternId) → expression_node_at p e ≡ expressions.Folded a o b q c
-    → expression_under p e ≡ folded (expression_under p a) o (expression_under p b) (pattern_of (pattern_under p q)) (expression_under p c)
+folded_is : (p : Program) (e : ExprId) (n : Folded) → expression_node_at p e ≡ expressions.Folded n
+    → expression_under p e ≡ folded (expression_under p n.first) n.folding (expression_under p n.second) (pattern_of (pattern_under p n.pattern)) (expression_under p n.body)
 unfolding expressions_of expression_under expression_node_at pattern_under
-folded_is p e a b c o q is = is_folded (expression_builds (expressions_of p) e _ is)
+folded_is p e n is = is_folded (expression_builds (expressions_of p) e _ is)
 
 called_is : (p : Program) (e a : ExprId) (g : NameId) (s : Spot) → expression_node_at p e ≡ expressions.Called g s a → expression_under p e ≡ called (name_at (expressions_of p) g) (expression_under p a)
 unfolding expressions_of expression_under expression_node_at
@@ -120,23 +117,23 @@ expression_counted v p e xs (conditional_placed {a = a} {b = b} {c = c} {xs = us
 expression_counted v p e xs (let_placed {a = a} {b = b} {q = q} {ps = ps} {xs = us} {ys = vs} equals in_at s pattern one two) =
     let value : List Tok = spell_expression v (expression_under p a) in
     let body : List Tok = spell_expression v (expression_under p b) in
-    rw (mapped_is p e a b mappings.Let q s.node)
+    rw (mapped_is p e _ s.node)
     (ap suc (between_counted ps (us ++ (in_at ∷ vs)) (spell_pattern (pattern_of (pattern_under p q))) (value ++ (keyword words.In ∷ body)) equals (symbol symbols.Equals) (pattern_counted (pattern_under p q) ps pattern.placed)
     (between_counted us vs value body in_at (keyword words.In) (expression_counted v p a us one) (expression_counted v p b vs two))))
-expression_counted v p e xs (one_and_function_placed {a = a} {b = b} {m = m} {q = q} {xs = us} {ps = ps} {ys = vs} opening comma leads closing brackets s one pattern two) =
-    let names : List Tok = spell_pattern (pattern_of (pattern_under p q)) in
-    let body : List Tok = spell_expression v (expression_under p b) in
-    rw (mapped_is p e a b m q s.node, brackets)
-    (ap suc (around_counted us (ps ++ (leads ∷ vs)) (spell_expression v (expression_under p a)) (spell_mapping names body) opening comma closing (symbol symbols.Comma) (expression_counted v p a us one)
-    (between_counted ps vs names body leads (symbol symbols.MapsTo) (pattern_counted (pattern_under p q) ps pattern.placed) (expression_counted v p b vs two))))
-expression_counted v p e xs (two_and_function_placed {a = a} {b = b} {c = c} {o = o} {q = q} {xs = us} {ys = vs} {ps = ps} {zs = ws} opening comma second leads closing s one two pattern three) =
-    let names : List Tok = spell_pattern (pattern_of (pattern_under p q)) in
-    let value : List Tok = spell_expression v (expression_under p b) in
-    let body : List Tok = spell_expression v (expression_under p c) in
-    rw (folded_is p e a b c o q s.node)
-    (ap suc (around_counted us (vs ++ (second ∷ (ps ++ (leads ∷ ws)))) (spell_expression v (expression_under p a)) (value ++ (symbol symbols.Comma ∷ spell_mapping names body)) opening comma closing (symbol symbols.Comma)
-    (expression_counted v p a us one) (between_counted vs (ps ++ (leads ∷ ws)) value (spell_mapping names body) second (symbol symbols.Comma) (expression_counted v p b vs two)
-    (between_counted ps ws names body leads (symbol symbols.MapsTo) (pattern_counted (pattern_under p q) ps pattern.placed) (expression_counted v p c ws three)))))
+expression_counted v p e xs (one_and_function_placed {n = n} {xs = us} {ps = ps} {ys = vs} opening comma leads closing brackets s one pattern two) =
+    let names : List Tok = spell_pattern (pattern_of (pattern_under p n.pattern)) in
+    let body : List Tok = spell_expression v (expression_under p n.body) in
+    rw (mapped_is p e n s.node, brackets)
+    (ap suc (around_counted us (ps ++ (leads ∷ vs)) (spell_expression v (expression_under p n.part)) (spell_mapping names body) opening comma closing (symbol symbols.Comma) (expression_counted v p n.part us one)
+    (between_counted ps vs names body leads (symbol symbols.MapsTo) (pattern_counted (pattern_under p n.pattern) ps pattern.placed) (expression_counted v p n.body vs two))))
+expression_counted v p e xs (two_and_function_placed {n = n} {xs = us} {ys = vs} {ps = ps} {zs = ws} opening comma second leads closing s one two pattern three) =
+    let names : List Tok = spell_pattern (pattern_of (pattern_under p n.pattern)) in
+    let value : List Tok = spell_expression v (expression_under p n.second) in
+    let body : List Tok = spell_expression v (expression_under p n.body) in
+    rw (folded_is p e n s.node)
+    (ap suc (around_counted us (vs ++ (second ∷ (ps ++ (leads ∷ ws)))) (spell_expression v (expression_under p n.first)) (value ++ (symbol symbols.Comma ∷ spell_mapping names body)) opening comma closing (symbol symbols.Comma)
+    (expression_counted v p n.first us one) (between_counted vs (ps ++ (leads ∷ ws)) value (spell_mapping names body) second (symbol symbols.Comma) (expression_counted v p n.second vs two)
+    (between_counted ps ws names body leads (symbol symbols.MapsTo) (pattern_counted (pattern_under p n.pattern) ps pattern.placed) (expression_counted v p n.body ws three)))))
 expression_counted v p e xs (called_placed {a = a} {g = g} {xs = us} {place = place} opening closing s part) =
     rw (called_is p e a g place s.node)
     (ap (λ n. suc (suc (suc n))) (between_counted us [] (spell_expression v (expression_under p a)) [] closing (symbol symbols.Close) (expression_counted v p a us part) refl))
@@ -190,22 +187,23 @@ mutual
   term_counted v p t xs (transformed_placed {a = a} {f = f} {xs = us} {ys = vs} opening comma closing s function part) =
       rw (node_builds p t _ s.node)
       (ap suc (around_counted us vs (spell_function v (function_in p f)) (spell_term v (tree p a)) opening comma closing (symbol symbols.Comma) (function_counted v p f us function) (term_counted v p a vs part)))
-  term_counted v p t xs (switching_placed {a = a} {b = b} {q = q} {xs = us} {ps = ps} {ys = vs} opening comma leads closing s one pattern two) =
-      let names : List Tok = spell_pattern (pattern_of (pattern_under p q)) in
-      let body : List Tok = spell_term v (tree p b) in
+  term_counted v p t xs (switching_placed {n = n} {xs = us} {ps = ps} {ys = vs} opening comma leads closing s one pattern two) =
+      let names : List Tok = spell_pattern (pattern_of (pattern_under p n.pattern)) in
+      let body : List Tok = spell_term v (tree p n.body) in
       rw (node_builds p t _ s.node)
-      (ap suc (around_counted us (ps ++ (leads ∷ vs)) (spell_term v (tree p a)) (spell_mapping names body) opening comma closing (symbol symbols.Comma) (term_counted v p a us one)
-      (between_counted ps vs names body leads (symbol symbols.MapsTo) (pattern_counted (pattern_under p q) ps pattern.placed) (term_counted v p b vs two))))
+      (ap suc (around_counted us (ps ++ (leads ∷ vs)) (spell_term v (tree p n.source)) (spell_mapping names body) opening comma closing (symbol symbols.Comma) (term_counted v p n.source us one)
+      (between_counted ps vs names body leads (symbol symbols.MapsTo) (pattern_counted (pattern_under p n.pattern) ps pattern.placed) (term_counted v p n.body vs two))))
   term_counted v p t xs (named_placed {w = w} {k = k} s) = rw (node_builds p t _ s.node, (named_alone v w (name_at (expressions_of p) k)).spelled) refl
   term_counted v p t xs (call_placed {a = a} {xs = us} opening s arguments) =
       rw (node_builds p t _ s.node) (ap (λ n. suc (suc n)) (arguments_counted v p (arguments_under p a) us arguments))
-  term_counted v p t xs (keeping_placed {a = a} {b = b} {c = c} {k = k} {q = q} {xs = us} {ys = vs} {ps = ps} {zs = zs} {place = place} opening comma second third leads closing s one two pattern three) =
-      let names : List Tok = spell_pattern (pattern_of (pattern_under p q)) in
-      let body : List Tok = spell_term v (tree p c) in
-      let mapping = between_counted ps zs names body leads (symbol symbols.MapsTo) (pattern_counted (pattern_under p q) ps pattern.placed) (term_counted v p c zs three) in
+  term_counted v p t xs (keeping_placed {n = n} {xs = us} {ys = vs} {ps = ps} {zs = zs} opening comma second third leads closing s one two pattern three) =
+      let names : List Tok = spell_pattern (pattern_of (pattern_under p n.pattern)) in
+      let body : List Tok = spell_term v (tree p n.body) in
+      let known : List Tok = name (name_at (expressions_of p) n.name) ∷ symbol symbols.Comma ∷ spell_mapping names body in
+      let mapping = between_counted ps zs names body leads (symbol symbols.MapsTo) (pattern_counted (pattern_under p n.pattern) ps pattern.placed) (term_counted v p n.body zs three) in
       rw (node_builds p t _ s.node)
-      (ap suc (around_counted us (vs ++ (second ∷ place ∷ third ∷ (ps ++ (leads ∷ zs)))) (spell_term v (tree p a)) (spell_term v (tree p b) ++ (symbol symbols.Comma ∷ name (name_at (expressions_of p) k) ∷ symbol symbols.Comma ∷ spell_mapping names body)) opening comma closing (symbol symbols.Comma) (term_counted v p a us one)
-      (between_counted vs (place ∷ third ∷ (ps ++ (leads ∷ zs))) (spell_term v (tree p b)) (name (name_at (expressions_of p) k) ∷ symbol symbols.Comma ∷ spell_mapping names body) second (symbol symbols.Comma) (term_counted v p b vs two) (ap suc (ap suc mapping)))))
+      (ap suc (around_counted us (vs ++ (second ∷ n.place ∷ third ∷ (ps ++ (leads ∷ zs)))) (spell_term v (tree p n.source)) (spell_term v (tree p n.observer) ++ (symbol symbols.Comma ∷ known)) opening comma closing (symbol symbols.Comma) (term_counted v p n.source us one)
+      (between_counted vs (n.place ∷ third ∷ (ps ++ (leads ∷ zs))) (spell_term v (tree p n.observer)) known second (symbol symbols.Comma) (term_counted v p n.observer vs two) (ap suc (ap suc mapping)))))
   term_counted v p t xs (gathered_placed {i = i} {xs = us} s held members) = rw (node_builds p t _ s.node) (ap suc (members_counted v p (collection_under p i) us members))
   term_counted v p t xs (releasing_placed {n = n} {xs = us} {ys = vs} {ps = ps} {zs = zs} opening comma second third leads closing s held members observer pattern three) =
       let names : List Tok = spell_pattern (pattern_of (pattern_under p n.pattern)) in

@@ -4,14 +4,14 @@ use Rattle.sf_value.specs.Values.{Name}
 use Rattle.sf_refusal.specs.declared.spot.Spot.{Spot}
 use Rattle.sf_operator.specs.declared.operator.Unary.{Unary}
 use Rattle.sf_operator.specs.declared.operator.Operator.{Operator}
-use Rattle.sf_operator.specs.declared.operator.Mapping.{Mapping}
 use Rattle.sf_operator.specs.declared.operator.Mapping.TheVariants as mappings
-use Rattle.sf_operator.specs.declared.operator.Folding.{Folding}
 use Rattle.sf_expr.specs.declared.exprs.ExprId.{ExprId}
 use Rattle.sf_expr.specs.declared.exprs.NameId.{NameId}
 use Rattle.sf_expr.specs.declared.exprs.ConstantId.{ConstantId}
 use Rattle.sf_expr.specs.declared.exprs.FunctionId.{FunctionId}
 use Rattle.sf_expr.specs.declared.exprs.PatternId.{PatternId}
+use Rattle.sf_expr.specs.declared.exprs.Mapped.{Mapped}
+use Rattle.sf_expr.specs.declared.exprs.Folded.{Folded}
 use Rattle.sf_expr.specs.declared.exprs.ExprNode.{ExprNode}
 use Rattle.sf_expr.specs.declared.exprs.ExprNode.TheVariants as expressions
 use Rattle.sf_expr.specs.Patterns.{PlacedPattern, placed_unnamed, placed_name, placed_both}
@@ -23,8 +23,6 @@ use Rattle.sf_term.specs.declared.form.Accumulation.{Accumulation}
 use Rattle.sf_term.specs.declared.form.Join.{Join}
 use Rattle.sf_term.specs.declared.form.Side.{Side}
 use Rattle.sf_term.specs.declared.form.Heading.{Heading}
-use Rattle.sf_term.specs.declared.form.Observation.{Observation}
-use Rattle.sf_term.specs.declared.form.Switching.{Switching}
 use Rattle.sf_term.specs.declared.form.Naming.{Naming}
 use Rattle.sf_term.specs.declared.node.TermId.{TermId}
 use Rattle.sf_term.specs.declared.node.ArgumentsId.{ArgumentsId}
@@ -38,6 +36,8 @@ use Rattle.sf_term.specs.Trees.{without_members}
 use Rattle.sf_term.specs.declared.collection.CollectionId.{CollectionId}
 use Rattle.sf_term.specs.declared.collection.CollExpr.{CollExpr}
 use Rattle.sf_term.specs.declared.collection.CollExpr.TheVariants as collections
+use Rattle.sf_term.specs.declared.node.Switch.{Switch}
+use Rattle.sf_term.specs.declared.node.Keeping.{Keeping}
 use Rattle.sf_term.specs.declared.node.Releasing.{Releasing}
 use Rattle.sf_term.specs.declared.node.Editing.{Editing}
 use Rattle.sf_term.specs.declared.node.Node.{Node}
@@ -91,12 +91,12 @@ pub data ExpressionPlaced (v : Version) (p : Program) : ExprId → List Spot →
       → ExpressionPlaced v p a xs → ExpressionPlaced v p b ys → ExpressionPlaced v p id (at ∷ around opening xs comma ys closing)
   conditional_placed : {id a b c : ExprId} {xs ys zs : List Spot} {at : Spot} (then_at else_at : Spot) → ExpressionStands p id (expressions.Conditional a b c) at
       → ExpressionPlaced v p a xs → ExpressionPlaced v p b ys → ExpressionPlaced v p c zs → ExpressionPlaced v p id (at ∷ (xs ++ (then_at ∷ (ys ++ (else_at ∷ zs)))))
-  let_placed : {id a b : ExprId} {q : PatternId} {ps xs ys : List Spot} {at : Spot} (equals in_at : Spot) → ExpressionStands p id (expressions.Mapped a mappings.Let q b) at
+  let_placed : {id a b : ExprId} {q : PatternId} {ps xs ys : List Spot} {at : Spot} (equals in_at : Spot) → ExpressionStands p id (expressions.Mapped (record { part = a; mapping = mappings.Let; pattern = q; body = b })) at
       → PatternStands p q ps → ExpressionPlaced v p a xs → ExpressionPlaced v p b ys → ExpressionPlaced v p id (at ∷ (ps ++ (equals ∷ (xs ++ (in_at ∷ ys)))))
-  one_and_function_placed : {id a b : ExprId} {m : Mapping} {q : PatternId} {xs ps ys : List Spot} {at : Spot} (opening comma leads closing : Spot) → maps_in_brackets m ≡ true → ExpressionStands p id (expressions.Mapped a m q b) at
-      → ExpressionPlaced v p a xs → PatternStands p q ps → ExpressionPlaced v p b ys → ExpressionPlaced v p id (at ∷ around opening xs comma (ps ++ (leads ∷ ys)) closing)
-  two_and_function_placed : {id a b c : ExprId} {o : Folding} {q : PatternId} {xs ys ps zs : List Spot} {at : Spot} (opening comma second leads closing : Spot) → ExpressionStands p id (expressions.Folded a o b q c) at
-      → ExpressionPlaced v p a xs → ExpressionPlaced v p b ys → PatternStands p q ps → ExpressionPlaced v p c zs → ExpressionPlaced v p id (at ∷ around opening xs comma (ys ++ (second ∷ (ps ++ (leads ∷ zs)))) closing)
+  one_and_function_placed : {id : ExprId} {n : Mapped} {xs ps ys : List Spot} {at : Spot} (opening comma leads closing : Spot) → maps_in_brackets n.mapping ≡ true → ExpressionStands p id (expressions.Mapped n) at
+      → ExpressionPlaced v p n.part xs → PatternStands p n.pattern ps → ExpressionPlaced v p n.body ys → ExpressionPlaced v p id (at ∷ around opening xs comma (ps ++ (leads ∷ ys)) closing)
+  two_and_function_placed : {id : ExprId} {n : Folded} {xs ys ps zs : List Spot} {at : Spot} (opening comma second leads closing : Spot) → ExpressionStands p id (expressions.Folded n) at
+      → ExpressionPlaced v p n.first xs → ExpressionPlaced v p n.second ys → PatternStands p n.pattern ps → ExpressionPlaced v p n.body zs → ExpressionPlaced v p id (at ∷ around opening xs comma (ys ++ (second ∷ (ps ++ (leads ∷ zs)))) closing)
   called_placed : {id a : ExprId} {g : NameId} {xs : List Spot} {at place : Spot} (opening closing : Spot) → ExpressionStands p id (expressions.Called g place a) at
       → ExpressionPlaced v p a xs → ExpressionPlaced v p id (at ∷ place ∷ opening ∷ (xs ++ (closing ∷ [])))
 
@@ -136,11 +136,11 @@ mutual
         → ExpressionPlaced v p e xs → TermPlaced v p a ys → TermPlaced v p id (at ∷ around opening xs comma ys closing)
     transformed_placed : {id a : TermId} {f : FunctionId} {xs ys : List Spot} {at : Spot} (opening comma closing : Spot) → TermStands p id (nodes.Transformed f a) at
         → FunctionPlaced v p f xs → TermPlaced v p a ys → TermPlaced v p id (at ∷ around opening xs comma ys closing)
-    switching_placed : {id a b : TermId} {w : Switching} {q : PatternId} {xs ps ys : List Spot} {at : Spot} (opening comma leads closing : Spot) → TermStands p id (nodes.Switching w a q b) at
-        → TermPlaced v p a xs → PatternStands p q ps → TermPlaced v p b ys → TermPlaced v p id (at ∷ around opening xs comma (ps ++ (leads ∷ ys)) closing)
+    switching_placed : {id : TermId} {n : Switch} {xs ps ys : List Spot} {at : Spot} (opening comma leads closing : Spot) → TermStands p id (nodes.Switching n) at
+        → TermPlaced v p n.source xs → PatternStands p n.pattern ps → TermPlaced v p n.body ys → TermPlaced v p id (at ∷ around opening xs comma (ps ++ (leads ∷ ys)) closing)
     named_placed : {id : TermId} {w : Naming} {k : NameId} {at place : Spot} → TermStands p id (nodes.Named w k place) at → TermPlaced v p id (at ∷ place ∷ [])
-    keeping_placed : {id a b c : TermId} {w : Observation} {k : NameId} {q : PatternId} {xs ys ps zs : List Spot} {at place : Spot} (opening comma second third leads closing : Spot) → TermStands p id (nodes.Keeping w a b k place q c) at
-        → TermPlaced v p a xs → TermPlaced v p b ys → PatternStands p q ps → TermPlaced v p c zs → TermPlaced v p id (at ∷ around opening xs comma (ys ++ (second ∷ place ∷ third ∷ (ps ++ (leads ∷ zs)))) closing)
+    keeping_placed : {id : TermId} {n : Keeping} {xs ys ps zs : List Spot} {at : Spot} (opening comma second third leads closing : Spot) → TermStands p id (nodes.Keeping n) at
+        → TermPlaced v p n.source xs → TermPlaced v p n.observer ys → PatternStands p n.pattern ps → TermPlaced v p n.body zs → TermPlaced v p id (at ∷ around opening xs comma (ys ++ (second ∷ n.place ∷ third ∷ (ps ++ (leads ∷ zs)))) closing)
     gathered_placed : {id : TermId} {i : CollectionId} {xs : List Spot} {at : Spot} → TermStands p id (nodes.Gathered i) at
         → HoldsCollection p i → CollectionPlaced v p (collection_under p i) xs → TermPlaced v p id (at ∷ xs)
     releasing_placed : {id : TermId} {n : Releasing} {xs ys ps zs : List Spot} {at : Spot} (opening comma second third leads closing : Spot) → TermStands p id (nodes.Releasing n) at

@@ -111,8 +111,8 @@ module _ (m : TermId → PlanId) (n i : ℕ) (below : StandBelow m n i) where
     parts_fit _ _ (copies_sided {a}) h = omega (arith, below a h)
     parts_fit _ _ (copies_headed {a}) h = omega (arith, below a h)
     parts_fit _ _ (copies_transformed {a}) h = omega (arith, below a h)
-    parts_fit _ _ (copies_switching {a} {b}) h = omega (arith, below a h.0, below b h.1)
-    parts_fit _ _ (copies_keeping {a} {o} {b}) h = omega (arith, below a h.0, below o h.1, below b h.2)
+    parts_fit _ _ (copies_switching {n = s}) h = omega (arith, below s.source h.0, below s.body h.1)
+    parts_fit _ _ (copies_keeping {n = s}) h = omega (arith, below s.source h.0, below s.observer h.1, below s.body h.2)
     parts_fit _ _ (copies_gathered {c} {r} z) h = collection_fits (collection_under p c) r.value z h
     parts_fit _ _ (copies_releasing {s} {r} z) h =
         omega (arith, collection_fits (collection_under p s.members) r.members.value z.members h.0, below s.observer h.1, below s.body h.2, ap plan_number z.observer, ap plan_number z.body)
@@ -151,8 +151,8 @@ module _ (p : Program) where
   named_node (ast.Sided d a) w k held h = absurd cc
   named_node (ast.Headed g e a) w k held h = absurd cc
   named_node (ast.Transformed f a) w k held h = absurd cc
-  named_node (ast.Switching w a q b) v k held h = absurd cc
-  named_node (ast.Keeping w a o j s q b) v k held h = absurd cc
+  named_node (ast.Switching n) v k held h = absurd cc
+  named_node (ast.Keeping n) v k held h = absurd cc
   named_node (ast.Gathered c) v k held h = absurd cc
   named_node (ast.Releasing n) v k held h = absurd cc
   named_node (ast.Editing n) v k held h = absurd cc
@@ -172,8 +172,8 @@ module _ (p : Program) where
   closed_node (ast.Sided d a) vs h = refl
   closed_node (ast.Headed g e a) vs h = refl
   closed_node (ast.Transformed f a) vs h = refl
-  closed_node (ast.Switching w a q b) vs h = refl
-  closed_node (ast.Keeping w a o j s q b) vs h = refl
+  closed_node (ast.Switching n) vs h = refl
+  closed_node (ast.Keeping n) vs h = refl
   closed_node (ast.Gathered c) vs h = refl
   closed_node (ast.Releasing n) vs h = refl
   closed_node (ast.Editing n) vs h = refl
@@ -263,14 +263,15 @@ module _ (p : Program) (q : Plan) (kept : Keeps (program_expressions p) (plan_ex
   same_term _ _ _ i (copies_sided {d} {a}) below held shows builds_sided = ap (λ f. sided d f) (shows a below)
   same_term _ _ _ i (copies_headed {h = k} {e} {c} {a}) below held shows (builds_headed w) = ap₂ (λ v f. headed k v f) (value_same e held.0) (shows a below)
   same_term _ _ _ i (copies_transformed {f} {c} {a}) below held shows (builds_transformed w) = ap₂ (λ g t. transformed g t) (function_same f held.0) (shows a below)
-  same_term _ _ _ i (copies_switching {w = k} {a} {b} {q = r}) below held shows builds_switching =
-      ap₂ (λ f g. switching k f (pattern_of (placed_at (plan_expressions q) r)) g) (shows a below.0) (shows b below.1) ∙ ap (λ z. switching k (term p a) (pattern_of z) (term p b)) (pattern_same r held.1)
-  same_term _ _ _ i (copies_keeping {w} {a} {o} {b} {k} {q = r}) below held shows builds_keeping =
-      let name = name_at (plan_expressions q) k in
-      let pattern = pattern_of (placed_at (plan_expressions q) r) in
-      ap₂ (λ f g. keeping w f g name pattern (plan_tree q (plan_id b))) (shows a below.0) (shows o below.1)
-      ∙ ap (λ u. keeping w (term p a) (term p o) name pattern u) (shows b below.2)
-      ∙ ap₂ (λ x z. keeping w (term p a) (term p o) x (pattern_of z) (term p b)) (kept.names k held.2) (pattern_same r held.3)
+  same_term _ _ _ i (copies_switching {n}) below held shows builds_switching =
+      ap₂ (λ f g. switching n.form f (pattern_of (placed_at (plan_expressions q) n.pattern)) g) (shows n.source below.0) (shows n.body below.1)
+      ∙ ap (λ z. switching n.form (term p n.source) (pattern_of z) (term p n.body)) (pattern_same n.pattern held.1)
+  same_term _ _ _ i (copies_keeping {n}) below held shows builds_keeping =
+      let name = name_at (plan_expressions q) n.name in
+      let pattern = pattern_of (placed_at (plan_expressions q) n.pattern) in
+      ap₂ (λ f g. keeping n.shown f g name pattern (plan_tree q (plan_id n.body))) (shows n.source below.0) (shows n.observer below.1)
+      ∙ ap (λ u. keeping n.shown (term p n.source) (term p n.observer) name pattern u) (shows n.body below.2)
+      ∙ ap₂ (λ x z. keeping n.shown (term p n.source) (term p n.observer) x (pattern_of z) (term p n.body)) (kept.names n.name held.2) (pattern_same n.pattern held.3)
   same_term _ _ _ i (copies_gathered {c} {r} z) below held shows (builds_gathered w) = ap (λ j. gathered j) (collection_same i shows (collection_under p c) r.value z below held.1)
   same_term _ _ _ i (copies_releasing {s} {r} z) below held shows (builds_releasing w) = releasing_same s r i z below held shows
   same_term _ _ _ i (copies_editing {s} {r} z) below held shows (builds_editing w) = editing_same s r i z below held shows

@@ -27,7 +27,7 @@ use Rattle.sf_law.proofs.Naming.{right_or}
 
 -- ## Any name
 
-any_of_arguments : (x : Exprs) (qs : List ParameterHeader) (vs : List PlanArgument) → IsTrue (arguments_asked x (is_mentioned Any) qs vs)
+any_of_arguments : (x : Exprs) (qs : List ParameterHeader) (vs : List PlanArgument) → IsTrue (arguments_asked x (is_mentioned x Any) qs vs)
 any_of_arguments x [] vs = refl
 any_of_arguments x (q ∷ qs) [] = refl
 any_of_arguments x (q ∷ qs) (arguments.Value e c ∷ vs) = any_of_arguments x qs vs
@@ -37,7 +37,7 @@ any_of_arguments x (q ∷ qs) (arguments.Closed a ∷ vs) = any_of_arguments x q
 any_of_arguments x (q ∷ qs) (arguments.Collected r ∷ vs) = any_of_arguments x qs vs
 
 -- where any name is asked for, that is enough
-pub any_asked : (x : Exprs) (hs : List PlanHeader) (n : PlanNode) → IsTrue (is_asked x hs (is_mentioned Any) n)
+pub any_asked : (x : Exprs) (hs : List PlanHeader) (n : PlanNode) → IsTrue (is_asked x hs (is_mentioned x Any) n)
 any_asked x hs (nodes.Primitive q) = refl
 any_asked x hs (nodes.Started Run k) = refl
 any_asked x hs (nodes.Started Fresh k) = refl
@@ -47,8 +47,8 @@ any_asked x hs (nodes.Joined j a b) = refl
 any_asked x hs (nodes.Sided d a) = refl
 any_asked x hs (nodes.Headed h e c a) = refl
 any_asked x hs (nodes.Transformed f c a) = refl
-any_asked x hs (nodes.Switching w a q b) = refl
-any_asked x hs (nodes.Keeping w a o k q b) = refl
+any_asked x hs (nodes.Switching n) = refl
+any_asked x hs (nodes.Keeping n) = refl
 any_asked x hs (nodes.Gathered r) = refl
 any_asked x hs (nodes.Releasing s) = refl
 any_asked x hs (nodes.Editing s) = refl
@@ -93,7 +93,7 @@ module _ (x : Exprs) (asks : Name → Bool) where
 module _ (p : Plan) (m : Mentioned) where
   -- what a node of the plan asks for is among the names
   abbrev IsEnoughFor : PlanNode → Type 0
-  IsEnoughFor n = IsTrue (is_asked (plan_expressions p) (plan_headers p) (is_mentioned m) n)
+  IsEnoughFor n = IsTrue (is_asked (plan_expressions p) (plan_headers p) (is_mentioned (plan_expressions p) m) n)
 
   -- the same of the nodes below a number
   abbrev pub EnoughBelow : ℕ → Type 0
@@ -105,7 +105,7 @@ module _ (p : Plan) (m : Mentioned) where
       at_end : i ≤ a.0 → IsEnoughFor (plan_node_at p a)
       at_end l = let same : i ≡ a.0 = omega arith in subst (λ (k : ℕ). IsEnoughFor (plan_node_at p (record { 0 = k }))) same here
 
-  pub all_enough : (i : ℕ) → node_count p ≤ i → EnoughBelow i → IsEnough p (is_mentioned m)
+  pub all_enough : (i : ℕ) → node_count p ≤ i → EnoughBelow i → IsEnough p (is_mentioned (plan_expressions p) m)
   unfolding plan_node_at
   all_enough i all before a = ⊎_elim (λ l. before a l) past (cases_lt a.0 i)
     where
@@ -113,7 +113,7 @@ module _ (p : Plan) (m : Mentioned) where
       past l = subst (λ (n : PlanNode). IsEnoughFor n) (sym (get_or_past p.nodes.items a.0 identity_node (omega (arith, l, all)))) refl
 
   -- by their places
-  pub enough_all : IsEnough p (is_mentioned m) → AreAsked p.expressions p.templates.items m p.nodes.items
+  pub enough_all : IsEnough p (is_mentioned (plan_expressions p) m) → AreAsked p.expressions p.templates.items m p.nodes.items
   unfolding plan_node_at
   enough_all h i = h (record { 0 = i })
 
@@ -121,19 +121,19 @@ module _ (p : Plan) (m : Mentioned) where
 
 module _ (x : Exprs) (m : Mentioned) where
   -- what a process of a name asks for, where a test says whether it is handed on under a name that is asked for
-  pub start_lack : (w : Start) (k : NameId) (given : (Name → Bool) → Bool) (handed : Bool) → given (is_mentioned m) ≡ handed → ((asks : Name → Bool) → AreAmong m asks → IsTrue handed → IsTrue (given asks))
-      → IsLack x (λ asks. IsTrue (start_asked (given asks) (asks (name_at x k)) w)) m (cond (start_asked handed (is_mentioned m (name_at x k)) w) None (Some k))
-  start_lack Fresh k given handed same grows = by (is_mentioned m (name_at x k)) refl
+  pub start_lack : (w : Start) (k : NameId) (given : (Name → Bool) → Bool) (handed : Bool) → given (is_mentioned x m) ≡ handed → ((asks : Name → Bool) → AreAmong x m asks → IsTrue handed → IsTrue (given asks))
+      → IsLack x (λ asks. IsTrue (start_asked (given asks) (asks (name_at x k)) w)) m (cond (start_asked handed (is_mentioned x m (name_at x k)) w) None (Some k))
+  start_lack Fresh k given handed same grows = by (is_mentioned x m (name_at x k)) refl
     where
-      by : (own : Bool) → is_mentioned m (name_at x k) ≡ own → IsLack x (λ asks. IsTrue (asks (name_at x k))) m (cond own None (Some k))
+      by : (own : Bool) → is_mentioned x m (name_at x k) ≡ own → IsLack x (λ asks. IsTrue (asks (name_at x k))) m (cond own None (Some k))
       by true e = e
       by false e = λ asks among h. h
-  start_lack Run k given true same grows = by (is_mentioned m (name_at x k)) refl
+  start_lack Run k given true same grows = by (is_mentioned x m (name_at x k)) refl
     where
-      by : (own : Bool) → is_mentioned m (name_at x k) ≡ own → IsLack x (λ asks. IsTrue (not (given asks) || asks (name_at x k))) m (cond own None (Some k))
-      by true e = right_or (not (given (is_mentioned m))) (is_mentioned m (name_at x k)) e
+      by : (own : Bool) → is_mentioned x m (name_at x k) ≡ own → IsLack x (λ asks. IsTrue (not (given asks) || asks (name_at x k))) m (cond own None (Some k))
+      by true e = right_or (not (given (is_mentioned x m))) (is_mentioned x m (name_at x k)) e
       by false e = λ asks among h. subst (λ g. IsTrue (not g || asks (name_at x k))) (grows asks among refl) h
-  start_lack Run k given false same grows = subst (λ g. IsTrue (not g || is_mentioned m (name_at x k))) (sym same) refl
+  start_lack Run k given false same grows = subst (λ g. IsTrue (not g || is_mentioned x m (name_at x k))) (sym same) refl
 
   module _ (E F : (Name → Bool) → Type 0) where
     -- what one lacks the whole lacks
@@ -142,18 +142,18 @@ module _ (x : Exprs) (m : Mentioned) where
     lack_within (Some k) some part l = λ asks among h. l asks among (part asks h)
 
   -- nothing is lacking
-  pub no_lack : (E : (Name → Bool) → Type 0) (o : Option NameId) → is_some o ≡ false → IsLack x E m o → E (is_mentioned m)
+  pub no_lack : (E : (Name → Bool) → Type 0) (o : Option NameId) → is_some o ≡ false → IsLack x E m o → E (is_mentioned x m)
   no_lack E None none l = l
   no_lack E (Some k) none l = absurd cc
 
 module _ (p : Plan) where
   -- a plan asks for each of no names
-  pub none_only : (m : Mentioned) → ((x : Name) → is_mentioned m x ≡ false) → AsksOnly p m
-  none_only (Names v) h = λ x k. absurd (let not : has_name v.items x ≡ false = h x in cc)
+  pub none_only : (m : Mentioned) → ((x : Name) → is_mentioned (plan_expressions p) m x ≡ false) → AsksOnly p m
+  none_only (Names v) h = λ x k. absurd (let not : has_name (plan_expressions p) v.items x ≡ false = h x in cc)
   none_only Any h = absurd (let not : true ≡ false = h [] in cc)
 
   -- once a name that is lacking is added
-  pub next_only : (old new : Mentioned) (k : NameId) → AsksOnly p old → IsLack (plan_expressions p) (IsEnough p) old (Some k) → AddsOnly old (name_at (plan_expressions p) k) new
+  pub next_only : (old new : Mentioned) (k : NameId) → AsksOnly p old → IsLack (plan_expressions p) (IsEnough p) old (Some k) → AddsOnly (plan_expressions p) old (name_at (plan_expressions p) k) new
       → AsksOnly p new × ((x : Name) × IsAsked p x)
   next_only (Names v) new k only lack adds = (by new adds, (y, asked))
     where
@@ -163,21 +163,21 @@ module _ (p : Plan) where
       asked : IsAsked p y
       asked asks enough = lack asks (λ z h. only z h asks enough) enough
 
-      by : (new : Mentioned) → AddsOnly (Names v) y new → AsksOnly p new
+      by : (new : Mentioned) → AddsOnly (plan_expressions p) (Names v) y new → AsksOnly p new
       by Any a = (y, asked)
-      by (Names w) a = λ z h. each z (has_name v.items z) refl (bytes_eq z y) refl (a z h)
+      by (Names w) a = λ z h. each z (has_name (plan_expressions p) v.items z) refl (bytes_eq z y) refl (a z h)
         where
-          each : (z : Name) (b : Bool) → has_name v.items z ≡ b → (c : Bool) → bytes_eq z y ≡ c → IsTrue (b || c) → IsAsked p z
+          each : (z : Name) (b : Bool) → has_name (plan_expressions p) v.items z ≡ b → (c : Bool) → bytes_eq z y ≡ c → IsTrue (b || c) → IsAsked p z
           each z true e c f h = only z e
           each z false e true f h = subst (λ z. IsAsked p z) (sym ((bytes_eq-Decides z y).0 f)) asked
           each z false e false f h = absurd cc
   next_only Any new k only lack adds = (subst (λ m. AsksOnly p m) (sym adds) only, only)
 
 -- no name is listed where none is asked for
-pub nothing_listed : (p : Plan) (m : Mentioned) → AsksOnly p m → IsEnough p (λ x. false) → (x : Name) → is_mentioned m x ≡ false
-nothing_listed p (Names v) only none x = by (has_name v.items x) refl
+pub nothing_listed : (p : Plan) (m : Mentioned) → AsksOnly p m → IsEnough p (λ x. false) → (x : Name) → is_mentioned (plan_expressions p) m x ≡ false
+nothing_listed p (Names v) only none x = by (has_name (plan_expressions p) v.items x) refl
   where
-    by : (b : Bool) → has_name v.items x ≡ b → b ≡ false
+    by : (b : Bool) → has_name (plan_expressions p) v.items x ≡ b → b ≡ false
     by false e = refl
     by true e = absurd (let not : false ≡ true = only x e (λ x. false) none in cc)
 nothing_listed p Any only none x = absurd (let not : false ≡ true = only.1 (λ x. false) none in cc)

@@ -1,13 +1,13 @@
 -- Lists of names, and what patterns bind.
 use Rattle.std.proofs.Common.{◌≡◌, Bool, true, false, cond, ◌||◌, ◌&&◌, IsTrue, suc, ◌-◌, ◌≤◌, List, [], ◌∷◌, ◌++◌, length, take, drop, get_or, arith, refl, sym, ◌∙◌, ap, subst, ◌⊎◌, inl, inr}
-use Rattle.std.specs.Prelude.{bytes_eq, Result, Ok, Err, OnOk, Option, Some, None, is_some, String, string_bytes}
-use Rattle.std.specs.declared.rc.Rc.{Rc}
-use Rattle.std.specs.declared.alloc.Global.{Global}
+use Rattle.std.specs.Prelude.{bytes_eq, Result, Ok, Err, OnOk, Option, Some, None, is_some}
 use Rattle.std.proofs.lemmas.Slice.Eq.{bytes_eq-Decides}
-use mathlib.Core.Path.{ap₂}
 use Rattle.std.proofs.Math.Seq.{take-length}
 use Rattle.std.proofs.lemmas.List.Folds.{list_any-append}
 use Rattle.sf_value.specs.Values.{Name}
+use Rattle.sf_expr.specs.declared.exprs.Exprs.{Exprs}
+use Rattle.sf_expr.specs.declared.exprs.NameId.{NameId}
+use Rattle.sf_expr.specs.Arena.{name_at}
 use Rattle.sf_expr.specs.Expressions.{Pattern, unnamed, named, both, Expression, variable, literal, paired, applied, operation, conditional, mapped, folded, called, Function, function}
 use Rattle.sf_code.specs.Compiling.{path_in, inner_path, place_in, place_or, is_closed}
 use Rattle.sf_code.specs.declared.place.Half.{Half}
@@ -38,12 +38,12 @@ both_true true b h = (refl, h)
 both_true false b h = absurd cc
 
 -- a name among others is the first or among the rest
-pub first_or : {A : Name → Type 0} (f : Rc (String Global) Global) (rest : List (Rc (String Global) Global)) → A (string_bytes f.value) → ((x : Name) → IsTrue (has_name rest x) → A x) → (x : Name) → IsTrue (has_name (f ∷ rest) x) → A x
-first_or {A} f rest here there x h = by (bytes_eq x (string_bytes f.value)) refl h
+pub first_or : {A : Name → Type 0} (e : Exprs) (k : NameId) (rest : List NameId) → A (name_at e k) → ((x : Name) → IsTrue (has_name e rest x) → A x) → (x : Name) → IsTrue (has_name e (k ∷ rest) x) → A x
+first_or {A} e k rest here there x h = by (bytes_eq x (name_at e k)) refl h
   where
-    by : (b : Bool) → bytes_eq x (string_bytes f.value) ≡ b → IsTrue (b || has_name rest x) → A x
-    by true same k = subst A (sym ((bytes_eq-Decides x (string_bytes f.value)).0 same)) here
-    by false same k = there x k
+    by : (b : Bool) → bytes_eq x (name_at e k) ≡ b → IsTrue (b || has_name e rest x) → A x
+    by true same j = subst A (sym ((bytes_eq-Decides x (name_at e k)).0 same)) here
+    by false same j = there x j
 
 -- what a pattern doesn't bind
 pub others : (p : Pattern) (x : Name) → binds_name p x ≡ false → BindsOthers p x
@@ -123,20 +123,17 @@ closed_mentions ps (called g i) x h m = closed_mentions ps i x h m
 pub function_mentions : (ps : List Pattern) (g : Function) (x : Name) → is_closed_within ps g ≡ true → FunctionMentions g x → is_some (place_in x ps) ≡ true
 function_mentions ps (function p e) x h m = behind p ps x m.1 (closed_mentions (p ∷ ps) e x h m.0)
 
--- names behind which one more stands
-pub pushed_kept : (names : List (Rc (String Global) Global)) (f : Rc (String Global) Global) (x : Name) → IsTrue (has_name names x) → IsTrue (has_name (names ++ f ∷ []) x)
-pushed_kept names f x h = subst IsTrue (sym (list_any-append (λ (r : Rc (String Global) Global). bytes_eq x (string_bytes r.value)) names (f ∷ []))) (left_or (has_name names x) (has_name (f ∷ []) x) h)
-
-pub pushed_there : (names : List (Rc (String Global) Global)) (f : Rc (String Global) Global) → IsTrue (has_name (names ++ f ∷ []) (string_bytes f.value))
-pushed_there names f =
-    let x = string_bytes f.value in
-    subst IsTrue (sym (list_any-append (λ (r : Rc (String Global) Global). bytes_eq x (string_bytes r.value)) names (f ∷ [])))
-    (right_or (has_name names x) (has_name (f ∷ []) x) (left_or (bytes_eq x x) false ((bytes_eq-Decides x x).1 refl)))
+-- a name that is put behind others is one of them
+pub pushed_there : (e : Exprs) (names : List NameId) (k : NameId) → IsTrue (has_name e (names ++ k ∷ []) (name_at e k))
+pushed_there e names k =
+    let x = name_at e k in
+    subst IsTrue (sym (list_any-append (λ (j : NameId). bytes_eq x (name_at e j)) names (k ∷ [])))
+    (right_or (has_name e names x) (has_name e (k ∷ []) x) (left_or (bytes_eq x x) false ((bytes_eq-Decides x x).1 refl)))
 
 -- a list by its first item and the rest
-pub by_first : {X : Type 0} (xs : List X) (f : X) → 1 ≤ length xs → f ≡ get_or xs 0 f → xs ≡ f ∷ take (length xs - 1) (drop 1 xs)
-by_first [] f h e = absurd (omega (arith, h))
-by_first (y ∷ ys) f h e = ap₂ (λ z zs. z ∷ zs) (sym e) (sym (ap (λ n. take n ys) same ∙ take-length ys))
+pub by_first : {X : Type 0} (xs : List X) (d : X) → 1 ≤ length xs → xs ≡ get_or xs 0 d ∷ take (length xs - 1) (drop 1 xs)
+by_first [] d h = absurd (omega (arith, h))
+by_first (y ∷ ys) d h = ap (λ zs. y ∷ zs) (sym (ap (λ n. take n ys) same ∙ take-length ys))
   where
     same : suc (length ys) - 1 ≡ length ys
     same = omega arith

@@ -56,12 +56,12 @@ local x ts more (nodes.Joined j a b) h = ap₂ (λ s t. joined j s t) (part ts m
 local x ts more (nodes.Sided d a) h = ap (λ t. sided d t) (part ts more a.0 h)
 local x ts more (nodes.Headed k e c a) h = ap (λ t. headed k (expression x e) t) (part ts more a.0 h)
 local x ts more (nodes.Transformed f c a) h = ap (λ t. transformed (function_at x f) t) (part ts more a.0 h)
-local x ts more (nodes.Switching w a q b) h = ap₂ (λ s t. switching w s (pattern_of (placed_at x q)) t) (part ts more a.0 (omega arith)) (part ts more b.0 (omega arith))
-local x ts more (nodes.Keeping w a o k q b) h =
-    let name = name_at x k in
-    let pattern = pattern_of (placed_at x q) in
-    ap₂ (λ s r. keeping w s r name pattern (term_among (ts ++ more) b.0)) (part ts more a.0 (omega arith)) (part ts more o.0 (omega arith))
-    ∙ ap (λ t. keeping w (term_among ts a.0) (term_among ts o.0) name pattern t) (part ts more b.0 (omega arith))
+local x ts more (nodes.Switching n) h = ap₂ (λ s t. switching n.form s (pattern_of (placed_at x n.pattern)) t) (part ts more n.source.0 (omega arith)) (part ts more n.body.0 (omega arith))
+local x ts more (nodes.Keeping n) h =
+    let name = name_at x n.name in
+    let pattern = pattern_of (placed_at x n.pattern) in
+    ap₂ (λ s r. keeping n.shown s r name pattern (term_among (ts ++ more) n.body.0)) (part ts more n.source.0 (omega arith)) (part ts more n.observer.0 (omega arith))
+    ∙ ap (λ t. keeping n.shown (term_among ts n.source.0) (term_among ts n.observer.0) name pattern t) (part ts more n.body.0 (omega arith))
 local x ts more (nodes.Gathered r) h = ap gathered (members x ts more r.value h)
 local x ts more (nodes.Releasing s) h =
     let name = name_at x s.name in

@@ -32,8 +32,8 @@ module _ (ids : List PlanId) (n : ℕ) where
   calls_kept x hs (nodes.Sided d a) = refl
   calls_kept x hs (nodes.Headed h e c a) = refl
   calls_kept x hs (nodes.Transformed f c a) = refl
-  calls_kept x hs (nodes.Switching w a q b) = refl
-  calls_kept x hs (nodes.Keeping w a o k q b) = refl
+  calls_kept x hs (nodes.Switching n) = refl
+  calls_kept x hs (nodes.Keeping n) = refl
   calls_kept x hs (nodes.Gathered r) = refl
   calls_kept x hs (nodes.Releasing s) = refl
   calls_kept x hs (nodes.Editing s) = refl
@@ -62,8 +62,8 @@ module _ (ids : List PlanId) (n : ℕ) where
   asked_kept x hs asks (nodes.Sided d a) = refl
   asked_kept x hs asks (nodes.Headed h e c a) = refl
   asked_kept x hs asks (nodes.Transformed f c a) = refl
-  asked_kept x hs asks (nodes.Switching w a q b) = refl
-  asked_kept x hs asks (nodes.Keeping w a o k q b) = refl
+  asked_kept x hs asks (nodes.Switching n) = refl
+  asked_kept x hs asks (nodes.Keeping n) = refl
   asked_kept x hs asks (nodes.Gathered r) = refl
   asked_kept x hs asks (nodes.Releasing s) = refl
   asked_kept x hs asks (nodes.Editing s) = refl
@@ -71,4 +71,4 @@ module _ (ids : List PlanId) (n : ℕ) where
 
   -- nodes ask for what they asked for
   pub enough_kept : (x : Exprs) (hs : List PlanHeader) (m : Mentioned) (ns : List PlanNode) → AreAsked x hs m ns → AreAsked x (map (rebodied ids n) hs) m ns
-  enough_kept x hs m ns h i = subst IsTrue (sym (asked_kept x hs (is_mentioned m) (node_among ns i))) (h i)
+  enough_kept x hs m ns h i = subst IsTrue (sym (asked_kept x hs (is_mentioned x m) (node_among ns i))) (h i)

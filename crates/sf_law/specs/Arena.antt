@@ -6,18 +6,16 @@ use Rattle.std.specs.declared.alloc.Global.{Global}
 use Rattle.sf_func.specs.Registries.{AnswersByName}
 use Rattle.sf_expr.specs.declared.exprs.ExprId.{ExprId}
 use Rattle.sf_expr.specs.declared.exprs.Exprs.{Exprs}
+use Rattle.sf_expr.specs.declared.exprs.numbers.Numbers.{Numbers}
 use Rattle.sf_expr.specs.Expressions.{Expression}
 use Rattle.sf_expr.specs.declared.exprs.FunctionId.{FunctionId}
 use Rattle.sf_expr.specs.declared.exprs.NameId.{NameId}
-use Rattle.sf_expr.specs.declared.exprs.PatternId.{PatternId}
 use Rattle.sf_expr.specs.Patterns.{pattern_of}
 use Rattle.sf_expr.specs.Arena.{expression, function_at, name_at, placed_at}
 use Rattle.sf_term.specs.declared.form.Join.{Join}
 use Rattle.sf_term.specs.declared.form.Start.{Start}
 use Rattle.sf_term.specs.declared.form.Side.{Side}
 use Rattle.sf_term.specs.declared.form.Heading.{Heading}
-use Rattle.sf_term.specs.declared.form.Observation.{Observation}
-use Rattle.sf_term.specs.declared.form.Switching.{Switching}
 use Rattle.sf_code.specs.declared.open.OpenCode.{OpenCode}
 use Rattle.sf_code.specs.Worth.{IsCodeOf, IsCodeOfFunction}
 use Rattle.sf_term.specs.Trees.{Term, primitive, probe, reference, started, call, Arguments, joined, sided, headed, transformed, switching, keeping, gathered, releasing, editing, Collection, Template, Templates, template_named}
@@ -27,6 +25,8 @@ use Rattle.sf_law.specs.declared.node.PlanId.{PlanId}
 use Rattle.sf_law.specs.declared.node.TemplateId.{TemplateId}
 use Rattle.sf_law.specs.declared.node.PlanArgument.{PlanArgument}
 use Rattle.sf_law.specs.declared.node.PlanCollection.{PlanCollection}
+use Rattle.sf_law.specs.declared.node.PlanSwitch.{PlanSwitch}
+use Rattle.sf_law.specs.declared.node.PlanKeeping.{PlanKeeping}
 use Rattle.sf_law.specs.declared.node.PlanReleasing.{PlanReleasing}
 use Rattle.sf_law.specs.declared.node.PlanEditing.{PlanEditing}
 use Rattle.sf_law.specs.declared.node.PlanNode.{PlanNode}
@@ -48,13 +48,17 @@ plan_number id = id.0
 abbrev pub plan_expressions : Plan → Exprs
 plan_expressions p = p.expressions
 
+-- the numbers of its names
+abbrev pub plan_numbers : Plan → Numbers
+plan_numbers p = p.numbering
+
 -- the names for which a plan may ask what their processes began as
 abbrev pub plan_asked : Plan → Mentioned
 plan_asked p = p.asked
 
 -- whether a plan may ask what a process of a name began as
 abbrev pub plan_asks : Plan → Name → Bool
-plan_asks p x = is_mentioned (plan_asked p) x
+plan_asks p x = is_mentioned (plan_expressions p) (plan_asked p) x
 
 -- the expression at an id; the number 0 where the plan holds none
 abbrev pub plan_expression_at : Plan → ExprId → Expression
@@ -102,7 +106,7 @@ IsAsked p x = (asks : Name → Bool) → IsEnough p asks → IsTrue (asks x)
 
 -- a plan asks for each name of a list; where that is any name, it asks for one at least
 abbrev pub AsksOnly : Plan → Mentioned → Type 0
-AsksOnly p (Names v) = (x : Name) → IsTrue (has_name v.items x) → IsAsked p x
+AsksOnly p (Names v) = (x : Name) → IsTrue (has_name (plan_expressions p) v.items x) → IsAsked p x
 AsksOnly p Any = (x : Name) × IsAsked p x
 
 -- the number of a template's id
@@ -142,10 +146,10 @@ pub data BuildsPlan (p : Plan) : PlanNode → Term → Type 0 where
       → BuildsPlan p (nodes.Call k g v) (reference (call (name_at (plan_expressions p) k) (plan_arguments p v.items)))
   builds_joined : {j : Join} {a b : PlanId} → BuildsPlan p (nodes.Joined j a b) (joined j (plan_tree p a) (plan_tree p b))
   builds_sided : {d : Side} {a : PlanId} → BuildsPlan p (nodes.Sided d a) (sided d (plan_tree p a))
-  builds_headed : {h : Heading} {e : ExprId} {c : OpenCode} {a : PlanId} → IsCodeOf (plan_expression_at p e) c → BuildsPlan p (nodes.Headed h e c a) (headed h (plan_expression_at p e) (plan_tree p a))
-  builds_transformed : {f : FunctionId} {c : OpenCode} {a : PlanId} → IsCodeOfFunction (function_at (plan_expressions p) f) c → BuildsPlan p (nodes.Transformed f c a) (transformed (function_at (plan_expressions p) f) (plan_tree p a))
-  builds_switching : {w : Switching} {a b : PlanId} {q : PatternId} → BuildsPlan p (nodes.Switching w a q b) (switching w (plan_tree p a) (pattern_of (placed_at (plan_expressions p) q)) (plan_tree p b))
-  builds_keeping : {w : Observation} {a o b : PlanId} {k : NameId} {q : PatternId} → BuildsPlan p (nodes.Keeping w a o k q b) (keeping w (plan_tree p a) (plan_tree p o) (name_at (plan_expressions p) k) (pattern_of (placed_at (plan_expressions p) q)) (plan_tree p b))
+  builds_headed : {h : Heading} {e : ExprId} {c : OpenCode} {a : PlanId} → IsCodeOf (plan_expressions p) (plan_expression_at p e) c → BuildsPlan p (nodes.Headed h e c a) (headed h (plan_expression_at p e) (plan_tree p a))
+  builds_transformed : {f : FunctionId} {c : OpenCode} {a : PlanId} → IsCodeOfFunction (plan_expressions p) (function_at (plan_expressions p) f) c → BuildsPlan p (nodes.Transformed f c a) (transformed (function_at (plan_expressions p) f) (plan_tree p a))
+  builds_switching : {n : PlanSwitch} → BuildsPlan p (nodes.Switching n) (switching n.form (plan_tree p n.source) (pattern_of (placed_at (plan_expressions p) n.pattern)) (plan_tree p n.body))
+  builds_keeping : {n : PlanKeeping} → BuildsPlan p (nodes.Keeping n) (keeping n.shown (plan_tree p n.source) (plan_tree p n.observer) (name_at (plan_expressions p) n.name) (pattern_of (placed_at (plan_expressions p) n.pattern)) (plan_tree p n.body))
   builds_gathered : {r : Rc PlanCollection Global} → IsCodedCollection (plan_expressions p) r.value → BuildsPlan p (nodes.Gathered r) (gathered (plan_collection p r.value))
   builds_releasing : {s : PlanReleasing} → IsCodedCollection (plan_expressions p) s.members.value
       → BuildsPlan p (nodes.Releasing s) (releasing s.shown (plan_collection p s.members.value) (plan_tree p s.observer) (name_at (plan_expressions p) s.name) (pattern_of (placed_at (plan_expressions p) s.pattern)) (plan_tree p s.body))

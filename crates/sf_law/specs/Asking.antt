@@ -43,8 +43,8 @@ is_asked x hs asks (nodes.Joined j a c) = true
 is_asked x hs asks (nodes.Sided d a) = true
 is_asked x hs asks (nodes.Headed h e c a) = true
 is_asked x hs asks (nodes.Transformed f c a) = true
-is_asked x hs asks (nodes.Switching w a q c) = true
-is_asked x hs asks (nodes.Keeping w a o k q c) = true
+is_asked x hs asks (nodes.Switching n) = true
+is_asked x hs asks (nodes.Keeping n) = true
 is_asked x hs asks (nodes.Gathered r) = true
 is_asked x hs asks (nodes.Releasing s) = true
 is_asked x hs asks (nodes.Editing s) = true
@@ -52,13 +52,13 @@ is_asked x hs asks (nodes.Pipeline v) = true
 
 -- all names that nodes ask for are among these
 abbrev pub AreAsked : Exprs → List PlanHeader → Mentioned → List PlanNode → Type 0
-AreAsked x hs m ns = (i : ℕ) → IsTrue (is_asked x hs (is_mentioned m) (node_among ns i))
+AreAsked x hs m ns = (i : ℕ) → IsTrue (is_asked x hs (is_mentioned x m) (node_among ns i))
 
 -- these names are among others
-abbrev pub AreAmong : Mentioned → (Name → Bool) → Type 0
-AreAmong m asks = (x : Name) → IsTrue (is_mentioned m x) → IsTrue (asks x)
+abbrev pub AreAmong : Exprs → Mentioned → (Name → Bool) → Type 0
+AreAmong e m asks = (x : Name) → IsTrue (is_mentioned e m x) → IsTrue (asks x)
 
 -- Names are enough, or one is lacking: wherever these are among names that are enough, it is too.
 abbrev pub IsLack : Exprs → ((Name → Bool) → Type 0) → Mentioned → Option NameId → Type 0
-IsLack x IsEnough m None = IsEnough (is_mentioned m)
-IsLack x IsEnough m (Some k) = (asks : Name → Bool) → AreAmong m asks → IsEnough asks → IsTrue (asks (name_at x k))
+IsLack x IsEnough m None = IsEnough (is_mentioned x m)
+IsLack x IsEnough m (Some k) = (asks : Name → Bool) → AreAmong x m asks → IsEnough asks → IsTrue (asks (name_at x k))

@@ -9,7 +9,6 @@ use Rattle.sf_expr.specs.declared.exprs.ConstantId.{ConstantId}
 use Rattle.sf_expr.specs.declared.exprs.ExprId.{ExprId}
 use Rattle.sf_expr.specs.declared.exprs.FunctionId.{FunctionId}
 use Rattle.sf_expr.specs.declared.exprs.NameId.{NameId}
-use Rattle.sf_expr.specs.declared.exprs.PatternId.{PatternId}
 use Rattle.sf_expr.specs.declared.exprs.Exprs.{Exprs}
 use Rattle.sf_expr.specs.Patterns.{placed_name}
 use Rattle.sf_expr.specs.Arena.{HoldsName, HoldsPattern, name_at, placed_at}
@@ -21,14 +20,14 @@ use Rattle.sf_term.specs.declared.form.Accumulation.{Accumulation}
 use Rattle.sf_term.specs.declared.form.Join.{Join}
 use Rattle.sf_term.specs.declared.form.Side.{Side}
 use Rattle.sf_term.specs.declared.form.Heading.{Heading}
-use Rattle.sf_term.specs.declared.form.Observation.{Observation}
-use Rattle.sf_term.specs.declared.form.Switching.{Switching}
 use Rattle.sf_term.specs.declared.form.Start.{Start}
 use Rattle.sf_term.specs.declared.form.Naming.TheVariants.{Process, Probe}
 use Rattle.sf_term.specs.declared.node.TermId.{TermId}
 use Rattle.sf_term.specs.declared.node.ArgumentsId.{ArgumentsId}
 use Rattle.sf_term.specs.declared.node.Argument.{Argument}
 use Rattle.sf_term.specs.declared.node.Argument.TheVariants as arguments
+use Rattle.sf_term.specs.declared.node.Switch.{Switch}
+use Rattle.sf_term.specs.declared.node.Keeping.{Keeping}
 use Rattle.sf_term.specs.declared.node.Releasing.{Releasing}
 use Rattle.sf_term.specs.declared.node.Editing.{Editing}
 use Rattle.sf_term.specs.declared.collection.CollectionId.{CollectionId}
@@ -49,6 +48,8 @@ use Rattle.sf_law.specs.declared.node.PlanArgument.{PlanArgument}
 use Rattle.sf_law.specs.declared.node.PlanArgument.TheVariants as plan_arguments
 use Rattle.sf_law.specs.declared.node.PlanCollection.{PlanCollection}
 use Rattle.sf_law.specs.declared.node.PlanCollection.TheVariants as plan_collections
+use Rattle.sf_law.specs.declared.node.PlanSwitch.{PlanSwitch}
+use Rattle.sf_law.specs.declared.node.PlanKeeping.{PlanKeeping}
 use Rattle.sf_law.specs.declared.node.PlanReleasing.{PlanReleasing}
 use Rattle.sf_law.specs.declared.node.PlanEditing.{PlanEditing}
 use Rattle.sf_law.specs.declared.members.TermPlans.{TermPlans}
@@ -90,8 +91,8 @@ named_process (terms.Joined j a b) = None
 named_process (terms.Sided d a) = None
 named_process (terms.Headed h e a) = None
 named_process (terms.Transformed f a) = None
-named_process (terms.Switching w a q b) = None
-named_process (terms.Keeping w a o k s q b) = None
+named_process (terms.Switching n) = None
+named_process (terms.Keeping n) = None
 named_process (terms.Gathered c) = None
 named_process (terms.Releasing n) = None
 named_process (terms.Editing n) = None
@@ -123,6 +124,14 @@ pub record CopiesEditing (p : Program) (m : TermId → PlanId) (s : Editing) (r 
   pub pattern : r.pattern ≡ s.pattern
   pub edit : CopiesCollection m (collection_under p s.edit) r.edit.value
 
+-- the same switch, with these ids of its terms
+abbrev pub copied_switch : (TermId → PlanId) → Switch → PlanSwitch
+copied_switch m n = record { form = n.form; source = m n.source; pattern = n.pattern; body = m n.body }
+
+-- the same of a switch that knows its source
+abbrev pub copied_keeping : (TermId → PlanId) → Keeping → PlanKeeping
+copied_keeping m n = record { shown = n.shown; source = m n.source; observer = m n.observer; name = n.name; pattern = n.pattern; body = m n.body }
+
 -- A plan's argument is a program's, whatever its code: the same expression, the same named process, these ids of its terms.
 pub data CopiesArgument (p : Program) (m : TermId → PlanId) : Argument → PlanArgument → Type 0 where
   copies_value : {e : ExprId} {c : OpenCode} → CopiesArgument p m (arguments.Value e) (plan_arguments.Value e c)
@@ -139,8 +148,8 @@ pub data CopiesNode (p : Program) (m : TermId → PlanId) : Node → PlanNode �
   copies_call : {k : NameId} {a : ArgumentsId} {g : TemplateId} {v : Vec PlanArgument Global} → AllZip (CopiesArgument p m) (arguments_under p a) v.items → CopiesNode p m (terms.Call k a) (plans.Call k g v)
   copies_joined : {j : Join} {a b : TermId} → CopiesNode p m (terms.Joined j a b) (plans.Joined j (m a) (m b))
   copies_sided : {d : Side} {a : TermId} → CopiesNode p m (terms.Sided d a) (plans.Sided d (m a))
-  copies_switching : {w : Switching} {a b : TermId} {q : PatternId} → CopiesNode p m (terms.Switching w a q b) (plans.Switching w (m a) q (m b))
-  copies_keeping : {w : Observation} {a o b : TermId} {k : NameId} {s : _} {q : PatternId} → CopiesNode p m (terms.Keeping w a o k s q b) (plans.Keeping w (m a) (m o) k q (m b))
+  copies_switching : {n : Switch} → CopiesNode p m (terms.Switching n) (plans.Switching (copied_switch m n))
+  copies_keeping : {n : Keeping} → CopiesNode p m (terms.Keeping n) (plans.Keeping (copied_keeping m n))
   copies_headed : {h : Heading} {e : ExprId} {c : OpenCode} {a : TermId} → CopiesNode p m (terms.Headed h e a) (plans.Headed h e c (m a))
   copies_transformed : {f : FunctionId} {c : OpenCode} {a : TermId} → CopiesNode p m (terms.Transformed f a) (plans.Transformed f c (m a))
   copies_gathered : {c : CollectionId} {r : Rc PlanCollection Global} → CopiesCollection m (collection_under p c) r.value → CopiesNode p m (terms.Gathered c) (plans.Gathered r)

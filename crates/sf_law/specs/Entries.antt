@@ -45,7 +45,7 @@ chain_over x (chains.Fanned' a f b g) = fanned (chain_over x f) (chain_over x g)
 
 -- the code that its functions have is theirs
 abbrev pub IsCodedChain : Exprs → PlanChain → Type 0
-IsCodedChain x (chains.Lone f c) = IsCodeOfFunction (function_at x f) c.value
+IsCodedChain x (chains.Lone f c) = IsCodeOfFunction x (function_at x f) c.value
 IsCodedChain x (chains.Chained' a f b g) = IsCodedChain x f × IsCodedChain x g
 IsCodedChain x (chains.OnSide' d a f) = IsCodedChain x f
 IsCodedChain x (chains.OnBoth' a f b g) = IsCodedChain x f × IsCodedChain x g
@@ -66,29 +66,29 @@ primitive_over x (primitives.Accumulated k e d f c) = accumulated k (expression 
 abbrev pub IsCodedPrimitive : Exprs → PlanPrimitive → Type 0
 IsCodedPrimitive x (primitives.Bare k) = ⊤
 IsCodedPrimitive x (primitives.Never n) = ⊤
-IsCodedPrimitive x (primitives.WithValue k e c) = IsCodeOf (expression x e) c
-IsCodedPrimitive x (primitives.Timed k q e c) = IsCodeOf (expression x e) c
+IsCodedPrimitive x (primitives.WithValue k e c) = IsCodeOf x (expression x e) c
+IsCodedPrimitive x (primitives.Timed k q e c) = IsCodeOf x (expression x e) c
 IsCodedPrimitive x (primitives.Selected k n) = ⊤
-IsCodedPrimitive x (primitives.Arrow f c) = IsCodeOfFunction (function_at x f) c.value
+IsCodedPrimitive x (primitives.Arrow f c) = IsCodeOfFunction x (function_at x f) c.value
 IsCodedPrimitive x (primitives.Fused r) = IsCodedChain x r.value
-IsCodedPrimitive x (primitives.Accumulated k e d f c) = IsCodeOf (expression x e) d × IsCodeOfFunction (function_at x f) c.value
+IsCodedPrimitive x (primitives.Accumulated k e d f c) = IsCodeOf x (expression x e) d × IsCodeOfFunction x (function_at x f) c.value
 
 -- the code that an expression has is that of the expression
 abbrev pub IsCodedExpression : Exprs → ExprId → OpenCode → Type 0
-IsCodedExpression x e c = IsCodeOf (expression x e) c
+IsCodedExpression x e c = IsCodeOf x (expression x e) c
 
 -- the code that a collection has is that of its expressions and functions
 abbrev pub IsCodedCollection : Exprs → PlanCollection → Type 0
 IsCodedCollection x (collections.Empty k t) = ⊤
 IsCodedCollection x (collections.Used k) = ⊤
-IsCodedCollection x (collections.Added' r i e c a) = IsCodedCollection x i × IsCodeOf (expression x e) c
-IsCodedCollection x (collections.Dropped' r i e c) = IsCodedCollection x i × IsCodeOf (expression x e) c
-IsCodedCollection x (collections.Kept' r i f c) = IsCodedCollection x i × IsCodeOfFunction (function_at x f) c
-IsCodedCollection x (collections.Chosen' e c r i s j) = IsCodeOf (expression x e) c × IsCodedCollection x i × IsCodedCollection x j
+IsCodedCollection x (collections.Added' r i e c a) = IsCodedCollection x i × IsCodeOf x (expression x e) c
+IsCodedCollection x (collections.Dropped' r i e c) = IsCodedCollection x i × IsCodeOf x (expression x e) c
+IsCodedCollection x (collections.Kept' r i f c) = IsCodedCollection x i × IsCodeOfFunction x (function_at x f) c
+IsCodedCollection x (collections.Chosen' e c r i s j) = IsCodeOf x (expression x e) c × IsCodedCollection x i × IsCodedCollection x j
 
 -- the code that an argument has is that of its expression or its collection
 abbrev pub IsCodedArgument : Exprs → PlanArgument → Type 0
-IsCodedArgument x (arguments.Value e c) = IsCodeOf (expression x e) c
+IsCodedArgument x (arguments.Value e c) = IsCodeOf x (expression x e) c
 IsCodedArgument x (arguments.Started w k) = ⊤
 IsCodedArgument x (arguments.Closed a) = ⊤
 IsCodedArgument x (arguments.Collected r) = IsCodedCollection x r.value
@@ -101,10 +101,10 @@ IsCoded x (nodes.Probe r) = ⊤
 IsCoded x (nodes.Call k g v) = All (IsCodedArgument x) v.items
 IsCoded x (nodes.Joined j a b) = ⊤
 IsCoded x (nodes.Sided d a) = ⊤
-IsCoded x (nodes.Headed h e c a) = IsCodeOf (expression x e) c
-IsCoded x (nodes.Transformed f c a) = IsCodeOfFunction (function_at x f) c
-IsCoded x (nodes.Switching w a q b) = ⊤
-IsCoded x (nodes.Keeping w a o k q b) = ⊤
+IsCoded x (nodes.Headed h e c a) = IsCodeOf x (expression x e) c
+IsCoded x (nodes.Transformed f c a) = IsCodeOfFunction x (function_at x f) c
+IsCoded x (nodes.Switching n) = ⊤
+IsCoded x (nodes.Keeping n) = ⊤
 IsCoded x (nodes.Gathered r) = IsCodedCollection x r.value
 IsCoded x (nodes.Releasing s) = IsCodedCollection x s.members.value
 IsCoded x (nodes.Editing s) = IsCodedCollection x s.members.value × IsCodedCollection x s.edit.value
@@ -158,8 +158,8 @@ plan_over x ts (nodes.Joined j a b) = joined j (term_among ts a.0) (term_among t
 plan_over x ts (nodes.Sided d a) = sided d (term_among ts a.0)
 plan_over x ts (nodes.Headed h e c a) = headed h (expression x e) (term_among ts a.0)
 plan_over x ts (nodes.Transformed f c a) = transformed (function_at x f) (term_among ts a.0)
-plan_over x ts (nodes.Switching w a q b) = switching w (term_among ts a.0) (pattern_of (placed_at x q)) (term_among ts b.0)
-plan_over x ts (nodes.Keeping w a o k q b) = keeping w (term_among ts a.0) (term_among ts o.0) (name_at x k) (pattern_of (placed_at x q)) (term_among ts b.0)
+plan_over x ts (nodes.Switching n) = switching n.form (term_among ts n.source.0) (pattern_of (placed_at x n.pattern)) (term_among ts n.body.0)
+plan_over x ts (nodes.Keeping n) = keeping n.shown (term_among ts n.source.0) (term_among ts n.observer.0) (name_at x n.name) (pattern_of (placed_at x n.pattern)) (term_among ts n.body.0)
 plan_over x ts (nodes.Gathered r) = gathered (collection_over x ts r.value)
 plan_over x ts (nodes.Releasing s) = releasing s.shown (collection_over x ts s.members.value) (term_among ts s.observer.0) (name_at x s.name) (pattern_of (placed_at x s.pattern)) (term_among ts s.body.0)
 plan_over x ts (nodes.Editing s) = editing s.shown (collection_over x ts s.members.value) (name_at x s.name) (pattern_of (placed_at x s.pattern)) (collection_over x ts s.edit.value)
@@ -197,8 +197,8 @@ parts_end (nodes.Joined j a b) = suc (max a.0 b.0)
 parts_end (nodes.Sided d a) = suc a.0
 parts_end (nodes.Headed h e c a) = suc a.0
 parts_end (nodes.Transformed f c a) = suc a.0
-parts_end (nodes.Switching w a q b) = suc (max a.0 b.0)
-parts_end (nodes.Keeping w a o k q b) = suc (max (max a.0 o.0) b.0)
+parts_end (nodes.Switching n) = suc (max n.source.0 n.body.0)
+parts_end (nodes.Keeping n) = suc (max (max n.source.0 n.observer.0) n.body.0)
 parts_end (nodes.Gathered r) = collection_end r.value
 parts_end (nodes.Releasing s) = max (collection_end s.members.value) (suc (max s.observer.0 s.body.0))
 parts_end (nodes.Editing s) = max (collection_end s.members.value) (collection_end s.edit.value)
@@ -214,8 +214,8 @@ is_whole (nodes.Joined j a b) = true
 is_whole (nodes.Sided d a) = true
 is_whole (nodes.Headed h e c a) = true
 is_whole (nodes.Transformed f c a) = true
-is_whole (nodes.Switching w a q b) = true
-is_whole (nodes.Keeping w a o k q b) = true
+is_whole (nodes.Switching n) = true
+is_whole (nodes.Keeping n) = true
 is_whole (nodes.Gathered r) = true
 is_whole (nodes.Releasing s) = true
 is_whole (nodes.Editing s) = true
@@ -231,8 +231,8 @@ calls_first x hs (nodes.Joined j a b) = true
 calls_first x hs (nodes.Sided d a) = true
 calls_first x hs (nodes.Headed h e c a) = true
 calls_first x hs (nodes.Transformed f c a) = true
-calls_first x hs (nodes.Switching w a q b) = true
-calls_first x hs (nodes.Keeping w a o k q b) = true
+calls_first x hs (nodes.Switching n) = true
+calls_first x hs (nodes.Keeping n) = true
 calls_first x hs (nodes.Gathered r) = true
 calls_first x hs (nodes.Releasing s) = true
 calls_first x hs (nodes.Editing s) = true

@@ -1,10 +1,10 @@
 -- That a node is coded has one proof at most, so a plan can keep it.
-use Rattle.std.specs.Prelude.{◌≡◌, ℕ, Bool, true, refl, Result, Ok, Err, Option, List, [], ◌∷◌, slice_index_or}
+use Rattle.std.specs.Prelude.{◌≡◌, ℕ, Bool, true, nat_eq, bytes_eq, refl, Result, Ok, Err, Option, List, [], ◌∷◌, slice_index_or}
 use Rattle.std.specs.BTreeMap.{BTreeMap, get_by_text}
 use Rattle.std.specs.declared.alloc.Global.{Global}
 use Rattle.std.specs.declared.string.String.{String}
 use Rattle.std.specs.Coded.{Coded-set, code_by, coded_result, codes, Unit-prop}
-use Rattle.sf_value.specs.Values.{Data}
+use Rattle.sf_value.specs.Values.{Name, Data}
 use Rattle.sf_value.specs.declared.fault.ValueFault.{ValueFault}
 use Rattle.sf_value.specs.contracts.value.Value as values
 use Rattle.sf_value.specs.contracts.fault.ValueFault as faults
@@ -19,7 +19,10 @@ use Rattle.sf_code.specs.declared.open.OpenCode.{OpenCode}
 use Rattle.sf_code.specs.CodeView.{code_of}
 use Rattle.sf_code.specs.Running.{run}
 use Rattle.sf_code.specs.Compiling.{is_closed}
-use Rattle.sf_code.specs.PlaceView.{around_pattern}
+use Rattle.sf_code.specs.Around.{patterns_around}
+use Rattle.sf_expr.specs.declared.exprs.numbers.NumberedPattern.{NumberedPattern}
+use Rattle.sf_expr.specs.declared.exprs.numbers.NumberedPattern.TheVariants.{Unnamed, Name as Numbered, Both'}
+use Rattle.sf_expr.specs.Numbered.{TellsName}
 use Rattle.sf_code.specs.Worth.{frame_around, is_closed_within, IsCodeOf, IsCodeOfFunction}
 use Rattle.sf_law.specs.declared.node.PlanArgument.{PlanArgument}
 use Rattle.sf_law.specs.declared.node.PlanArgument.TheVariants as arguments
@@ -71,14 +74,14 @@ BindsNames-prop x h = λ a b i n d l. let q : ParameterHeader = slice_index_or h
 truth-set : (a b : Bool) → IsProp (a ≡ b)
 truth-set = Coded-set (Prim.hlevel codes)
 
-IsCodeOf-prop : (e : Expression) (c : OpenCode) → IsProp (IsCodeOf e c)
-IsCodeOf-prop e c a b = λ i. record { closed = truth-set (is_closed (around_pattern c.around) e) true a.closed b.closed i; worth = λ s. evaluated-set (run (code_of c.code) (frame_around c.around s) (functions_in s)) (eval e s) (a.worth s) (b.worth s) i }
+IsCodeOf-prop : (x : Exprs) (e : Expression) (c : OpenCode) → IsProp (IsCodeOf x e c)
+IsCodeOf-prop x e c a b = λ i. record { closed = truth-set (is_closed (patterns_around x c.around) e) true a.closed b.closed i; worth = λ s. evaluated-set (run (code_of c.code) (frame_around x c.around s) (functions_in s)) (eval e s) (a.worth s) (b.worth s) i }
 
-IsCodeOfFunction-prop : (g : Function) (c : OpenCode) → IsProp (IsCodeOfFunction g c)
-IsCodeOfFunction-prop g c a b = λ i. record { closed = truth-set (is_closed_within (around_pattern c.around) g) true a.closed b.closed i; worth = λ s d. evaluated-set (run (code_of c.code) (d ∷ frame_around c.around s) (functions_in s)) (apply g d s) (a.worth s d) (b.worth s d) i }
+IsCodeOfFunction-prop : (x : Exprs) (g : Function) (c : OpenCode) → IsProp (IsCodeOfFunction x g c)
+IsCodeOfFunction-prop x g c a b = λ i. record { closed = truth-set (is_closed_within (patterns_around x c.around) g) true a.closed b.closed i; worth = λ s d. evaluated-set (run (code_of c.code) (d ∷ frame_around x c.around s) (functions_in s)) (apply g d s) (a.worth s d) (b.worth s d) i }
 
 IsCodedChain-prop : (x : Exprs) (c : PlanChain) → IsProp (IsCodedChain x c)
-IsCodedChain-prop x (chains.Lone f c) = IsCodeOfFunction-prop (function_at x f) c.value
+IsCodedChain-prop x (chains.Lone f c) = IsCodeOfFunction-prop x (function_at x f) c.value
 IsCodedChain-prop x (chains.Chained' a f b g) = λ k l i. (IsCodedChain-prop x f k.0 l.0 i, IsCodedChain-prop x g k.1 l.1 i)
 IsCodedChain-prop x (chains.OnSide' d a f) = IsCodedChain-prop x f
 IsCodedChain-prop x (chains.OnBoth' a f b g) = λ k l i. (IsCodedChain-prop x f k.0 l.0 i, IsCodedChain-prop x g k.1 l.1 i)
@@ -87,23 +90,23 @@ IsCodedChain-prop x (chains.Fanned' a f b g) = λ k l i. (IsCodedChain-prop x f 
 IsCodedPrimitive-prop : (x : Exprs) (q : PlanPrimitive) → IsProp (IsCodedPrimitive x q)
 IsCodedPrimitive-prop x (primitives.Bare k) = Unit-prop
 IsCodedPrimitive-prop x (primitives.Never n) = Unit-prop
-IsCodedPrimitive-prop x (primitives.WithValue k e c) = IsCodeOf-prop (expression x e) c
-IsCodedPrimitive-prop x (primitives.Timed k q e c) = IsCodeOf-prop (expression x e) c
+IsCodedPrimitive-prop x (primitives.WithValue k e c) = IsCodeOf-prop x (expression x e) c
+IsCodedPrimitive-prop x (primitives.Timed k q e c) = IsCodeOf-prop x (expression x e) c
 IsCodedPrimitive-prop x (primitives.Selected k n) = Unit-prop
-IsCodedPrimitive-prop x (primitives.Arrow f c) = IsCodeOfFunction-prop (function_at x f) c.value
+IsCodedPrimitive-prop x (primitives.Arrow f c) = IsCodeOfFunction-prop x (function_at x f) c.value
 IsCodedPrimitive-prop x (primitives.Fused r) = IsCodedChain-prop x r.value
-IsCodedPrimitive-prop x (primitives.Accumulated k e d f c) = λ a b i. (IsCodeOf-prop (expression x e) d a.0 b.0 i, IsCodeOfFunction-prop (function_at x f) c.value a.1 b.1 i)
+IsCodedPrimitive-prop x (primitives.Accumulated k e d f c) = λ a b i. (IsCodeOf-prop x (expression x e) d a.0 b.0 i, IsCodeOfFunction-prop x (function_at x f) c.value a.1 b.1 i)
 
 IsCodedCollection-prop : (x : Exprs) (q : PlanCollection) → IsProp (IsCodedCollection x q)
 IsCodedCollection-prop x (collections.Empty k t) = Unit-prop
 IsCodedCollection-prop x (collections.Used k) = Unit-prop
-IsCodedCollection-prop x (collections.Added' r q e c a) = λ k l i. (IsCodedCollection-prop x q k.0 l.0 i, IsCodeOf-prop (expression x e) c k.1 l.1 i)
-IsCodedCollection-prop x (collections.Dropped' r q e c) = λ k l i. (IsCodedCollection-prop x q k.0 l.0 i, IsCodeOf-prop (expression x e) c k.1 l.1 i)
-IsCodedCollection-prop x (collections.Kept' r q f c) = λ k l i. (IsCodedCollection-prop x q k.0 l.0 i, IsCodeOfFunction-prop (function_at x f) c k.1 l.1 i)
-IsCodedCollection-prop x (collections.Chosen' e c r q s o) = λ k l i. (IsCodeOf-prop (expression x e) c k.0 l.0 i, IsCodedCollection-prop x q k.1 l.1 i, IsCodedCollection-prop x o k.2 l.2 i)
+IsCodedCollection-prop x (collections.Added' r q e c a) = λ k l i. (IsCodedCollection-prop x q k.0 l.0 i, IsCodeOf-prop x (expression x e) c k.1 l.1 i)
+IsCodedCollection-prop x (collections.Dropped' r q e c) = λ k l i. (IsCodedCollection-prop x q k.0 l.0 i, IsCodeOf-prop x (expression x e) c k.1 l.1 i)
+IsCodedCollection-prop x (collections.Kept' r q f c) = λ k l i. (IsCodedCollection-prop x q k.0 l.0 i, IsCodeOfFunction-prop x (function_at x f) c k.1 l.1 i)
+IsCodedCollection-prop x (collections.Chosen' e c r q s o) = λ k l i. (IsCodeOf-prop x (expression x e) c k.0 l.0 i, IsCodedCollection-prop x q k.1 l.1 i, IsCodedCollection-prop x o k.2 l.2 i)
 
 IsCodedArgument-prop : (x : Exprs) (v : PlanArgument) → IsProp (IsCodedArgument x v)
-IsCodedArgument-prop x (arguments.Value e c) = IsCodeOf-prop (expression x e) c
+IsCodedArgument-prop x (arguments.Value e c) = IsCodeOf-prop x (expression x e) c
 IsCodedArgument-prop x (arguments.Started w k) = Unit-prop
 IsCodedArgument-prop x (arguments.Closed a) = Unit-prop
 IsCodedArgument-prop x (arguments.Collected r) = IsCodedCollection-prop x r.value
@@ -115,14 +118,25 @@ IsCoded-prop x (nodes.Probe r) = Unit-prop
 IsCoded-prop x (nodes.Call k g v) = λ a b i n d h. IsCodedArgument-prop x (slice_index_or v.items n d) (a n d h) (b n d h) i
 IsCoded-prop x (nodes.Joined j a b) = Unit-prop
 IsCoded-prop x (nodes.Sided d a) = Unit-prop
-IsCoded-prop x (nodes.Headed h e c a) = IsCodeOf-prop (expression x e) c
-IsCoded-prop x (nodes.Transformed f c a) = IsCodeOfFunction-prop (function_at x f) c
-IsCoded-prop x (nodes.Switching w a q b) = Unit-prop
-IsCoded-prop x (nodes.Keeping w a o k q b) = Unit-prop
+IsCoded-prop x (nodes.Headed h e c a) = IsCodeOf-prop x (expression x e) c
+IsCoded-prop x (nodes.Transformed f c a) = IsCodeOfFunction-prop x (function_at x f) c
+IsCoded-prop x (nodes.Switching n) = Unit-prop
+IsCoded-prop x (nodes.Keeping n) = Unit-prop
 IsCoded-prop x (nodes.Gathered r) = IsCodedCollection-prop x r.value
 IsCoded-prop x (nodes.Releasing s) = IsCodedCollection-prop x s.members.value
 IsCoded-prop x (nodes.Editing s) = λ a b i. (IsCodedCollection-prop x s.members.value a.0 b.0 i, IsCodedCollection-prop x s.edit.value a.1 b.1 i)
 IsCoded-prop x (nodes.Pipeline v) = Unit-prop
+
+pub TellsName-prop : (m : ℕ) (x : Name) (s : NumberedPattern) (p : Pattern) → IsProp (TellsName m x s p)
+TellsName-prop m x Unnamed unnamed = Unit-prop
+TellsName-prop m x Unnamed (named y) = λ a. absurd a
+TellsName-prop m x Unnamed (both p q) = λ a. absurd a
+TellsName-prop m x (Numbered k) unnamed = λ a. absurd a
+TellsName-prop m x (Numbered k) (named y) = truth-set (nat_eq m k) (bytes_eq x y)
+TellsName-prop m x (Numbered k) (both p q) = λ a. absurd a
+TellsName-prop m x (Both' a s b t) unnamed = λ a. absurd a
+TellsName-prop m x (Both' a s b t) (named y) = λ a. absurd a
+TellsName-prop m x (Both' a s b t) (both p q) = λ k l i. (TellsName-prop m x s p k.0 l.0 i, TellsName-prop m x t q k.1 l.1 i)
 
 place-set : (a b : Option ℕ) → IsProp (a ≡ b)
 place-set = Coded-set (Prim.hlevel codes)

@@ -9,20 +9,20 @@ use crate::mentioned::{MOST, Mentioned};
 use crate::node::{PlanArgument, PlanId, PlanNode};
 use crate::plan::Plan;
 use crate::template::PlanParameter;
-use sf_expr::{Exprs, NameId};
+use sf_expr::NameId;
 use sf_term::Start;
 use std::alloc::{AllocError, Global};
 
 /// The names for which a plan asks what their processes began as: those of `fresh`, and those that `run` hands on under one of
 /// them. Any where they are too many. The error is a want of memory.
 pub(crate) fn asked_names(alloc: Global, plan: &Plan) -> Result<Mentioned, AllocError>
-    ensures enough { IfOk result (λ asked. IsEnough plan.now (is_mentioned asked)) }
+    ensures enough { IfOk result (λ asked. IsEnough plan.now (is_mentioned (plan_expressions plan.now) asked)) }
     ensures only { IfOk result (λ asked. AsksOnly plan.now asked) }
 {
     let mut asked = Mentioned::nothing(alloc);
     for _ in 0..=MOST {
         match asked.lack(plan) {
-            Some(name) => asked.add_text(alloc, plan.expressions().name_of(name))?,
+            Some(name) => asked.add(plan, name)?,
             None => return Ok(asked),
         }
     }
@@ -47,11 +47,10 @@ impl Mentioned {
     fn lack_of_node(&self, plan: &Plan, node: &PlanNode) -> Option<NameId>
         ensures { IsLack (plan_expressions plan.now) (λ asks. IsTrue (is_asked (plan_expressions plan.now) (plan_headers plan.now) asks node.now)) self.now result }
     {
-        let exprs = plan.expressions();
         match node {
-            PlanNode::Started(start, name) => self.lack_of_start(exprs, false, *start, *name),
+            PlanNode::Started(start, name) => self.lack_of_start(plan, false, *start, *name),
             PlanNode::Call(_, template, arguments) => {
-                self.lack_of_arguments(exprs, plan.template(*template).parameters(), arguments)
+                self.lack_of_arguments(plan, plan.template(*template).parameters(), arguments)
             }
             _ => None,
         }
@@ -60,14 +59,14 @@ impl Mentioned {
     // The same of arguments, each for the parameter at its place.
     fn lack_of_arguments(
         &self,
-        exprs: &Exprs,
+        plan: &Plan,
         parameters: &[PlanParameter],
         arguments: &[PlanArgument],
     ) -> Option<NameId>
-        ensures { IsLack exprs.now (λ asks. IsTrue (arguments_asked exprs.now asks parameters.now arguments.now)) self.now result }
+        ensures { IsLack (plan_expressions plan.now) (λ asks. IsTrue (arguments_asked (plan_expressions plan.now) asks parameters.now arguments.now)) self.now result }
     {
         for (parameter, argument) in parameters.iter().zip(arguments) {
-            let lack = self.lack_of_argument(exprs, parameter, argument);
+            let lack = self.lack_of_argument(plan, parameter, argument);
             if lack.is_some() {
                 return lack;
             }
@@ -78,16 +77,16 @@ impl Mentioned {
     // The same of one.
     fn lack_of_argument(
         &self,
-        exprs: &Exprs,
+        plan: &Plan,
         parameter: &PlanParameter,
         argument: &PlanArgument,
     ) -> Option<NameId>
-        ensures { IsLack exprs.now (λ asks. IsTrue (argument_asked exprs.now asks (name_at exprs.now parameter.now.name) argument.now)) self.now result }
+        ensures { IsLack (plan_expressions plan.now) (λ asks. IsTrue (argument_asked (plan_expressions plan.now) asks (name_at (plan_expressions plan.now) parameter.now.name) argument.now)) self.now result }
     {
         match argument {
             PlanArgument::Started(start, name) => {
-                let handed = self.has(exprs.name_of(parameter.name()));
-                self.lack_of_start(exprs, handed, *start, *name)
+                let handed = self.has(plan, parameter.name());
+                self.lack_of_start(plan, handed, *start, *name)
             }
             PlanArgument::Value(_, _) | PlanArgument::Closed(_) | PlanArgument::Collected(_) => {
                 None
@@ -96,16 +95,10 @@ impl Mentioned {
     }
 
     // The same of a process of a name, where it is handed on under a name among these, or isn't.
-    fn lack_of_start(
-        &self,
-        exprs: &Exprs,
-        handed: bool,
-        start: Start,
-        name: NameId,
-    ) -> Option<NameId>
-        ensures { result ≡ cond (start_asked handed (is_mentioned self.now (name_at exprs.now name)) start) None (Some name) }
+    fn lack_of_start(&self, plan: &Plan, handed: bool, start: Start, name: NameId) -> Option<NameId>
+        ensures { result ≡ cond (start_asked handed (is_mentioned (plan_expressions plan.now) self.now (name_at (plan_expressions plan.now) name)) start) None (Some name) }
     {
-        if self.is_enough_for(exprs, handed, start, name) {
+        if self.is_enough_for(plan, handed, start, name) {
             None
         } else {
             Some(name)
@@ -113,12 +106,12 @@ impl Mentioned {
     }
 
     // Whether the name is among these where it is asked for.
-    fn is_enough_for(&self, exprs: &Exprs, handed: bool, start: Start, name: NameId) -> bool
-        ensures { result ≡ start_asked handed (is_mentioned self.now (name_at exprs.now name)) start }
+    fn is_enough_for(&self, plan: &Plan, handed: bool, start: Start, name: NameId) -> bool
+        ensures { result ≡ start_asked handed (is_mentioned (plan_expressions plan.now) self.now (name_at (plan_expressions plan.now) name)) start }
     {
         match start {
-            Start::Run => !handed || self.has(exprs.name_of(name)),
-            Start::Fresh => self.has(exprs.name_of(name)),
+            Start::Run => !handed || self.has(plan, name),
+            Start::Fresh => self.has(plan, name),
         }
     }
 }

@@ -1,35 +1,39 @@
 //! The names that terms mention, in lists.
-ghost use Rattle.std.specs.Prelude.{◌≡◌, true, false, IsTrue, IfOk, OnOk, is_some, string_bytes};
+ghost use Rattle.std.specs.Prelude.{◌≡◌, true, false, IsTrue, IfOk, OnOk, is_some};
 ghost use Rattle.sf_value.specs.Values.{Name as NameOf};
-ghost use Rattle.sf_expr.specs.Patterns.{pattern_of};
+ghost use Rattle.sf_expr.specs.declared.exprs.Exprs.{Exprs};
+ghost use Rattle.sf_expr.specs.Arena.{name_at};
+ghost use Rattle.sf_expr.specs.Expressions.{Pattern as PatternOf};
+ghost use Rattle.sf_expr.specs.Numbered.{TellsName};
 ghost use Rattle.sf_code.specs.Compiling.{place_in};
-ghost use Rattle.sf_code.specs.PlaceView.{around_pattern};
+ghost use Rattle.sf_code.specs.Around.{pattern_around, patterns_around};
 ghost use Rattle.sf_coincidence.specs.Mentions.{BindsOthers};
+ghost use Rattle.sf_law.specs.Arena.{plan_expressions};
 ghost use Rattle.sf_law.specs.Mentioned.{has_name, is_mentioned, binds_name, bound_pattern, HasAll, AddsOnly};
 
-use sf_code::OpenCode;
-use sf_expr::{Pat, PatForm};
+use crate::plan::Plan;
+use sf_code::{Around, OpenCode};
+use sf_expr::{NameId, NumberedPattern, PatternId};
 use std::alloc::{AllocError, Global};
-use std::rc::Rc;
 
 /// Names that a term mentions.
 #[derive(Drop)]
 pub enum Mentioned {
     /// These.
-    Names(Vec<Rc<String>>),
+    Names(Vec<NameId>),
     /// Any: they are too many to be listed.
     Any,
 }
 
 /// What binds names.
 #[derive(Clone, Copy)]
-pub enum Binder<'a> {
+pub enum Binder {
     /// A pattern.
-    Pattern(&'a Pat),
+    Pattern(PatternId),
     /// A name of a process or of a collection.
-    Name(&'a str),
+    Name(NameId),
     /// A name and a pattern.
-    Both(&'a str, &'a Pat),
+    Both(NameId, PatternId),
 }
 
 /// So many names are listed.
@@ -38,14 +42,14 @@ pub(crate) const MOST: usize = 16;
 impl Mentioned {
     /// No names.
     pub(crate) fn nothing(alloc: Global) -> Mentioned
-        ensures { (x : NameOf) → is_mentioned result x ≡ false }
+        ensures { (e : Exprs) (x : NameOf) → is_mentioned e result x ≡ false }
     {
         Mentioned::Names(Vec::new(alloc))
     }
 
     /// Whether there are none.
     pub fn is_empty(&self) -> bool
-        ensures { IsTrue result → (x : NameOf) → is_mentioned self.now x ≡ false }
+        ensures { IsTrue result → (e : Exprs) (x : NameOf) → is_mentioned e self.now x ≡ false }
     {
         match self {
             Mentioned::Names(names) => names.is_empty(),
@@ -54,33 +58,40 @@ impl Mentioned {
     }
 
     /// Whether a name is one of them.
-    pub(crate) fn has(&self, name: &str) -> bool
-        ensures { result ≡ is_mentioned self.now name.now }
+    pub(crate) fn has(&self, plan: &Plan, name: NameId) -> bool
+        ensures { let e = plan_expressions plan.now in result ≡ is_mentioned e self.now (name_at e name) }
     {
         match self {
-            Mentioned::Names(names) => is_among(names, name),
+            Mentioned::Names(names) => is_among(plan, names, name),
             Mentioned::Any => true,
         }
     }
 
     /// Whether some of them may be bound there.
-    pub fn is_bound_by(&self, binder: Binder) -> bool
-        ensures { result ≡ false → (x : NameOf) → IsTrue (is_mentioned self.now x) → BindsOthers (bound_pattern binder.entry) x }
+    pub fn is_bound_by(&self, plan: &Plan, binder: Binder) -> bool
+        ensures { let e = plan_expressions plan.now in
+            result ≡ false → (x : NameOf) → IsTrue (is_mentioned e self.now x) → BindsOthers (bound_pattern e binder) x }
     {
         match self {
-            Mentioned::Names(names) => any_is_bound(names, binder),
+            Mentioned::Names(names) => any_is_bound(plan, names, binder),
             Mentioned::Any => true,
         }
     }
 
-    /// Those that aren't bound there. The error is a want of memory, or too many owners of a name.
-    pub fn outside(&self, alloc: Global, binder: Binder) -> Result<Mentioned, AllocError>
-        ensures { IfOk result (λ left. (x : NameOf) → IsTrue (is_mentioned self.now x) → BindsOthers (bound_pattern binder.entry) x → IsTrue (is_mentioned left x)) }
+    /// Those that aren't bound there. The error is a want of memory.
+    pub fn outside(
+        &self,
+        alloc: Global,
+        plan: &Plan,
+        binder: Binder,
+    ) -> Result<Mentioned, AllocError>
+        ensures { let e = plan_expressions plan.now in
+            IfOk result (λ left. (x : NameOf) → IsTrue (is_mentioned e self.now x) → BindsOthers (bound_pattern e binder) x → IsTrue (is_mentioned e left x)) }
     {
         match self {
             Mentioned::Names(names) => {
                 let mut left = Mentioned::nothing(alloc);
-                left.add_outside(names, binder)?;
+                left.add_outside(plan, names, binder)?;
                 Ok(left)
             }
             Mentioned::Any => Ok(Mentioned::Any),
@@ -88,31 +99,37 @@ impl Mentioned {
     }
 
     // Adds those of these names that aren't bound there.
-    fn add_outside(&mut self, names: &[Rc<String>], binder: Binder) -> Result<(), AllocError>
-        ensures kept { OnOk result (HasAll self.old self.new) }
-        ensures added { OnOk result ((x : NameOf) → IsTrue (has_name names.now x) → BindsOthers (bound_pattern binder.entry) x → IsTrue (is_mentioned self.new x)) }
+    fn add_outside(
+        &mut self,
+        plan: &Plan,
+        names: &[NameId],
+        binder: Binder,
+    ) -> Result<(), AllocError>
+        ensures kept { OnOk result (HasAll (plan_expressions plan.now) self.old self.new) }
+        ensures added { let e = plan_expressions plan.now in
+            OnOk result ((x : NameOf) → IsTrue (has_name e names.now x) → BindsOthers (bound_pattern e binder) x → IsTrue (is_mentioned e self.new x)) }
     {
         match names {
             [] => Ok(()),
             [first, rest @ ..] => {
-                if !binder.binds(first.as_str()) {
-                    self.add(first.clone()?)?;
+                if !binder.binds(plan, *first) {
+                    self.add(plan, *first)?;
                 }
-                self.add_outside(rest, binder)
+                self.add_outside(plan, rest, binder)
             }
         }
     }
 
-    // Adds a name.
-    fn add(&mut self, name: Rc<String>) -> Result<(), AllocError>
-        ensures kept { OnOk result (HasAll self.old self.new) }
-        ensures added { OnOk result (IsTrue (is_mentioned self.new (string_bytes name.value))) }
-        ensures only { OnOk result (AddsOnly self.old (string_bytes name.value) self.new) }
+    /// Adds a name. The error is a want of memory.
+    pub(crate) fn add(&mut self, plan: &Plan, name: NameId) -> Result<(), AllocError>
+        ensures kept { OnOk result (HasAll (plan_expressions plan.now) self.old self.new) }
+        ensures added { let e = plan_expressions plan.now in OnOk result (IsTrue (is_mentioned e self.new (name_at e name))) }
+        ensures only { let e = plan_expressions plan.now in OnOk result (AddsOnly e self.old (name_at e name) self.new) }
     {
         match self {
             Mentioned::Any => return Ok(()),
             Mentioned::Names(names) => {
-                if is_among(names, name.as_str()) {
+                if is_among(plan, names, name) {
                     return Ok(());
                 }
                 if names.len() < MOST {
@@ -126,26 +143,27 @@ impl Mentioned {
     }
 
     // Adds names.
-    fn add_each(&mut self, names: &[Rc<String>]) -> Result<(), AllocError>
-        ensures kept { OnOk result (HasAll self.old self.new) }
-        ensures added { OnOk result ((x : NameOf) → IsTrue (has_name names.now x) → IsTrue (is_mentioned self.new x)) }
+    fn add_each(&mut self, plan: &Plan, names: &[NameId]) -> Result<(), AllocError>
+        ensures kept { OnOk result (HasAll (plan_expressions plan.now) self.old self.new) }
+        ensures added { let e = plan_expressions plan.now in
+            OnOk result ((x : NameOf) → IsTrue (has_name e names.now x) → IsTrue (is_mentioned e self.new x)) }
     {
         match names {
             [] => Ok(()),
             [first, rest @ ..] => {
-                self.add(first.clone()?)?;
-                self.add_each(rest)
+                self.add(plan, *first)?;
+                self.add_each(plan, rest)
             }
         }
     }
 
-    /// Adds the names of a list. The error is a want of memory, or too many owners of a name.
-    pub(crate) fn add_all(&mut self, other: &Mentioned) -> Result<(), AllocError>
-        ensures kept { OnOk result (HasAll self.old self.new) }
-        ensures added { OnOk result (HasAll other.now self.new) }
+    /// Adds the names of a list. The error is a want of memory.
+    pub(crate) fn add_all(&mut self, plan: &Plan, other: &Mentioned) -> Result<(), AllocError>
+        ensures kept { OnOk result (HasAll (plan_expressions plan.now) self.old self.new) }
+        ensures added { OnOk result (HasAll (plan_expressions plan.now) other.now self.new) }
     {
         match other {
-            Mentioned::Names(names) => self.add_each(names),
+            Mentioned::Names(names) => self.add_each(plan, names),
             Mentioned::Any => {
                 *self = Mentioned::Any;
                 Ok(())
@@ -153,83 +171,78 @@ impl Mentioned {
         }
     }
 
-    /// Adds a name. The error is a want of memory.
-    pub(crate) fn add_text(&mut self, alloc: Global, name: &str) -> Result<(), AllocError>
-        ensures kept { OnOk result (HasAll self.old self.new) }
-        ensures added { OnOk result (IsTrue (is_mentioned self.new name.now)) }
-        ensures only { OnOk result (AddsOnly self.old name.now self.new) }
+    // Adds names around code.
+    fn add_around(&mut self, plan: &Plan, around: &Around) -> Result<(), AllocError>
+        ensures kept { OnOk result (HasAll (plan_expressions plan.now) self.old self.new) }
+        ensures added { let e = plan_expressions plan.now in
+            OnOk result ((x : NameOf) → IsTrue (binds_name (pattern_around e around.now) x) → IsTrue (is_mentioned e self.new x)) }
     {
-        let text = String::from_str(alloc, name)?;
-        self.add(Rc::new(alloc, text)?)
-    }
-
-    // Adds the names of a pattern.
-    fn add_bound(&mut self, alloc: Global, pattern: &Pat) -> Result<(), AllocError>
-        ensures kept { OnOk result (HasAll self.old self.new) }
-        ensures added { OnOk result ((x : NameOf) → IsTrue (binds_name (pattern_of pattern.now) x) → IsTrue (is_mentioned self.new x)) }
-    {
-        match pattern.form() {
-            PatForm::Unnamed => Ok(()),
-            PatForm::Name(name, _) => self.add_text(alloc, name.as_str()),
-            PatForm::Both(first, second) => {
-                self.add_bound(alloc, first)?;
-                self.add_bound(alloc, second)
+        match around {
+            Around::Nothing => Ok(()),
+            Around::Name(name) => self.add(plan, *name),
+            Around::Both(first, second) => {
+                self.add_around(plan, first)?;
+                self.add_around(plan, second)
             }
         }
     }
 
     /// Adds the names around code. The error is a want of memory.
-    pub(crate) fn add_code(&mut self, alloc: Global, code: &OpenCode) -> Result<(), AllocError>
-        ensures kept { OnOk result (HasAll self.old self.new) }
-        ensures added { OnOk result ((x : NameOf) → is_some (place_in x (around_pattern code.now.around)) ≡ true → IsTrue (is_mentioned self.new x)) }
+    pub(crate) fn add_code(&mut self, plan: &Plan, code: &OpenCode) -> Result<(), AllocError>
+        ensures kept { OnOk result (HasAll (plan_expressions plan.now) self.old self.new) }
+        ensures added { let e = plan_expressions plan.now in
+            OnOk result ((x : NameOf) → is_some (place_in x (patterns_around e code.now.around)) ≡ true → IsTrue (is_mentioned e self.new x)) }
     {
         match &code.around {
             None => Ok(()),
-            Some(pattern) => self.add_bound(alloc, pattern),
+            Some(around) => self.add_around(plan, around),
         }
     }
 }
 
-impl<'a> Binder<'a> {
+impl Binder {
     // Whether it binds a name.
-    fn binds(self, name: &str) -> bool
-        ensures { result ≡ binds_name (bound_pattern self.entry) name.now }
+    fn binds(self, plan: &Plan, name: NameId) -> bool
+        ensures { let e = plan_expressions plan.now in result ≡ binds_name (bound_pattern e self) (name_at e name) }
     {
         match self {
-            Binder::Pattern(pattern) => binds(pattern, name),
-            Binder::Name(own) => name == own,
-            Binder::Both(own, pattern) => name == own || binds(pattern, name),
+            Binder::Pattern(pattern) => binds(plan.numbered(pattern), plan.number(name)),
+            Binder::Name(own) => plan.same_name(name, own),
+            Binder::Both(own, pattern) => {
+                plan.same_name(name, own) || binds(plan.numbered(pattern), plan.number(name))
+            }
         }
     }
 }
 
-// Whether a pattern binds a name.
-fn binds(pattern: &Pat, name: &str) -> bool
-    ensures { result ≡ binds_name (pattern_of pattern.now) name.now }
+// Whether a pattern binds the name of a number.
+fn binds(pattern: &NumberedPattern, number: usize) -> bool
+    ensures { (x : NameOf) (p : PatternOf) → TellsName number x pattern.now p → result ≡ binds_name p x }
 {
-    match pattern.form() {
-        PatForm::Unnamed => false,
-        PatForm::Name(own, _) => name == own.as_str(),
-        PatForm::Both(first, second) => binds(first, name) || binds(second, name),
+    match pattern {
+        NumberedPattern::Unnamed => false,
+        NumberedPattern::Name(own) => number == *own,
+        NumberedPattern::Both(first, second) => binds(first, number) || binds(second, number),
     }
 }
 
 // Whether some of these names are bound there.
-fn any_is_bound(names: &[Rc<String>], binder: Binder) -> bool
-    ensures { result ≡ false → (x : NameOf) → IsTrue (has_name names.now x) → BindsOthers (bound_pattern binder.entry) x }
+fn any_is_bound(plan: &Plan, names: &[NameId], binder: Binder) -> bool
+    ensures { let e = plan_expressions plan.now in
+        result ≡ false → (x : NameOf) → IsTrue (has_name e names.now x) → BindsOthers (bound_pattern e binder) x }
 {
     match names {
         [] => false,
-        [first, rest @ ..] => binder.binds(first.as_str()) || any_is_bound(rest, binder),
+        [first, rest @ ..] => binder.binds(plan, *first) || any_is_bound(plan, rest, binder),
     }
 }
 
 // Whether a name is among these.
-fn is_among(names: &[Rc<String>], name: &str) -> bool
-    ensures { result ≡ has_name names.now name.now }
+fn is_among(plan: &Plan, names: &[NameId], name: NameId) -> bool
+    ensures { let e = plan_expressions plan.now in result ≡ has_name e names.now (name_at e name) }
 {
     match names {
         [] => false,
-        [first, rest @ ..] => name == first.as_str() || is_among(rest, name),
+        [first, rest @ ..] => plan.same_name(name, *first) || is_among(plan, rest, name),
     }
 }

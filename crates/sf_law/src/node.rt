@@ -151,10 +151,10 @@ pub enum PlanNode {
     Headed(Heading, ExprId, OpenCode, PlanId),
     /// A term with a function at its head, and the code that is run for the function.
     Transformed(FunctionId, OpenCode, PlanId),
-    /// A term that waits for its event, and the body that takes over inside a pattern.
-    Switching(Switching, PlanId, PatternId, PlanId),
-    /// A term and its observer, and the body that takes over inside a name and a pattern.
-    Keeping(Observation, PlanId, PlanId, NameId, PatternId, PlanId),
+    /// A term that waits for its event, and the body that takes over.
+    Switching(PlanSwitch),
+    /// A term and its observer, and the body that takes over.
+    Keeping(PlanKeeping),
     /// The members of a collection.
     Gathered(Rc<PlanCollection>),
     /// Members and their observer, and the body that takes over.
@@ -163,6 +163,36 @@ pub enum PlanNode {
     Editing(PlanEditing),
     /// Two or more stages, each before the others.
     Pipeline(Vec<PlanId>),
+}
+
+/// A term that waits for its event, and the body that takes over inside a pattern.
+#[derive(Clone, Copy, Debug, PartialEq, Eq)]
+pub struct PlanSwitch {
+    /// Which of the four switches it is.
+    pub form: Switching,
+    /// The term that waits.
+    pub source: PlanId,
+    /// The pattern of the event in the body.
+    pub pattern: PatternId,
+    /// The term that takes over.
+    pub body: PlanId,
+}
+
+/// A term and its observer, and the body that takes over inside a name and a pattern.
+#[derive(Clone, Copy, Debug, PartialEq, Eq)]
+pub struct PlanKeeping {
+    /// Which output is shown at the event.
+    pub shown: Observation,
+    /// The term that waits.
+    pub source: PlanId,
+    /// The term that observes it.
+    pub observer: PlanId,
+    /// The name of the source in the body.
+    pub name: NameId,
+    /// The pattern of the event in the body.
+    pub pattern: PatternId,
+    /// The term that takes over.
+    pub body: PlanId,
 }
 
 /// Members and their observer, and the body that takes over inside a name and a pattern.

@@ -12,18 +12,19 @@ ghost use Rattle.sf_law.specs.declared.node.PlanId.{PlanId as PlanIdOf};
 ghost use Rattle.sf_law.specs.Headers.{PlanHeader};
 ghost use Rattle.sf_law.specs.Entries.{IsCodedPrimitive, IsCodedArgument, IsCoded, calls_first};
 ghost use Rattle.sf_law.specs.Arena.{plan_expressions, plan_asked, node_count, plan_headers};
-ghost use Rattle.sf_law.specs.Copies.{plan_id as id_of, stands_under, named_process, CopiesArgument, CopiesPrimitive, CopiesNode, CopiesParameter, CopiesTemplate, ShowsTerms};
+ghost use Rattle.sf_law.specs.Copies.{plan_id as id_of, stands_under, named_process, copied_switch, copied_keeping, CopiesArgument, CopiesPrimitive, CopiesNode, CopiesParameter, CopiesTemplate, ShowsTerms};
 ghost use Rattle.sf_law.specs.Plans.{IsPlanOf};
 ghost use Rattle.sf_law.specs.declared.mentioned.Mentioned.TheVariants.{Any as any_name};
 
 use crate::members::{TermPlans, plan_editing, plan_gathered, plan_members, plan_releasing};
-use crate::node::{PlanArgument, PlanId, PlanNode, PlanPrimitive};
+use crate::node::{PlanArgument, PlanId, PlanKeeping, PlanNode, PlanPrimitive, PlanSwitch};
 use crate::plan::Plan;
 use crate::template::{PlanParameter, PlanTemplate};
 use sf_code::{OpenCode, expression_code, function_code};
 use sf_expr::{Exprs, FunctionId, NameId, Pat, PatternId};
 use sf_term::{
-    Argument, ArgumentsId, Naming, Node, Parameter, Primitive, Program, Start, Template, TermId,
+    Argument, ArgumentsId, Keeping, Naming, Node, Parameter, Primitive, Program, Start, Switch,
+    Template, TermId,
 };
 use std::alloc::{AllocError, Global};
 use std::rc::Rc;
@@ -181,19 +182,42 @@ pub fn plan_node(
             let head = function_code(alloc, exprs, function)?;
             Ok(PlanNode::Transformed(function, head, terms.id(part)))
         }
-        Node::Switching(form, source, pattern, body) => {
-            let source = terms.id(source);
-            Ok(PlanNode::Switching(form, source, pattern, terms.id(body)))
-        }
-        Node::Keeping(shown, source, observer, name, _, pattern, body) => {
-            let source = terms.id(source);
-            let observer = terms.id(observer);
-            let body = terms.id(body);
-            Ok(PlanNode::Keeping(shown, source, observer, name, pattern, body))
-        }
+        Node::Switching(node) => Ok(PlanNode::Switching(plan_switch(terms, node))),
+        Node::Keeping(node) => Ok(PlanNode::Keeping(plan_keeping(terms, node))),
         Node::Gathered(members) => plan_gathered(alloc, exprs, program, terms, members),
         Node::Releasing(node) => plan_releasing(alloc, exprs, program, terms, node),
         Node::Editing(node) => plan_editing(alloc, exprs, program, terms, node),
+    }
+}
+
+// A switch.
+fn plan_switch(terms: TermPlans, node: Switch) -> PlanSwitch
+    ensures { result ≡ copied_switch (stands_under terms.entry) node }
+{
+    let source = terms.id(node.source);
+    let body = terms.id(node.body);
+    PlanSwitch {
+        form: node.form,
+        source,
+        pattern: node.pattern,
+        body,
+    }
+}
+
+// A switch that knows its source.
+fn plan_keeping(terms: TermPlans, node: Keeping) -> PlanKeeping
+    ensures { result ≡ copied_keeping (stands_under terms.entry) node }
+{
+    let source = terms.id(node.source);
+    let observer = terms.id(node.observer);
+    let body = terms.id(node.body);
+    PlanKeeping {
+        shown: node.shown,
+        source,
+        observer,
+        name: node.name,
+        pattern: node.pattern,
+        body,
     }
 }
 
@@ -331,7 +355,7 @@ fn shared_code(
     exprs: &Exprs,
     function: FunctionId,
 ) -> Result<Rc<OpenCode>, AllocError>
-    ensures { IfOk result (λ code. IsCodeOfFunction (function_at exprs.now function) code.value) }
+    ensures { IfOk result (λ code. IsCodeOfFunction exprs.now (function_at exprs.now function) code.value) }
 {
     let code = function_code(alloc, exprs, function)?;
     Ok(Rc::new(alloc, code)?)

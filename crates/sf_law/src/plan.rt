@@ -11,8 +11,11 @@ ghost use Rattle.sf_law.specs.Mentioned.{AreCovered, MayCover};
 ghost use Rattle.sf_law.specs.Entries.{ArePlanNodes, BindsNames, IsCoded, is_whole, calls_first, parts_end};
 ghost use Rattle.sf_law.specs.Asking.{AreAsked, is_asked};
 ghost use Rattle.sf_law.specs.declared.mentioned.Mentioned.TheVariants.{Any as any_name};
-ghost use Rattle.sf_expr.specs.Arena.{name_at};
-ghost use Rattle.sf_law.specs.Unique.{IsCoded-prop, BindsNames-prop, ArePlaces-prop};
+ghost use Rattle.std.specs.Prelude.{bytes_eq};
+ghost use Rattle.sf_expr.specs.Arena.{name_at, placed_at};
+ghost use Rattle.sf_expr.specs.Patterns.{pattern_of};
+ghost use Rattle.sf_expr.specs.Numbered.{number_at, numbered_at, AreNumbers, TellsName};
+ghost use Rattle.sf_law.specs.Unique.{IsCoded-prop, BindsNames-prop, ArePlaces-prop, TellsName-prop};
 ghost use Rattle.std.proofs.Props.{props};
 
 use crate::asked::asked_names;
@@ -22,7 +25,7 @@ use crate::node::{PlanId, PlanNode, PlanPrimitive, TemplateId};
 use crate::places::{all_places, place_in};
 use crate::template::{PlanTemplate, first_templates, put_bodies};
 use indexmap::IndexMap;
-use sf_expr::{Exprs, NameId};
+use sf_expr::{Exprs, NameId, NumberedPattern, Numbers, PatternId};
 use sf_term::Bare;
 use sf_value::Ty;
 use std::alloc::{AllocError, Global};
@@ -31,6 +34,8 @@ use std::collections::BTreeMap;
 /// The network that is run: its terms with their expressions and functions, its templates, and the term that is run.
 pub struct Plan {
     expressions: Exprs,
+    // the numbers of its names: no text is compared while it runs
+    numbering: Numbers,
     nodes: Vec<PlanNode>,
     templates: Vec<PlanTemplate>,
     numbers: IndexMap<String, usize>,
@@ -40,6 +45,7 @@ pub struct Plan {
     mentions: Vec<Mentioned>,
     identity: PlanNode,
     absent: PlanTemplate,
+    ghost told: { AreNumbers expressions numbering } by { Prim.hlevel (props, TellsName-prop) },
     ghost arena: { ArePlanNodes expressions templates.items nodes.items } by { Prim.hlevel (props, IsCoded-prop) },
     ghost enough: { AreAsked expressions templates.items asked nodes.items },
     ghost few: { length mentions.items ≤ length nodes.items },
@@ -55,6 +61,7 @@ impl Drop for Plan {
     fn drop(self) {
         let Plan {
             expressions,
+            numbering,
             nodes,
             templates,
             numbers,
@@ -66,6 +73,7 @@ impl Drop for Plan {
             absent,
         } = self;
         drop(expressions);
+        drop(numbering);
         drop(nodes);
         drop(templates);
         drop(numbers);
@@ -79,7 +87,8 @@ impl Drop for Plan {
 
 impl Plan {
     ghost use Rattle.sf_law.specs.declared.node.PlanId.{PlanId as PlanIdOf};
-    ghost use Rattle.sf_law.specs.Arena.{plan_expressions, plan_asked, plan_asks, node_count, plan_node_at, plan_tree, plan_headers, plan_main};
+    ghost use Rattle.sf_expr.specs.declared.exprs.NameId.{NameId as NameIdOf};
+    ghost use Rattle.sf_law.specs.Arena.{plan_expressions, plan_numbers, plan_asked, plan_asks, node_count, plan_node_at, plan_tree, plan_headers, plan_main};
     ghost use Rattle.sf_law.specs.Arena.{plan_number, template_number, header_at, AsksOnly, BuildsPlan, KeepsPlan, AddsNode};
 
     /// A plan over these expressions, with these templates and no term yet. It asks for any name.
@@ -94,10 +103,12 @@ impl Plan {
         ensures templates { IfOk result (λ plan. plan_headers plan ≡ templates.items) }
         ensures asked { IfOk result (λ plan. plan_asked plan ≡ any_name) }
     {
+        let numbering = Numbers::of(alloc, &expressions)?;
         let numbers = first_templates(alloc, &templates)?;
         let places = all_places(alloc, &expressions, &templates)?;
         Ok(Plan {
             expressions,
+            numbering,
             nodes: Vec::new(alloc),
             templates,
             numbers,
@@ -190,7 +201,7 @@ impl Plan {
 
     /// Names that a term mentions, with each that it does, where the plan lists them.
     pub fn mentioned(&self, term: PlanId) -> Option<&Mentioned>
-        ensures { MayCover (option_map (λ m. m.now) result) (plan_tree self.now term) }
+        ensures { MayCover (plan_expressions self.now) (option_map (λ m. m.now) result) (plan_tree self.now term) }
     {
         match self.mentions.get(term.0) {
             Some(mentioned) => Some(mentioned),
@@ -232,11 +243,11 @@ impl Plan {
     }
 
     /// The place of the last parameter of a name in a template, from 0; none where it has none of that name.
-    pub fn place(&self, id: TemplateId, name: &str) -> Option<usize>
-        ensures { result ≡ last_parameter name.now (names_of_parameters (plan_expressions self.now) (header_at self.now id).parameters) }
+    pub fn place(&self, id: TemplateId, name: NameId) -> Option<usize>
+        ensures { result ≡ last_parameter (name_at (plan_expressions self.now) name) (names_of_parameters (plan_expressions self.now) (header_at self.now id).parameters) }
     {
         match self.places.get(id.0) {
-            Some(places) => place_in(places, name),
+            Some(places) => place_in(places, self.expressions.name_of(name)),
             None => None,
         }
     }
@@ -255,11 +266,33 @@ impl Plan {
         &self.expressions
     }
 
+    /// The number of a name: names have the same where their texts are the same.
+    pub fn number(&self, name: NameId) -> usize
+        ensures { result ≡ number_at (plan_numbers self.now) name }
+    {
+        self.numbering.number(name)
+    }
+
+    /// A pattern, of which each name is its number.
+    pub fn numbered(&self, pattern: PatternId) -> &NumberedPattern
+        ensures { let e = plan_expressions self.now in
+            (k : NameIdOf) → TellsName (number_at (plan_numbers self.now) k) (name_at e k) result.now (pattern_of (placed_at e pattern)) }
+    {
+        self.numbering.pattern(pattern)
+    }
+
+    /// Whether the texts of two names are the same. None is compared.
+    pub fn same_name(&self, first: NameId, second: NameId) -> bool
+        ensures { let e = plan_expressions self.now in result ≡ bytes_eq (name_at e first) (name_at e second) }
+    {
+        self.number(first) == self.number(second)
+    }
+
     /// Whether it may ask what a process of this name began as: where it doesn't, that need not be kept.
     pub fn asks(&self, name: NameId) -> bool
         ensures { result ≡ plan_asks self.now (name_at (plan_expressions self.now) name) }
     {
-        self.asked.has(self.expressions.name_of(name))
+        self.asked.has(self, name)
     }
 
     /// The term that is run.

@@ -1,11 +1,11 @@
 //! The parts of values of each type.
-ghost use Rattle.std.specs.Prelude.{◌≡◌, IfOk};
+ghost use Rattle.std.specs.Prelude.{◌≡◌, IfOk, IfSome, map, length};
 ghost use Rattle.std.specs.Option.{option_map};
-ghost use Rattle.sf_value.specs.View.{key_of, rows_of};
+ghost use Rattle.sf_value.specs.View.{key_of, rows_under};
 ghost use Rattle.sf_operator.specs.Operations.{truth_in, number_in as a_number_in, halves_in as the_halves_in, payload_in as the_payload_in, rows_in as the_rows_in, key_in as a_key_in, order_of as the_order_of};
 ghost use Rattle.sf_operator.specs.FunctionForms.{value_of_key as the_value_of_key};
 
-use sf_value::{Form, Key, Value};
+use sf_value::{Form, Key, Rows, Value};
 use std::alloc::AllocError;
 use std::cmp::Ordering;
 use std::rc::Rc;
@@ -51,9 +51,10 @@ pub fn payload_in(value: &Value) -> Option<Option<&Rc<Value>>>
     }
 }
 
-/// The rows of a table; none of another value.
-pub fn rows_in(value: &Value) -> Option<&[(Key, Value)]>
-    ensures { option_map (λ rs. rows_of rs.now) result ≡ the_rows_in value.now }
+/// The rows of a table, which has a value for each of its keys; none of another value.
+pub fn rows_in(value: &Value) -> Option<Rows<'_>>
+    ensures rows { option_map (λ rs. rows_under (map key_of rs.keys.now) rs.values.now) result ≡ the_rows_in value.now }
+    ensures as_many { IfSome result (λ rs. length rs.keys.now ≡ length rs.values.now) }
 {
     match value.form() {
         Form::Table(_) => Some(value.rows()),

@@ -1,7 +1,7 @@
 //! What operators make of values.
-ghost use Rattle.std.specs.Prelude.{◌≡◌, Result, pos};
+ghost use Rattle.std.specs.Prelude.{◌≡◌, Result, pos, map, length};
 ghost use Rattle.sf_value.specs.Values.{event};
-ghost use Rattle.sf_value.specs.View.{rows_of};
+ghost use Rattle.sf_value.specs.View.{key_of, rows_under};
 ghost use Rattle.sf_operator.specs.Outcomes.{answer, nonsense as the_nonsense, tested};
 ghost use Rattle.sf_operator.specs.Operations.{unary_value, decided, operated, row_count, same_data, of_equality, of_comparison};
 ghost use Rattle.sf_operator.specs.Answers.{Evaluates};
@@ -10,7 +10,7 @@ use crate::arithmetic::{calculate, narrow};
 use crate::fault::EvalFault;
 use crate::operator::{Arithmetic, Comparison, Equality, Logic, Merge, Operator, Unary};
 use crate::parts::{halves_in, is_true, key_in, number_in, order_of, payload_in, rows_in};
-use sf_value::{Form, Key, Value, ValueFault, same};
+use sf_value::{Form, Rows, Value, ValueFault, same};
 use std::alloc::Global;
 use std::cmp::Ordering;
 
@@ -68,10 +68,11 @@ pub fn operate_on(alloc: Global, operator: Unary, value: &Value) -> Result<Value
 
 /// How many rows there are.
 #[tactic(auto, using(crate::proofs::Counting::rows_counted))]
-fn size(rows: &[(Key, Value)]) -> Result<Value, EvalFault>
-    ensures { Evaluates result (tested (pos (row_count (rows_of rows.now)))) }
+fn size(rows: Rows) -> Result<Value, EvalFault>
+    requires { length rows.keys.now ≡ length rows.values.now }
+    ensures { Evaluates result (tested (pos (row_count (rows_under (map key_of rows.entry.keys.now) rows.entry.values.now)))) }
 {
-    Ok(Value::int(narrow(rows.len() as i128)?))
+    Ok(Value::int(narrow(rows.values.len() as i128)?))
 }
 
 /// What the first operand decides alone: false decides `and`, true `or`.

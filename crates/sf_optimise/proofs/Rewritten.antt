@@ -8,19 +8,18 @@ use Rattle.std.specs.declared.alloc.Global.{Global}
 use Rattle.std.proofs.lemmas.List.Elements.{All-head, All-tail}
 use Rattle.sf_expr.specs.declared.exprs.ExprId.{ExprId}
 use Rattle.sf_expr.specs.declared.exprs.NameId.{NameId}
-use Rattle.sf_expr.specs.declared.exprs.PatternId.{PatternId}
 use Rattle.sf_expr.specs.Patterns.{pattern_of}
 use Rattle.sf_expr.specs.Arena.{function_at, name_at, placed_at, Keeps}
 use Rattle.sf_term.specs.declared.form.Heading.{Heading}
 use Rattle.sf_term.specs.declared.form.Join.{Join}
 use Rattle.sf_term.specs.declared.form.Join.TheVariants.{InSequence}
 use Rattle.sf_term.specs.declared.form.Naming.TheVariants.{Process, Probe}
-use Rattle.sf_term.specs.declared.form.Observation.{Observation}
 use Rattle.sf_term.specs.declared.form.Side.{Side}
-use Rattle.sf_term.specs.declared.form.Switching.{Switching}
 use Rattle.sf_term.specs.declared.node.ArgumentsId.{ArgumentsId}
 use Rattle.sf_term.specs.declared.node.TermId.{TermId}
 use Rattle.sf_term.specs.declared.node.Argument.{Argument}
+use Rattle.sf_term.specs.declared.node.Switch.{Switch}
+use Rattle.sf_term.specs.declared.node.Keeping.{Keeping}
 use Rattle.sf_term.specs.declared.node.Releasing.{Releasing}
 use Rattle.sf_term.specs.declared.node.Editing.{Editing}
 use Rattle.sf_term.specs.declared.collection.CollectionId.{CollectionId}
@@ -46,7 +45,7 @@ use Rattle.sf_law.specs.declared.node.PlanPrimitive.{PlanPrimitive}
 use Rattle.sf_law.specs.declared.plan.Plan.{Plan}
 use Rattle.sf_law.specs.Entries.{primitive_over, closed_before}
 use Rattle.sf_law.specs.Arena.{node_count, plan_tree, plan_expressions, plan_expression_at, plan_arguments, plan_collection, BuildsPlan, builds_primitive, builds_started, builds_probe, builds_call, builds_transformed, builds_switching, builds_keeping, builds_gathered, builds_releasing, builds_editing, AddsNode}
-use Rattle.sf_law.specs.Copies.{named_process, CopiesPrimitive, CopiesCollection, copies_empty, copies_used, copies_added, copies_dropped, copies_kept, copies_chosen, CopiesReleasing, CopiesEditing, CopiesArgument, copies_value, copies_started, copies_closed, copies_members, CopiesNode, copies_primitive, copies_process, copies_probe, copies_call, copies_joined, copies_sided, copies_headed, copies_transformed, copies_switching, copies_keeping, copies_gathered, copies_releasing, copies_editing}
+use Rattle.sf_law.specs.Copies.{named_process, copied_switch, copied_keeping, CopiesPrimitive, CopiesCollection, copies_empty, copies_used, copies_added, copies_dropped, copies_kept, copies_chosen, CopiesReleasing, CopiesEditing, CopiesArgument, copies_value, copies_started, copies_closed, copies_members, CopiesNode, copies_primitive, copies_process, copies_probe, copies_call, copies_joined, copies_sided, copies_headed, copies_transformed, copies_switching, copies_keeping, copies_gathered, copies_releasing, copies_editing}
 use Rattle.sf_law.proofs.Copied.{StandBelow, value_same, function_same, pattern_same, same_primitive, named_tree}
 use Rattle.sf_rewrite.specs.Laws.{Laws, unchanged, in_turn, as_pipeline}
 use Rattle.sf_rewrite.specs.Plans.{is_started, Plans, plans, of_primitive, of_started, of_call, PlansArguments, of_no_arguments, of_value_argument, of_named_argument, of_closed_argument, of_term_argument, of_collection_argument, PlansCollection, of_without, of_used, of_added, of_dropped, of_kept, of_chosen, of_gathered, of_releasing, of_editing, of_join, of_side, of_heading, of_transformed, of_switch, of_keeping}
@@ -95,19 +94,21 @@ primitive_rewritten p q r a b kept held copied A =
     let one = primitive (primitive_over (plan_expressions q) b) in
     added A (primitive_built A.builds) plan_primitive (subst (λ t. Plans t one) (same_primitive p q kept a b copied held) (plans of_primitive unchanged))
 
-switching_rewritten : (p : Program) (q r : Plan) (w : Switching) (a b : TermId) (i : PatternId) {f g c : PlanId} → Keeps (expressions_of p) (plan_expressions q) → HoldsPatternIn p i → HoldsPlan (tree p a) q f → HoldsPlan (tree p b) q g
-    → AddsNode q r c (nodes.Switching w f i g) → HoldsPlan (term_of p (ast.Switching w a i b)) r c
-switching_rewritten p q r w a b i {f} {g} {c} kept held P Q A = added A (built A.builds ∙ ap (λ x. switching w (plan_tree q f) (pattern_of x) (plan_tree q g)) (pattern_same p q kept i held)) (plan_switch P.normal Q.normal) (plans (of_switch P.plan Q.plan) unchanged)
+switching_rewritten : (p : Program) (q r : Plan) (m : TermId → PlanId) (n : Switch) {c : PlanId} → Keeps (expressions_of p) (plan_expressions q) → HoldsPatternIn p n.pattern → HoldsPlan (tree p n.source) q (m n.source) → HoldsPlan (tree p n.body) q (m n.body)
+    → AddsNode q r c (nodes.Switching (copied_switch m n)) → HoldsPlan (term_of p (ast.Switching n)) r c
+switching_rewritten p q r m n {c} kept held P Q A =
+    added A (built A.builds ∙ ap (λ x. switching n.form (plan_tree q (m n.source)) (pattern_of x) (plan_tree q (m n.body))) (pattern_same p q kept n.pattern held)) (plan_switch P.normal Q.normal) (plans (of_switch P.plan Q.plan) unchanged)
   where
-    built : {u : Term} → BuildsPlan q (nodes.Switching w f i g) u → u ≡ switching w (plan_tree q f) (pattern_of (placed_at (plan_expressions q) i)) (plan_tree q g)
+    built : {u : Term} → BuildsPlan q (nodes.Switching (copied_switch m n)) u → u ≡ switching n.form (plan_tree q (m n.source)) (pattern_of (placed_at (plan_expressions q) n.pattern)) (plan_tree q (m n.body))
     built builds_switching = refl
 
-keeping_rewritten : (p : Program) (q r : Plan) (w : Observation) (a o b : TermId) (k : NameId) (s : _) (i : PatternId) {f h g c : PlanId} → Keeps (expressions_of p) (plan_expressions q) → HoldsTermParts p (ast.Keeping w a o k s i b)
-    → HoldsPlan (tree p a) q f → HoldsPlan (tree p o) q h → HoldsPlan (tree p b) q g → AddsNode q r c (nodes.Keeping w f h k i g) → HoldsPlan (term_of p (ast.Keeping w a o k s i b)) r c
-keeping_rewritten p q r w a o b k s i {f} {h} {g} {c} kept held P O Q A =
-    added A (built A.builds ∙ ap₂ (λ x y. keeping w (plan_tree q f) (plan_tree q h) x (pattern_of y) (plan_tree q g)) (kept.names k held.2) (pattern_same p q kept i held.3)) (plan_keeping P.normal O.normal Q.normal) (plans (of_keeping P.plan O.plan Q.plan) unchanged)
+keeping_rewritten : (p : Program) (q r : Plan) (m : TermId → PlanId) (n : Keeping) {c : PlanId} → Keeps (expressions_of p) (plan_expressions q) → HoldsTermParts p (ast.Keeping n)
+    → HoldsPlan (tree p n.source) q (m n.source) → HoldsPlan (tree p n.observer) q (m n.observer) → HoldsPlan (tree p n.body) q (m n.body) → AddsNode q r c (nodes.Keeping (copied_keeping m n)) → HoldsPlan (term_of p (ast.Keeping n)) r c
+keeping_rewritten p q r m n {c} kept held P O Q A =
+    added A (built A.builds ∙ ap₂ (λ x y. keeping n.shown (plan_tree q (m n.source)) (plan_tree q (m n.observer)) x (pattern_of y) (plan_tree q (m n.body))) (kept.names n.name held.2) (pattern_same p q kept n.pattern held.3)) (plan_keeping P.normal O.normal Q.normal) (plans (of_keeping P.plan O.plan Q.plan) unchanged)
   where
-    built : {u : Term} → BuildsPlan q (nodes.Keeping w f h k i g) u → u ≡ keeping w (plan_tree q f) (plan_tree q h) (name_at (plan_expressions q) k) (pattern_of (placed_at (plan_expressions q) i)) (plan_tree q g)
+    built : {u : Term} → BuildsPlan q (nodes.Keeping (copied_keeping m n)) u
+        → u ≡ keeping n.shown (plan_tree q (m n.source)) (plan_tree q (m n.observer)) (name_at (plan_expressions q) n.name) (pattern_of (placed_at (plan_expressions q) n.pattern)) (plan_tree q (m n.body))
     built builds_keeping = refl
 
 -- ## Collections and calls
@@ -144,8 +145,8 @@ not_started p (ast.Joined j a b) h = refl
 not_started p (ast.Sided d a) h = refl
 not_started p (ast.Headed g e a) h = refl
 not_started p (ast.Transformed f a) h = refl
-not_started p (ast.Switching w a q b) h = refl
-not_started p (ast.Keeping w a o j s q b) h = refl
+not_started p (ast.Switching n) h = refl
+not_started p (ast.Keeping n) h = refl
 not_started p (ast.Gathered c) h = refl
 not_started p (ast.Releasing n) h = refl
 not_started p (ast.Editing n) h = refl
@@ -262,8 +263,8 @@ module _ (p : Program) (q : Plan) (ids : List PlanId) (kept : Keeps (expressions
     where
       built : {u : Term} → BuildsPlan q (nodes.Transformed f d (plan_of ids a)) u → u ≡ transformed (function_at (plan_expressions q) f) (plan_tree q (plan_of ids a))
       built (builds_transformed w) = refl
-  form_kept r _ _ keeps held below (copies_switching {w} {a} {b} {q = i}) A = switching_rewritten p q r w a b i kept held.1 (holds a below.0) (holds b below.1) A
-  form_kept r _ _ keeps held below (copies_keeping {w} {a} {o} {b} {k} {s} {q = i}) A = keeping_rewritten p q r w a o b k s i kept held (holds a below.0) (holds o below.1) (holds b below.2) A
+  form_kept r _ _ keeps held below (copies_switching {n}) A = switching_rewritten p q r (plan_of ids) n kept held.1 (holds n.source below.0) (holds n.body below.1) A
+  form_kept r _ _ keeps held below (copies_keeping {n}) A = keeping_rewritten p q r (plan_of ids) n kept held (holds n.source below.0) (holds n.observer below.1) (holds n.body below.2) A
   form_kept r _ _ keeps held below (copies_gathered {c = i} {r = m} z) A = gathered_rewritten r i m held below z A
   form_kept r _ _ keeps held below (copies_releasing {s} {r = m} z) A = releasing_rewritten r s m held below z A
   form_kept r _ _ keeps held below (copies_editing {s} {r = m} z) A = editing_rewritten r s m held below z A

@@ -98,7 +98,7 @@ fn chain_in(alloc: Global, plan: &Plan, id: PlanId) -> Result<Option<Rc<PlanChai
         PlanNode::Joined(_, _, _) | PlanNode::Sided(_, _) => Ok(None),
         PlanNode::Headed(_, _, _, _) | PlanNode::Transformed(_, _, _) => Ok(None),
         PlanNode::Pipeline(_) => Ok(None),
-        PlanNode::Switching(_, _, _, _) | PlanNode::Keeping(_, _, _, _, _, _) => Ok(None),
+        PlanNode::Switching(_) | PlanNode::Keeping(_) => Ok(None),
         PlanNode::Gathered(_) | PlanNode::Releasing(_) | PlanNode::Editing(_) => Ok(None),
     }
 }
@@ -192,7 +192,7 @@ pub(crate) fn is_identity(plan: &Plan, id: PlanId) -> bool
         PlanNode::Joined(_, _, _) | PlanNode::Sided(_, _) => false,
         PlanNode::Headed(_, _, _, _) | PlanNode::Transformed(_, _, _) => false,
         PlanNode::Pipeline(_) => false,
-        PlanNode::Switching(_, _, _, _) | PlanNode::Keeping(_, _, _, _, _, _) => false,
+        PlanNode::Switching(_) | PlanNode::Keeping(_) => false,
         PlanNode::Gathered(_) | PlanNode::Releasing(_) | PlanNode::Editing(_) => false,
     }
 }

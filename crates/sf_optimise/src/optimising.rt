@@ -92,10 +92,9 @@ fn rewritten(
         Node::Primitive(_) | Node::Named(_, _, _) | Node::Call(_, _) => {
             of_its_form(alloc, plan, plans, program, node)
         }
-        Node::Transformed(_, _) | Node::Switching(_, _, _, _) => {
+        Node::Transformed(_, _) | Node::Switching(_) | Node::Keeping(_) => {
             of_its_form(alloc, plan, plans, program, node)
         }
-        Node::Keeping(_, _, _, _, _, _, _) => of_its_form(alloc, plan, plans, program, node),
         Node::Gathered(_) | Node::Releasing(_) | Node::Editing(_) => {
             of_its_form(alloc, plan, plans, program, node)
         }

@@ -29,8 +29,7 @@ pub fn quiet(program: &Program, id: TermId) -> bool
             is_quiet_function(program.expressions(), function) && quiet(program, part)
         }
         Node::Named(Naming::Probe, _, _) | Node::Named(Naming::Process(_), _, _) => false,
-        Node::Call(_, _) | Node::Switching(_, _, _, _) => false,
-        Node::Keeping(_, _, _, _, _, _, _) => false,
+        Node::Call(_, _) | Node::Switching(_) | Node::Keeping(_) => false,
         Node::Gathered(_) | Node::Releasing(_) | Node::Editing(_) => false,
     }
 }
@@ -71,8 +70,7 @@ pub(crate) fn is_quiet(plan: &Plan, id: PlanId) -> bool
         }
         PlanNode::Pipeline(stages) => are_quiet(plan, stages),
         PlanNode::Started(_, _) | PlanNode::Probe(_) | PlanNode::Call(_, _, _) => false,
-        PlanNode::Switching(_, _, _, _) => false,
-        PlanNode::Keeping(_, _, _, _, _, _) => false,
+        PlanNode::Switching(_) | PlanNode::Keeping(_) => false,
         PlanNode::Gathered(_) | PlanNode::Releasing(_) | PlanNode::Editing(_) => false,
     }
 }
@@ -161,12 +159,13 @@ pub(crate) fn is_quiet_expression(exprs: &Exprs, id: ExprId) -> bool
             is_quiet_expression(exprs, condition)
                 && (is_quiet_expression(exprs, first) && is_quiet_expression(exprs, second))
         }
-        ExprNode::Mapped(part, _, _, body) => {
-            is_quiet_expression(exprs, part) && is_quiet_expression(exprs, body)
+        ExprNode::Mapped(node) => {
+            is_quiet_expression(exprs, node.part) && is_quiet_expression(exprs, node.body)
         }
-        ExprNode::Folded(first, _, second, _, body) => {
-            is_quiet_expression(exprs, first)
-                && (is_quiet_expression(exprs, second) && is_quiet_expression(exprs, body))
+        ExprNode::Folded(node) => {
+            is_quiet_expression(exprs, node.first)
+                && (is_quiet_expression(exprs, node.second)
+                    && is_quiet_expression(exprs, node.body))
         }
         ExprNode::Called(_, _, _) => false,
     }

@@ -181,7 +181,7 @@ pattern_stands new q p xs there placed = record { held = there.0; placed = subst
 
 -- an expression with names for a value
 pub let_read : {v : Version} {one two new : Program} {a b id : ExprId} {p : PlacedPattern} {q : PatternId} {e : Expression} {spot : Spot} {r0 r1 r2 r3 r4 rest : List Spot} → KeepsTrees one two
-    → AddsExpression two new id (expressions.Mapped a mappings.Let q b) e spot → HoldsPatternIn new q × (pattern_under new q ≡ p) → Consumes (PatternPlaced p) r0 r1 → BehindOne r1 r2 → Consumes (ExpressionPlaced v one a) r2 r3
+    → AddsExpression two new id (expressions.Mapped (record { part = a; mapping = mappings.Let; pattern = q; body = b })) e spot → HoldsPatternIn new q × (pattern_under new q ≡ p) → Consumes (PatternPlaced p) r0 r1 → BehindOne r1 r2 → Consumes (ExpressionPlaced v one a) r2 r3
     → BehindOne r3 r4 → Consumes (ExpressionPlaced v two b) r4 rest → Consumes (ExpressionPlaced v new id) (spot ∷ r0) rest
 let_read {v} {one} {two} {new} {a} {b} {id} {p} {q} {e} {spot} k added there pattern equals value in_word body =
     behind_first (parted_read pattern equals (parted_read (stays_read added.kept.trees (stays_read k value)) in_word (stays_read added.kept.trees body))) (λ xs m.
@@ -191,7 +191,7 @@ let_read {v} {one} {two} {new} {a} {b} {id} {p} {q} {e} {spot} k added there pat
 
 -- an expression and a function in brackets
 pub one_and_function_read : {v : Version} {one two new : Program} {a b id : ExprId} {m : Mapping} {p : PlacedPattern} {q : PatternId} {e : Expression} {spot : Spot} {r r0 r1 r2 r3 rest : List Spot} → maps_in_brackets m ≡ true
-    → KeepsTrees one two → AddsExpression two new id (expressions.Mapped a m q b) e spot → HoldsPatternIn new q × (pattern_under new q ≡ p) → BehindOne r r0 → Consumes (ExpressionPlaced v one a) r0 r1 → BehindOne r1 r2
+    → KeepsTrees one two → AddsExpression two new id (expressions.Mapped (record { part = a; mapping = m; pattern = q; body = b })) e spot → HoldsPatternIn new q × (pattern_under new q ≡ p) → BehindOne r r0 → Consumes (ExpressionPlaced v one a) r0 r1 → BehindOne r1 r2
     → Consumes (Parted (PatternPlaced p) (ExpressionPlaced v two b)) r2 r3 → BehindOne r3 rest → Consumes (ExpressionPlaced v new id) (spot ∷ r) rest
 one_and_function_read {v} {one} {two} {new} {a} {b} {id} {m} {p} {q} {e} {spot} brackets k added there opening value comma function closing =
     behind_opening opening (in_brackets_read (stays_read added.kept.trees (stays_read k value)) comma function closing (λ comma closing xs zs x n.
@@ -200,7 +200,7 @@ one_and_function_read {v} {one} {two} {new} {a} {b} {id} {m} {p} {q} {e} {spot} 
 
 -- two expressions and a function in brackets
 pub two_and_function_read : {v : Version} {one two three new : Program} {a b c id : ExprId} {o : Folding} {p : PlacedPattern} {q : PatternId} {e : Expression} {spot : Spot} {r r0 r1 r2 r3 r4 r5 rest : List Spot} → KeepsTrees one two → KeepsTrees two three
-    → AddsExpression three new id (expressions.Folded a o b q c) e spot → HoldsPatternIn new q × (pattern_under new q ≡ p) → BehindOne r r0 → Consumes (ExpressionPlaced v one a) r0 r1 → BehindOne r1 r2
+    → AddsExpression three new id (expressions.Folded (record { first = a; folding = o; second = b; pattern = q; body = c })) e spot → HoldsPatternIn new q × (pattern_under new q ≡ p) → BehindOne r r0 → Consumes (ExpressionPlaced v one a) r0 r1 → BehindOne r1 r2
     → Consumes (ExpressionPlaced v two b) r2 r3 → BehindOne r3 r4 → Consumes (Parted (PatternPlaced p) (ExpressionPlaced v three c)) r4 r5 → BehindOne r5 rest → Consumes (ExpressionPlaced v new id) (spot ∷ r) rest
 two_and_function_read {v} {one} {two} {three} {new} {a} {b} {c} {id} {o} {p} {q} {e} {spot} k l added there opening first comma second other function closing =
     behind_opening opening (in_brackets_read (stays_read added.kept.trees (stays_read l (stays_read k first))) comma (parted_read (stays_read added.kept.trees (stays_read l second)) other function) closing (λ comma closing xs ts x n.

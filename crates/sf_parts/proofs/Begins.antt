@@ -41,6 +41,8 @@ use Rattle.sf_law.specs.declared.node.TemplateId.{TemplateId}
 use Rattle.sf_law.specs.declared.node.PlanArgument.{PlanArgument}
 use Rattle.sf_law.specs.declared.node.PlanPrimitive.{PlanPrimitive}
 use Rattle.sf_law.specs.declared.node.PlanCollection.{PlanCollection}
+use Rattle.sf_law.specs.declared.node.PlanSwitch.{PlanSwitch}
+use Rattle.sf_law.specs.declared.node.PlanKeeping.{PlanKeeping}
 use Rattle.sf_law.specs.declared.node.PlanReleasing.{PlanReleasing}
 use Rattle.sf_law.specs.declared.node.PlanEditing.{PlanEditing}
 use Rattle.sf_law.specs.declared.node.PlanNode.TheVariants.{Primitive as NPrimitive, Joined as NJoined, Sided as NSided, Headed as NHeaded, Transformed as NTransformed, Switching as NSwitching, Keeping as NKeeping, Started as NStarted, Probe as NProbe, Call as NCall, Pipeline as NPipeline, Gathered as NGathered, Releasing as NReleasing, Editing as NEditing}
@@ -161,7 +163,7 @@ module _ (φ : AnswersByName) (p : Plan) where
   open_builds_headed i j c a t names r (builds_headed C) h e N = h e C N
 
   pub open_builds_transformed : {x : Data} (i : FunctionId) (c : OpenCode) (a : PlanId) (t : Term) (names : Env) (r : Result Opened Fault) → BuildsPlan p (NTransformed i c a) t
-      → ((e : Environment) → IsCodeOfFunction (function_at (plan_expressions p) i) c → IsNames φ p names e → Opens φ p (transformed (function_at (plan_expressions p) i) (plan_tree p a)) e x r)
+      → ((e : Environment) → IsCodeOfFunction (plan_expressions p) (function_at (plan_expressions p) i) c → IsNames φ p names e → Opens φ p (transformed (function_at (plan_expressions p) i) (plan_tree p a)) e x r)
       → (e : Environment) → IsNames φ p names e → Opens φ p t e x r
   open_builds_transformed i c a t names r (builds_transformed C) h e N = h e C N
 
@@ -250,15 +252,15 @@ module _ (φ : AnswersByName) (p : Plan) where
     open_editing_fails t f (builds_editing C) x e h = open_members_fails _ s.members.value x e f refl (h C.0)
 
   -- nodes of switches open as their terms do
-  pub open_builds_switch : {x : Data} (w : Switching) (a b : PlanId) (q : PatternId) (t : Term) (names : Env) (r : Result Opened Fault) → BuildsPlan p (NSwitching w a q b) t
-      → ((e : Environment) → IsNames φ p names e → Opens φ p (switching w (plan_tree p a) (pattern_of (placed_at (plan_expressions p) q)) (plan_tree p b)) e x r)
+  pub open_builds_switch : {x : Data} (s : PlanSwitch) (t : Term) (names : Env) (r : Result Opened Fault) → BuildsPlan p (NSwitching s) t
+      → ((e : Environment) → IsNames φ p names e → Opens φ p (switching s.form (plan_tree p s.source) (pattern_of (placed_at (plan_expressions p) s.pattern)) (plan_tree p s.body)) e x r)
       → (e : Environment) → IsNames φ p names e → Opens φ p t e x r
-  open_builds_switch w a b q t names r builds_switching h = h
+  open_builds_switch s t names r builds_switching h = h
 
-  pub open_builds_keeping : {x : Data} (w : Observation) (a b c : PlanId) (k : NameId) (q : PatternId) (t : Term) (names : Env) (r : Result Opened Fault) → BuildsPlan p (NKeeping w a b k q c) t
-      → ((e : Environment) → IsNames φ p names e → Opens φ p (keeping w (plan_tree p a) (plan_tree p b) (name_at (plan_expressions p) k) (pattern_of (placed_at (plan_expressions p) q)) (plan_tree p c)) e x r)
+  pub open_builds_keeping : {x : Data} (s : PlanKeeping) (t : Term) (names : Env) (r : Result Opened Fault) → BuildsPlan p (NKeeping s) t
+      → ((e : Environment) → IsNames φ p names e → Opens φ p (keeping s.shown (plan_tree p s.source) (plan_tree p s.observer) (name_at (plan_expressions p) s.name) (pattern_of (placed_at (plan_expressions p) s.pattern)) (plan_tree p s.body)) e x r)
       → (e : Environment) → IsNames φ p names e → Opens φ p t e x r
-  open_builds_keeping w a b c k q t names r builds_keeping h = h
+  open_builds_keeping s t names r builds_keeping h = h
 
   pub open_started : (w : Start) (k : NameId) (t : Term) (names : Env) (a : State) → BuildsPlan p (NStarted w k) t
       → ((e : Environment) → IsNames φ p names e → Stands φ p a (process_started w (name_at (plan_expressions p) k) e) [])

@@ -12,6 +12,7 @@ use Rattle.sf_operator.specs.declared.fault.EvalFault.TheVariants.{Value as EVal
 use Rattle.sf_expr.specs.Expressions.{Expression, Function}
 use Rattle.sf_expr.specs.Evaluation.{Evaluated, Scope, answer, failed, ◌>>=◌, eval}
 use Rattle.sf_code.specs.Names.{scope_with}
+use Rattle.sf_expr.specs.declared.exprs.Exprs.{Exprs}
 use Rattle.sf_code.specs.Worth.{frame_around, IsCodeOfFunction, IsCodeOfFunctionIn}
 use Rattle.sf_code.specs.declared.open.OpenCode.{OpenCode}
 use Rattle.sf_term.specs.Trees.{Term}
@@ -52,7 +53,7 @@ not_told stands (EValue y) h = makes_fault h
 not_told stands EMemory h = makes_nothing
 
 -- code over the frame of the names in a scope
-pub coded_over : {f : Function} {c : OpenCode} → IsCodeOfFunction f c → (s : Scope) (around : List Data) → around ≡ frame_around c.around s → IsCodeOfFunctionIn s f around c.code
+pub coded_over : {x : Exprs} {f : Function} {c : OpenCode} → IsCodeOfFunction x f c → (s : Scope) (around : List Data) → around ≡ frame_around x c.around s → IsCodeOfFunctionIn s f around c.code
 coded_over {f} {c} C s around e = subst (λ (a : List Data). IsCodeOfFunctionIn s f a c.code) (sym e) (record { worth = λ d. C.worth s d })
 
 module _ (φ : AnswersByName) (p : Plan) (names : Env) (e : Environment) (N : IsNames φ p names e) where

@@ -4,10 +4,9 @@ use Rattle.std.proofs.lemmas.List.{map-append}
 use Rattle.sf_value.specs.Values.{KeyData, Data, Rows, no_rows, row}
 use Rattle.sf_value.specs.Keys.{AreNew, AreDifferentKeys}
 use Rattle.sf_value.specs.Tables.{IsFirstRepeatedKey}
-use Rattle.sf_value.specs.View.{key_of, rows_of}
-use Rattle.sf_state.proofs.Sought.{none_before}
+use Rattle.sf_value.specs.View.{key_of, rows_of, rows_under}
 use Rattle.sf_value.specs.declared.value.Key.{Key}
-use Rattle.sf_parts.specs.Tables.{rows_under}
+use Rattle.sf_parts.proofs.Sought.{none_before}
 
 -- rows of a list, and then others
 abbrev pub rows_then : List (Key × Data) → Rows → Rows

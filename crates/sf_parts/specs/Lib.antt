@@ -3,4 +3,3 @@ pub mod Beginning
 pub mod Collecting
 pub mod Contexts
 pub mod Meters
-pub mod Tables

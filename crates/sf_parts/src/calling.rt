@@ -38,7 +38,7 @@ pub(crate) fn started(
     match start {
         Start::Fresh => Ok(State::Unborn(began(plan, names, name, name)?)),
         Start::Run => {
-            match names.running(plan, plan.expressions().name_of(name)) {
+            match names.running(plan, name) {
                 Some(handed) => handed.process.share(alloc),
                 None => Ok(State::unborn(plan.passing())),
             }
@@ -53,7 +53,7 @@ fn began(plan: &Plan, names: &Env, name: NameId, under: NameId) -> Result<Proces
         IfOk result (λ process. (φ : AnswersByName) (e : Environment) → IsNames φ plan.now names.now e → IsTrue (plan_asks plan.now (name_at x under)) → IsTrue (plan_asks plan.now (name_at x name)) →
         IsProcess φ plan.now process (base (process_of (name_at x name) e))) }
 {
-    match names.running(plan, plan.expressions().name_of(name)) {
+    match names.running(plan, name) {
         Some(handed) => kept(plan, under, &handed.base),
         None => Ok(Process {
             term: plan.passing(),

@@ -25,8 +25,8 @@ use sf_expr::NameId;
 use sf_func::Holds;
 use sf_law::{Plan, PlanCollection, PlanId};
 use sf_operator::{is_true, value_of_key};
-use sf_state::{Env, Gathered, Keys, NamesIn, Process, State, own_states};
-use sf_value::{Fault, Form, Key, Value};
+use sf_state::{Env, Gathered, NamesIn, Process, State, own_states};
+use sf_value::{Fault, Form, Key, Keys, Value};
 use std::alloc::{AllocError, Global};
 use std::rc::Rc;
 
@@ -74,7 +74,7 @@ fn of_name(alloc: Global, plan: &Plan, name: NameId, names: &Env) -> Result<Gath
     ensures { IfOk result (λ members. (φ : AnswersByName) (e : Environment) → IsNames φ plan.now names.now e →
         HasMembers φ plan.now members (members_of (name_at (plan_expressions plan.now) name) e)) }
 {
-    match names.members(plan, plan.expressions().name_of(name)) {
+    match names.members(plan, name) {
         Some(members) => members.share(),
         None => Gathered::none(alloc),
     }
@@ -88,7 +88,7 @@ fn with_added<R: Holds>(
     term: PlanId,
     names: &Env,
 ) -> Result<Gathered, Fault>
-    ensures { let φ = R.answers context.now.functions.now in (j : Expression) (e : Environment) (ms : Members) → IsCodeOf j code.now → IsNames φ (plan_in context.now) names.now e → HasMembers φ (plan_in context.now) members ms →
+    ensures { let φ = R.answers context.now.functions.now in (j : Expression) (e : Environment) (ms : Members) → IsCodeOf (plan_expressions (plan_in context.now)) j code.now → IsNames φ (plan_in context.now) names.now e → HasMembers φ (plan_in context.now) members ms →
         MakesMembers φ (plan_in context.now) (added_under φ j (plan_tree (plan_in context.now) term) e ms) result }
 {
     match constant_in(context, code, names) {
@@ -109,7 +109,7 @@ fn without_dropped<R: Holds>(
     code: &OpenCode,
     names: &Env,
 ) -> Result<Gathered, Fault>
-    ensures { let φ = R.answers context.now.functions.now in (j : Expression) (e : Environment) (ms : Members) → IsCodeOf j code.now → IsNames φ (plan_in context.now) names.now e → HasMembers φ (plan_in context.now) members ms →
+    ensures { let φ = R.answers context.now.functions.now in (j : Expression) (e : Environment) (ms : Members) → IsCodeOf (plan_expressions (plan_in context.now)) j code.now → IsNames φ (plan_in context.now) names.now e → HasMembers φ (plan_in context.now) members ms →
         MakesMembers φ (plan_in context.now) (dropped_under φ j e ms) result }
 {
     match constant_in(context, code, names) {
@@ -128,7 +128,7 @@ fn keep_members<R: Holds>(
     code: &OpenCode,
     names: &Env,
 ) -> Result<Gathered, Fault>
-    ensures { let φ = R.answers context.now.functions.now in (f : Function) (e : Environment) (ms : Members) → IsCodeOfFunction f code.now → IsNames φ (plan_in context.now) names.now e →
+    ensures { let φ = R.answers context.now.functions.now in (f : Function) (e : Environment) (ms : Members) → IsCodeOfFunction (plan_expressions (plan_in context.now)) f code.now → IsNames φ (plan_in context.now) names.now e →
         HasMembers φ (plan_in context.now) members ms →
         MakesMembers φ (plan_in context.now) (keep (λ x. applied f x (scope_around φ e)) ms) result }
 {
@@ -172,7 +172,7 @@ fn is_kept<R: Holds>(
 
 // Whether a condition is met.
 fn is_met<R: Holds>(context: &SampleContext<R>, code: &OpenCode, names: &Env) -> Result<bool, Fault>
-    ensures { let φ = R.answers context.now.functions.now in (j : Expression) (e : Environment) → IsCodeOf j code.now → IsNames φ (plan_in context.now) names.now e →
+    ensures { let φ = R.answers context.now.functions.now in (j : Expression) (e : Environment) → IsCodeOf (plan_expressions (plan_in context.now)) j code.now → IsNames φ (plan_in context.now) names.now e →
         Makes (λ b v. b ≡ is_high_data v) (eval j (scope_around φ e)) result }
 {
     match constant_in(context, code, names) {

@@ -4,6 +4,7 @@ ghost use Rattle.sf_expr.specs.Expressions.{Expression, Function};
 ghost use Rattle.sf_expr.specs.Evaluation.{eval, apply as applied};
 ghost use Rattle.sf_code.specs.Names.{scope_with};
 ghost use Rattle.sf_code.specs.Worth.{IsCodeOf, IsCodeOfFunction};
+ghost use Rattle.sf_law.specs.Arena.{plan_expressions};
 ghost use Rattle.sf_operator.specs.Answers.{Evaluates};
 ghost use Rattle.sf_state.specs.Names.{values_around};
 ghost use Rattle.sf_parts.specs.Answering.{fault_from};
@@ -36,7 +37,7 @@ pub(crate) fn constant_in<R: Holds>(
     code: &OpenCode,
     names: &Env,
 ) -> Result<Value, EvalFault>
-    ensures { (e : Expression) → IsCodeOf e code.now →
+    ensures { (e : Expression) → IsCodeOf (plan_expressions (plan_in context.now)) e code.now →
         Evaluates result (eval e (scope_with (values_around (plan_in context.now) names.now) (R.answers context.now.functions.now))) }
 {
     let plan = context.plan;
@@ -51,7 +52,7 @@ pub(crate) fn made_in<R: Holds>(
     value: &Value,
     names: &Env,
 ) -> Result<Value, EvalFault>
-    ensures { (f : Function) → IsCodeOfFunction f code.now →
+    ensures { (f : Function) → IsCodeOfFunction (plan_expressions (plan_in context.now)) f code.now →
         Evaluates result (applied f value.now (scope_with (values_around (plan_in context.now) names.now) (R.answers context.now.functions.now))) }
 {
     let plan = context.plan;

@@ -26,17 +26,17 @@ use crate::collecting::collect;
 use crate::context::{SampleContext, constant_in, fault_of, made_in};
 use crate::routing::{on_side, with_head};
 use sf_code::OpenCode;
-use sf_expr::{NameId, PatternId};
+use sf_expr::NameId;
 use sf_func::Holds;
 use sf_law::{
-    Plan, PlanArgument, PlanCollection, PlanEditing, PlanId, PlanNode, PlanPrimitive,
-    PlanReleasing, TemplateId,
+    Plan, PlanArgument, PlanCollection, PlanEditing, PlanId, PlanKeeping, PlanNode, PlanPrimitive,
+    PlanReleasing, PlanSwitch, TemplateId,
 };
 use sf_prim::PrimState;
 use sf_state::{
     Editing, Env, Gathering, Keeping, Live, NamesIn, Process, Releasing, State, Switch, Wrap,
 };
-use sf_term::{Heading, Join, Observation, Start, Switching};
+use sf_term::{Heading, Join, Start};
 use sf_value::{Fault, Value};
 use std::alloc::{AllocError, Global};
 use std::rc::Rc;
@@ -129,21 +129,9 @@ fn open<R: Holds>(
             headed(context, *heading, code, *part, names)
         }
         PlanNode::Transformed(_, code, part) => transformed(context, code, *part, names, input),
-        PlanNode::Switching(form, first, pattern, body) => {
-            switching(context.alloc, *form, *first, *pattern, *body, names)
-        }
+        PlanNode::Switching(form) => switching(context.alloc, form, names),
         PlanNode::Pipeline(stages) => pipeline(context.alloc, stages, names),
-        PlanNode::Keeping(shown, source, observer, name, pattern, body) => keeping(
-            context.alloc,
-            context.plan,
-            *shown,
-            *source,
-            *observer,
-            *name,
-            *pattern,
-            *body,
-            names,
-        ),
+        PlanNode::Keeping(form) => keeping(context.alloc, context.plan, form, names),
         PlanNode::Gathered(members) => gathered(context, members, names),
         PlanNode::Releasing(releasing) => members_under(context, releasing, names),
         PlanNode::Editing(editing) => members_edited(context, editing, names),
@@ -292,7 +280,7 @@ fn transformed<R: Holds>(
     names: &Env,
     input: &Value,
 ) -> Result<Opened, Fault>
-    ensures { let p = plan_in context.now in (function : FunctionId) (e : Environment) → IsCodeOfFunction (function_at (plan_expressions p) function) code.now →
+    ensures { let p = plan_in context.now in (function : FunctionId) (e : Environment) → IsCodeOfFunction (plan_expressions p) (function_at (plan_expressions p) function) code.now →
         IsNames (R.answers context.now.functions.now) p names.now e →
         Opens (R.answers context.now.functions.now) p (transformed_term (function_at (plan_expressions p) function) (plan_tree p part)) e input.now result }
 {
@@ -304,26 +292,19 @@ fn transformed<R: Holds>(
 
 // A switch before its first sample, with the names around it.
 #[inline(never)]
-fn switching(
-    alloc: Global,
-    form: Switching,
-    first: PlanId,
-    pattern: PatternId,
-    body: PlanId,
-    names: &Env,
-) -> Result<Opened, Fault>
-    ensures { (φ : AnswersByName) (p : PlanOf) (x : Data) (e : Environment) → IsNames φ p names.now e →
-        Opens φ p (switching_term form (plan_tree p first) (pattern_of (placed_at (plan_expressions p) pattern)) (plan_tree p body)) e x result }
+fn switching(alloc: Global, form: &PlanSwitch, names: &Env) -> Result<Opened, Fault>
+    ensures { let s = form.now in (φ : AnswersByName) (p : PlanOf) (x : Data) (e : Environment) → IsNames φ p names.now e →
+        Opens φ p (switching_term s.form (plan_tree p s.source) (pattern_of (placed_at (plan_expressions p) s.pattern)) (plan_tree p s.body)) e x result }
 {
     let shared = names.share()?;
     let switch = Switch {
-        form,
+        form: form.form,
         running: State::Unborn(Process {
-            term: first,
+            term: form.source,
             names: shared,
         }),
-        pattern,
-        body,
+        pattern: form.pattern,
+        body: form.body,
     };
     let node = Rc::new(alloc, switch)?;
     Ok(Opened::Switch(node))
@@ -331,35 +312,25 @@ fn switching(
 
 // A switch that keeps its source, likewise. What it keeps has the names that its term mentions alone.
 #[inline(never)]
-fn keeping(
-    alloc: Global,
-    plan: &Plan,
-    shown: Observation,
-    source: PlanId,
-    observer: PlanId,
-    name: NameId,
-    pattern: PatternId,
-    body: PlanId,
-    names: &Env,
-) -> Result<Opened, Fault>
-    ensures { let p = plan.now in (φ : AnswersByName) (x : Data) (e : Environment) → IsNames φ p names.now e →
-        Opens φ p (keeping_term shown (plan_tree p source) (plan_tree p observer) (name_at (plan_expressions p) name) (pattern_of (placed_at (plan_expressions p) pattern)) (plan_tree p body))
+fn keeping(alloc: Global, plan: &Plan, form: &PlanKeeping, names: &Env) -> Result<Opened, Fault>
+    ensures { let p = plan.now in let s = form.now in (φ : AnswersByName) (x : Data) (e : Environment) → IsNames φ p names.now e →
+        Opens φ p (keeping_term s.shown (plan_tree p s.source) (plan_tree p s.observer) (name_at (plan_expressions p) s.name) (pattern_of (placed_at (plan_expressions p) s.pattern)) (plan_tree p s.body))
         e x result }
 {
-    let running = Process::within(alloc, plan, source, names)?;
+    let running = Process::within(alloc, plan, form.source, names)?;
     let around = names.share()?;
     let keeping = Keeping {
-        shown,
-        first: source,
+        shown: form.shown,
+        first: form.source,
         source: State::Unborn(running),
-        before: State::unborn(source),
+        before: State::unborn(form.source),
         observer: State::Unborn(Process {
-            term: observer,
+            term: form.observer,
             names: around,
         }),
-        name,
-        pattern,
-        body,
+        name: form.name,
+        pattern: form.pattern,
+        body: form.body,
     };
     let node = Rc::new(alloc, keeping)?;
     Ok(Opened::Keeping(node))

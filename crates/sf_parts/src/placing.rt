@@ -10,8 +10,8 @@ ghost use Rattle.sf_mean.specs.Collections.{add, drop as without};
 ghost use Rattle.sf_state.specs.Standing.{Stands};
 ghost use Rattle.sf_parts.specs.Collecting.{HasMembers};
 
-use sf_state::{Gathered, Keys, State, own_states};
-use sf_value::Key;
+use sf_state::{Gathered, State, own_states};
+use sf_value::{Key, Keys};
 use std::alloc::{AllocError, Global};
 use std::rc::Rc;
 
@@ -59,7 +59,6 @@ pub(crate) fn without_member(
 
 // Members without the one at a place.
 fn without_place(alloc: Global, members: Gathered, at: usize) -> Result<Gathered, AllocError>
-    requires { at < length members.keys.value }
     ensures { IfOk result (λ left. (φ : AnswersByName) (p : Plan) (k : KeyData) (ms : Members) → key_index k members.keys.value ≡ Some at → HasMembers φ p members ms → HasMembers φ p left (without k ms)) }
 {
     let Gathered { keys, states, wait } = members;

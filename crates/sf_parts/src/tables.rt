@@ -1,14 +1,28 @@
 //! Tables of the values of members.
 ghost use Rattle.std.specs.Prelude.{◌≡◌, IfOk};
 ghost use Rattle.sf_value.specs.Values.{table};
-ghost use Rattle.sf_parts.specs.Tables.{rows_under};
+ghost use Rattle.sf_value.specs.View.{rows_under};
 
-use sf_state::Keys;
-use sf_value::{TableRefusal, Value};
+use sf_value::{Keys, TableRefusal, Value};
 use std::alloc::{AllocError, Global};
+use std::rc::Rc;
 
-/// A table of values, each under the key at its place. The error is a want of memory alone.
-pub fn table_of(alloc: Global, keys: &Keys, values: Vec<Value>) -> Result<Value, AllocError>
+/// A table of values, each under the key at its place. It shares the keys, where each of them has a value, and takes memory for
+/// one node. The error is a want of memory, or too many owners.
+pub fn table_of(alloc: Global, keys: &Rc<Keys>, values: Vec<Value>) -> Result<Value, AllocError>
+    ensures { IfOk result (λ v. v ≡ table (rows_under keys.now.value values.items)) }
+{
+    if keys.len() == values.len() {
+        let shared = keys.clone()?;
+        return Value::under(alloc, shared, values);
+    }
+    table_of_some(alloc, &**keys, values)
+}
+
+// The same, as far as there are keys and values, under keys of its own.
+#[cold]
+#[inline(never)]
+fn table_of_some(alloc: Global, keys: &Keys, values: Vec<Value>) -> Result<Value, AllocError>
     ensures { IfOk result (λ v. v ≡ table (rows_under keys.now values.items)) }
 {
     let mut rows = Vec::with_capacity(alloc, values.len())?;

@@ -1,7 +1,6 @@
 //! Functions that are made into one, as they are run: links one after another, each on the value in its place.
 ghost use Rattle.std.specs.Prelude.{◌≡◌, true, false, IfOk, OnOk, option_to_list};
 ghost use Rattle.sf_func.specs.Registries.{AnswersByName};
-ghost use Rattle.sf_expr.specs.declared.exprs.Exprs.{Exprs};
 ghost use Rattle.sf_expr.specs.Expressions.{Function};
 ghost use Rattle.sf_expr.specs.Evaluation.{Scope, apply};
 ghost use Rattle.sf_code.specs.Arithmetic.{is_arithmetic as is_by_arithmetic};
@@ -48,7 +47,7 @@ pub(crate) fn links_of<N: Names>(
     chain: &PlanChain,
     names: &N,
 ) -> Result<Vec<Link>, AllocError>
-    ensures { (x : Exprs) → IsCodedChain x chain.now →
+    ensures { let x = N.expressions names.now in IsCodedChain x chain.now →
         IfOk result (λ links. (φ : AnswersByName) → AreLinksOf (scope_with (N.values names.now) φ) (chain_over x chain.now) links.items) }
 {
     let mut links = Vec::new(alloc);
@@ -64,7 +63,7 @@ fn add_links<N: Names>(
     names: &N,
     links: &mut Vec<Link>,
 ) -> Result<(), AllocError>
-    ensures { (x : Exprs) → IsCodedChain x chain.now →
+    ensures { let x = N.expressions names.now in IsCodedChain x chain.now →
         OnOk result ((φ : AnswersByName) → AddsLinks (scope_with (N.values names.now) φ) (apply_chain (chain_over x chain.now)) links.old.items links.new.items) }
 {
     match chain {
@@ -99,7 +98,7 @@ fn add_on_side<N: Names>(
     names: &N,
     links: &mut Vec<Link>,
 ) -> Result<(), AllocError>
-    ensures { (x : Exprs) → IsCodedChain x part.now →
+    ensures { let x = N.expressions names.now in IsCodedChain x part.now →
         OnOk result ((φ : AnswersByName) → AddsLinks (scope_with (N.values names.now) φ) (apply_chain (on_side side (chain_over x part.now))) links.old.items links.new.items) }
 {
     let inner = links_of(alloc, part, names)?;

@@ -109,7 +109,6 @@ impl PrimState {
     ghost use Rattle.std.specs.declared.rc.Rc.{Rc};
     ghost use Rattle.std.specs.declared.alloc.Global.{Global};
     ghost use Rattle.sf_code.specs.declared.open.OpenCode.{OpenCode};
-    ghost use Rattle.sf_expr.specs.declared.exprs.Exprs.{Exprs};
     ghost use Rattle.sf_expr.specs.Evaluation.{answer, eval as worth};
     ghost use Rattle.sf_term.specs.Trees.{Primitive as Form, bare as bare_form, with_value as form_with_value, timed as timed_form, arrow as arrow_form};
     ghost use Rattle.sf_law.specs.Entries.{primitive_over, IsCodedPrimitive};
@@ -124,7 +123,7 @@ impl PrimState {
         functions: &R,
         names: &N,
     ) -> Result<PrimState, EvalFault>
-        ensures { (x : Exprs) → IsCodedPrimitive x primitive.now →
+        ensures { let x = N.expressions names.now in IsCodedPrimitive x primitive.now →
             Begins (scope_with (N.values names.now) (R.answers functions.now)) (primitive_over x primitive.now) result }
     {
         match primitive {
@@ -163,7 +162,7 @@ impl PrimState {
         code: &Rc<OpenCode>,
         names: &N,
     ) -> Result<PrimState, AllocError>
-        ensures kept { IfOk result (λ prim. (φ : AnswersByName) (f : Function) → IsCodeOfFunction f code.now.value → Remembers prim (arrow_form f) (scope_with (N.values names.now) φ) []) }
+        ensures kept { IfOk result (λ prim. (φ : AnswersByName) (f : Function) → IsCodeOfFunction (N.expressions names.now) f code.now.value → Remembers prim (arrow_form f) (scope_with (N.values names.now) φ) []) }
         ensures bare { code.now.value.around ≡ None → IfOk result (λ prim. (own : Rc OpenCode Global) × (prim ≡ PrimState.Arrow own)) }
     {
         let closure = Closure::new(alloc, code, names)?;
@@ -289,7 +288,21 @@ impl PrimState {
 
     /// A copy, which keeps the same of a life. It shares the code of a function; the error is a want of memory, or too
     /// many owners of the code.
+    #[inline(always)]
     pub fn clone_in(&self, alloc: Global) -> Result<PrimState, AllocError>
+        ensures { IfOk result (λ copy. (q : Form) (scope : Scope) (L : Life) →
+            Remembers self.now q scope L → Remembers copy q scope L) }
+    {
+        match self {
+            // a value is copied here, and the other forms by a call
+            PrimState::Previous(value) => Ok(PrimState::Previous(value.clone_in(alloc)?)),
+            _ => self.clone_form(alloc),
+        }
+    }
+
+    // The same of any form.
+    #[inline(never)]
+    fn clone_form(&self, alloc: Global) -> Result<PrimState, AllocError>
         ensures { IfOk result (λ copy. (q : Form) (scope : Scope) (L : Life) →
             Remembers self.now q scope L → Remembers copy q scope L) }
     {

@@ -1,7 +1,7 @@
 //! Patterns and expressions as they are written.
 ghost use Rattle.std.specs.Prelude.{◌≡◌, OnOk, true};
-ghost use Rattle.sf_expr.specs.Arena.{expression, name_at, placed_at, pattern_at, body_at, function_at};
-ghost use Rattle.sf_expr.specs.Expressions.{literal, truth_literal, unit_literal, paired, applied, operation, conditional, mapped, folded, called};
+ghost use Rattle.sf_expr.specs.Arena.{expression, expression_of, name_at, placed_at, pattern_at, body_at, function_at};
+ghost use Rattle.sf_expr.specs.Expressions.{literal, truth_literal, unit_literal, paired, applied, operation, conditional, mapped, called};
 ghost use Rattle.sf_expr.specs.Patterns.{pattern_of};
 ghost use Rattle.sf_grammar.specs.Spelling.{in_brackets, spell_operand, spell_mapping, spell_pattern, spell_literal, spell_expression, spell_function};
 ghost use Rattle.sf_print.specs.Drafts.{append_tokens};
@@ -13,7 +13,7 @@ use crate::words::{
     Sign, folding_word, mapping_word, operator_sign, stands_between, takes_brackets, unary_word,
 };
 use sf_expr::{
-    Constant, ConstantForm, ExprId, ExprNode, Exprs, Folding, FunctionId, Mapping, NameId,
+    Constant, ConstantForm, ExprId, ExprNode, Exprs, Folded, FunctionId, Mapped, Mapping, NameId,
     Operator, Pat, PatForm, PatternId, Unary,
 };
 use sf_grammar::Version;
@@ -102,12 +102,8 @@ pub(crate) fn write_expression(
         ExprNode::Conditional(condition, first, second) => {
             write_conditional(exprs, version, condition, first, second, draft)
         }
-        ExprNode::Mapped(part, mapping, pattern, body) => {
-            write_mapped(exprs, version, part, mapping, pattern, body, draft)
-        }
-        ExprNode::Folded(first, folding, second, pattern, body) => {
-            write_folded(exprs, version, first, folding, second, pattern, body, draft)
-        }
+        ExprNode::Mapped(node) => write_mapped(exprs, version, node, draft),
+        ExprNode::Folded(node) => write_folded(exprs, version, node, draft),
         ExprNode::Called(name, _, part) => write_called(exprs, version, name, part, draft),
     }
 }
@@ -262,22 +258,19 @@ fn write_let(
 fn write_mapped(
     exprs: &Exprs,
     version: Version,
-    part: ExprId,
-    mapping: Mapping,
-    pattern: PatternId,
-    body: ExprId,
+    node: Mapped,
     draft: &mut Draft,
 ) -> Result<(), AllocError>
-    ensures { OnOk result (draft.new ≡ append_tokens draft.old (spell_expression version (mapped (expression exprs.now part) mapping (pattern_of (placed_at exprs.now pattern)) (expression exprs.now body)))) }
+    ensures { OnOk result (draft.new ≡ append_tokens draft.old (spell_expression version (expression_of exprs.now (ExprNode.Mapped node)))) }
 {
-    if mapping == Mapping::Let {
-        return write_let(exprs, version, part, pattern, body, draft);
+    if node.mapping == Mapping::Let {
+        return write_let(exprs, version, node.part, node.pattern, node.body, draft);
     }
-    draft.keyword(mapping_word(mapping))?;
+    draft.keyword(mapping_word(node.mapping))?;
     draft.symbol(Symbol::Open)?;
-    write_expression(exprs, version, part, draft)?;
+    write_expression(exprs, version, node.part, draft)?;
     draft.symbol(Symbol::Comma)?;
-    write_mapping(exprs, version, exprs.placed(pattern), body, draft)?;
+    write_mapping(exprs, version, exprs.placed(node.pattern), node.body, draft)?;
     draft.symbol(Symbol::Close)
 }
 
@@ -287,22 +280,18 @@ fn write_mapped(
 fn write_folded(
     exprs: &Exprs,
     version: Version,
-    first: ExprId,
-    folding: Folding,
-    second: ExprId,
-    pattern: PatternId,
-    body: ExprId,
+    node: Folded,
     draft: &mut Draft,
 ) -> Result<(), AllocError>
-    ensures { OnOk result (draft.new ≡ append_tokens draft.old (spell_expression version (folded (expression exprs.now first) folding (expression exprs.now second) (pattern_of (placed_at exprs.now pattern)) (expression exprs.now body)))) }
+    ensures { OnOk result (draft.new ≡ append_tokens draft.old (spell_expression version (expression_of exprs.now (ExprNode.Folded node)))) }
 {
-    draft.keyword(folding_word(folding))?;
+    draft.keyword(folding_word(node.folding))?;
     draft.symbol(Symbol::Open)?;
-    write_expression(exprs, version, first, draft)?;
+    write_expression(exprs, version, node.first, draft)?;
     draft.symbol(Symbol::Comma)?;
-    write_expression(exprs, version, second, draft)?;
+    write_expression(exprs, version, node.second, draft)?;
     draft.symbol(Symbol::Comma)?;
-    write_mapping(exprs, version, exprs.placed(pattern), body, draft)?;
+    write_mapping(exprs, version, exprs.placed(node.pattern), node.body, draft)?;
     draft.symbol(Symbol::Close)
 }
 

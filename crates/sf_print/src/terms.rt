@@ -4,7 +4,7 @@ ghost use Rattle.sf_expr.specs.Arena.{name_at, literal_at};
 ghost use Rattle.sf_expr.specs.Patterns.{pattern_of};
 ghost use Rattle.sf_term.specs.declared.node.Node.TheVariants as nodes;
 ghost use Rattle.sf_term.specs.Entries.{absent_payload};
-ghost use Rattle.sf_term.specs.Trees.{primitive as primitive_of, never as never_of, named_term, joined as joined_of, sided as sided_of, headed as headed_of, transformed as transformed_of, switching as switching_of, keeping as keeping_of, reference as reference_of, call as call_of, without_members, added as added_of, dropped as dropped_of, kept as kept_of, chosen as chosen_of};
+ghost use Rattle.sf_term.specs.Trees.{primitive as primitive_of, never as never_of, named_term, joined as joined_of, sided as sided_of, headed as headed_of, transformed as transformed_of, reference as reference_of, call as call_of, without_members, added as added_of, dropped as dropped_of, kept as kept_of, chosen as chosen_of};
 ghost use Rattle.sf_value.specs.Values.{int_keys, unit_kind};
 ghost use Rattle.sf_value.specs.KindView.{key_kind_of};
 ghost use Rattle.sf_term.specs.Arena.{tree, term_of, term_number, expressions_of, expression_under, function_in, pattern_under, arguments_of, collection_under, collection_of, collection_at};
@@ -24,8 +24,8 @@ use sf_expr::{Constant, ConstantForm, ExprId, FunctionId, NameId, PatternId};
 use sf_grammar::Version;
 use sf_lex::{Keyword, Symbol};
 use sf_term::{
-    Argument, CollExpr, CollectionId, Editing, Heading, Join, Naming, Node, Observation, Primitive,
-    Program, Releasing, Start, Switching, TermId, WithValue,
+    Argument, CollExpr, CollectionId, Editing, Heading, Join, Keeping, Naming, Node, Primitive,
+    Program, Releasing, Start, Switch, TermId, WithValue,
 };
 use sf_value::{KeyType, Ty};
 use std::alloc::AllocError;
@@ -194,20 +194,8 @@ pub(crate) fn write_term(
         Node::Transformed(function, part) => {
             write_transformed(program, version, function, part, draft)
         }
-        Node::Switching(switching, source, pattern, body) => {
-            write_switching(program, version, switching, source, pattern, body, draft)
-        }
-        Node::Keeping(observation, source, observer, name, _, pattern, body) => write_keeping(
-            program,
-            version,
-            observation,
-            source,
-            observer,
-            name,
-            pattern,
-            body,
-            draft,
-        ),
+        Node::Switching(switch) => write_switching(program, version, switch, draft),
+        Node::Keeping(form) => write_keeping(program, version, form, draft),
     }
 }
 
@@ -295,19 +283,16 @@ fn write_body(
 fn write_switching(
     program: &Program,
     version: Version,
-    switching: Switching,
-    source: TermId,
-    pattern: PatternId,
-    body: TermId,
+    switch: Switch,
     draft: &mut Draft,
 ) -> Result<(), AllocError>
-    ensures { OnOk result (draft.new ≡ append_tokens draft.old (spell_term version (switching_of switching (tree program.now source) (pattern_of (pattern_under program.now pattern)) (tree program.now body)))) }
+    ensures { OnOk result (draft.new ≡ append_tokens draft.old (spell_term version (term_of program.now (nodes.Switching switch)))) }
 {
-    draft.keyword(switching_word(switching))?;
+    draft.keyword(switching_word(switch.form))?;
     draft.symbol(Symbol::Open)?;
-    write_term(program, version, source, draft)?;
+    write_term(program, version, switch.source, draft)?;
     draft.symbol(Symbol::Comma)?;
-    write_body(program, version, pattern, body, draft)?;
+    write_body(program, version, switch.pattern, switch.body, draft)?;
     draft.symbol(Symbol::Close)
 }
 
@@ -317,25 +302,20 @@ fn write_switching(
 fn write_keeping(
     program: &Program,
     version: Version,
-    observation: Observation,
-    source: TermId,
-    observer: TermId,
-    name: NameId,
-    pattern: PatternId,
-    body: TermId,
+    form: Keeping,
     draft: &mut Draft,
 ) -> Result<(), AllocError>
-    ensures { OnOk result (draft.new ≡ append_tokens draft.old (spell_term version (keeping_of observation (tree program.now source) (tree program.now observer) (name_at (expressions_of program.now) name) (pattern_of (pattern_under program.now pattern)) (tree program.now body)))) }
+    ensures { OnOk result (draft.new ≡ append_tokens draft.old (spell_term version (term_of program.now (nodes.Keeping form)))) }
 {
-    draft.keyword(keeping_word(observation))?;
+    draft.keyword(keeping_word(form.shown))?;
     draft.symbol(Symbol::Open)?;
-    write_term(program, version, source, draft)?;
+    write_term(program, version, form.source, draft)?;
     draft.symbol(Symbol::Comma)?;
-    write_term(program, version, observer, draft)?;
+    write_term(program, version, form.observer, draft)?;
     draft.symbol(Symbol::Comma)?;
-    draft.name(program.expressions().name_of(name))?;
+    draft.name(program.expressions().name_of(form.name))?;
     draft.symbol(Symbol::Comma)?;
-    write_body(program, version, pattern, body, draft)?;
+    write_body(program, version, form.pattern, form.body, draft)?;
     draft.symbol(Symbol::Close)
 }
 

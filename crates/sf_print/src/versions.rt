@@ -70,13 +70,13 @@ fn expression_needs_two(exprs: &Exprs, id: ExprId) -> bool
                 || expression_needs_two(exprs, first)
                 || expression_needs_two(exprs, second)
         }
-        ExprNode::Mapped(part, _, _, body) => {
-            expression_needs_two(exprs, part) || expression_needs_two(exprs, body)
+        ExprNode::Mapped(node) => {
+            expression_needs_two(exprs, node.part) || expression_needs_two(exprs, node.body)
         }
-        ExprNode::Folded(first, _, second, _, body) => {
-            expression_needs_two(exprs, first)
-                || expression_needs_two(exprs, second)
-                || expression_needs_two(exprs, body)
+        ExprNode::Folded(node) => {
+            expression_needs_two(exprs, node.first)
+                || expression_needs_two(exprs, node.second)
+                || expression_needs_two(exprs, node.body)
         }
         ExprNode::Called(_, _, part) => expression_needs_two(exprs, part),
     }
@@ -137,13 +137,13 @@ fn term_needs_two(program: &Program, id: TermId) -> bool
         Node::Transformed(function, part) => {
             function_needs_two(program, function) || term_needs_two(program, part)
         }
-        Node::Switching(_, source, _, body) => {
-            term_needs_two(program, source) || term_needs_two(program, body)
+        Node::Switching(form) => {
+            term_needs_two(program, form.source) || term_needs_two(program, form.body)
         }
-        Node::Keeping(_, source, observer, _, _, _, body) => {
-            term_needs_two(program, source)
-                || term_needs_two(program, observer)
-                || term_needs_two(program, body)
+        Node::Keeping(form) => {
+            term_needs_two(program, form.source)
+                || term_needs_two(program, form.observer)
+                || term_needs_two(program, form.body)
         }
         Node::Gathered(members) => members_need_two(program, id, members),
         Node::Releasing(form) => releasing_needs_two(program, id, form),

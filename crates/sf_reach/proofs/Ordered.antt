@@ -99,10 +99,10 @@ mutual
   form_sound {p} (in_sided {d = d} {f = f} {cs = cs} h) = each_into (Calls (tree p f)) (Calls (term_of p (nodes.Sided d f))) (λ x c. side_calls c) cs (calls_sound h)
   form_sound {p} (in_headed {w = w} {e = e} {f = f} {cs = cs} h) = each_into (Calls (tree p f)) (Calls (term_of p (nodes.Headed w e f))) (λ x c. headed_calls c) cs (calls_sound h)
   form_sound {p} (in_transformed {g = g} {f = f} {cs = cs} h) = each_into (Calls (tree p f)) (Calls (term_of p (nodes.Transformed g f))) (λ x c. transformed_calls c) cs (calls_sound h)
-  form_sound {p} (in_switching {w = w} {f = f} {u = u} {q = q} {cs = cs} h) = each_into (Calls (tree p f)) (Calls (term_of p (nodes.Switching w f q u))) (λ x c. switch_calls c) cs (calls_sound h)
-  form_sound {p} (in_keeping {n = n} {w = w} {f = f} {o = o} {u = u} {k = k} {q = q} {cs = cs} {ds = ds} h i) =
-      let T : Name → Type 0 = Calls (term_of p (nodes.Keeping w f o k n q u)) in
-      both T cs ds (each_into (Calls (tree p f)) T (λ x c. source_calls c) cs (calls_sound h)) (each_into (Calls (tree p o)) T (λ x c. observer_calls c) ds (calls_sound i))
+  form_sound {p} (in_switching {n = n} {cs = cs} h) = each_into (Calls (tree p n.source)) (Calls (term_of p (nodes.Switching n))) (λ x c. switch_calls c) cs (calls_sound h)
+  form_sound {p} (in_keeping {n = n} {cs = cs} {ds = ds} h i) =
+      let T : Name → Type 0 = Calls (term_of p (nodes.Keeping n)) in
+      both T cs ds (each_into (Calls (tree p n.source)) T (λ x c. source_calls c) cs (calls_sound h)) (each_into (Calls (tree p n.observer)) T (λ x c. observer_calls c) ds (calls_sound i))
   form_sound {p} (in_gathered {c = c} {cs = cs} h) = each_into (CollectionCalls (collection_at p c)) (Calls (term_of p (nodes.Gathered c))) (λ x k. gathered_calls k) cs (members_sound h)
   form_sound {p} (in_releasing {r = r} {cs = cs} {ds = ds} h i) =
       let T : Name → Type 0 = Calls (term_of p (nodes.Releasing r)) in
@@ -241,8 +241,8 @@ listed_within p (suc fuel) t h =
     by (nodes.Sided d f) b part = let l = part f b in (l.0, in_sided l.1)
     by (nodes.Headed w e f) b part = let l = part f b in (l.0, in_headed l.1)
     by (nodes.Transformed g f) b part = let l = part f b in (l.0, in_transformed l.1)
-    by (nodes.Switching w f q u) b part = let l = part f b.0 in (l.0, in_switching l.1)
-    by (nodes.Keeping w f o k n q u) b part = let l = part f b.0 in let r = part o b.1 in (l.0 ++ r.0, in_keeping l.1 r.1)
+    by (nodes.Switching n) b part = let l = part n.source b.0 in (l.0, in_switching l.1)
+    by (nodes.Keeping n) b part = let l = part n.source b.0 in let r = part n.observer b.1 in (l.0 ++ r.0, in_keeping l.1 r.1)
     by (nodes.Gathered c) b part = let l = members_listed p (term_number t) part (collection_under p c) b in (l.0, in_gathered l.1)
     by (nodes.Releasing n) b part = let l = members_listed p (term_number t) part (collection_under p n.members) b.0 in let r = part n.observer b.1 in (l.0 ++ r.0, in_releasing l.1 r.1)
     by (nodes.Editing n) b part = let l = members_listed p (term_number t) part (collection_under p n.members) b.0 in (l.0, in_editing l.1)

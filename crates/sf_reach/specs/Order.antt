@@ -6,19 +6,18 @@ use Rattle.sf_refusal.specs.declared.spot.Spot.{Spot}
 use Rattle.sf_expr.specs.declared.exprs.ExprId.{ExprId}
 use Rattle.sf_expr.specs.declared.exprs.FunctionId.{FunctionId}
 use Rattle.sf_expr.specs.declared.exprs.NameId.{NameId}
-use Rattle.sf_expr.specs.declared.exprs.PatternId.{PatternId}
 use Rattle.sf_expr.specs.Arena.{name_at}
 use Rattle.sf_term.specs.declared.form.Join.{Join}
 use Rattle.sf_term.specs.declared.form.Side.{Side}
 use Rattle.sf_term.specs.declared.form.Heading.{Heading}
 use Rattle.sf_term.specs.declared.form.Naming.{Naming}
-use Rattle.sf_term.specs.declared.form.Observation.{Observation}
-use Rattle.sf_term.specs.declared.form.Switching.{Switching}
 use Rattle.sf_term.specs.declared.node.TermId.{TermId}
 use Rattle.sf_term.specs.declared.node.ArgumentsId.{ArgumentsId}
 use Rattle.sf_term.specs.declared.node.Argument.{Argument}
 use Rattle.sf_term.specs.declared.node.Argument.TheVariants as arguments
 use Rattle.sf_term.specs.declared.node.Primitive.{Primitive}
+use Rattle.sf_term.specs.declared.node.Switch.{Switch}
+use Rattle.sf_term.specs.declared.node.Keeping.{Keeping}
 use Rattle.sf_term.specs.declared.node.Releasing.{Releasing}
 use Rattle.sf_term.specs.declared.node.Editing.{Editing}
 use Rattle.sf_term.specs.declared.node.Node.{Node}
@@ -50,9 +49,9 @@ mutual
     in_sided : {s : Spot} {d : Side} {f : TermId} {cs : List PlacedCall} → CallsInOrder p f cs → FormCalls p s (nodes.Sided d f) cs
     in_headed : {s : Spot} {w : Heading} {e : ExprId} {f : TermId} {cs : List PlacedCall} → CallsInOrder p f cs → FormCalls p s (nodes.Headed w e f) cs
     in_transformed : {s : Spot} {g : FunctionId} {f : TermId} {cs : List PlacedCall} → CallsInOrder p f cs → FormCalls p s (nodes.Transformed g f) cs
-    in_switching : {s : Spot} {w : Switching} {f u : TermId} {q : PatternId} {cs : List PlacedCall} → CallsInOrder p f cs → FormCalls p s (nodes.Switching w f q u) cs
-    in_keeping : {s n : Spot} {w : Observation} {f o u : TermId} {k : NameId} {q : PatternId} {cs ds : List PlacedCall}
-        → CallsInOrder p f cs → CallsInOrder p o ds → FormCalls p s (nodes.Keeping w f o k n q u) (cs ++ ds)
+    in_switching : {s : Spot} {n : Switch} {cs : List PlacedCall} → CallsInOrder p n.source cs → FormCalls p s (nodes.Switching n) cs
+    in_keeping : {s : Spot} {n : Keeping} {cs ds : List PlacedCall}
+        → CallsInOrder p n.source cs → CallsInOrder p n.observer ds → FormCalls p s (nodes.Keeping n) (cs ++ ds)
     in_gathered : {s : Spot} {c : CollectionId} {cs : List PlacedCall} → MemberCalls p (collection_under p c) cs → FormCalls p s (nodes.Gathered c) cs
     in_releasing : {s : Spot} {r : Releasing} {cs ds : List PlacedCall} → MemberCalls p (collection_under p r.members) cs → CallsInOrder p r.observer ds → FormCalls p s (nodes.Releasing r) (cs ++ ds)
     in_editing : {s : Spot} {r : Editing} {cs : List PlacedCall} → MemberCalls p (collection_under p r.members) cs → FormCalls p s (nodes.Editing r) cs

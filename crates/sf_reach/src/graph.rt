@@ -63,13 +63,17 @@ fn gather(
             }
             gather_arguments(program, names, term, program.arguments(arguments), calls)
         }
-        Node::Sided(_, part)
-        | Node::Headed(_, _, part)
-        | Node::Transformed(_, part)
-        | Node::Switching(_, part, _, _) => gather(program, names, part, calls),
-        Node::Joined(_, first, second) | Node::Keeping(_, first, second, _, _, _, _) => {
+        Node::Sided(_, part) | Node::Headed(_, _, part) | Node::Transformed(_, part) => {
+            gather(program, names, part, calls)
+        }
+        Node::Joined(_, first, second) => {
             gather(program, names, first, calls)?;
             gather(program, names, second, calls)
+        }
+        Node::Switching(form) => gather(program, names, form.source, calls),
+        Node::Keeping(form) => {
+            gather(program, names, form.source, calls)?;
+            gather(program, names, form.observer, calls)
         }
         Node::Gathered(members) => gather_at(program, names, term, members, calls),
         Node::Editing(form) => gather_at(program, names, term, form.members, calls),

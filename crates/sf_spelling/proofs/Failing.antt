@@ -1,6 +1,6 @@
 -- Steps that fail, and the code's readers of numbers.
 use Rattle.std.proofs.Common.{◌≡◌, ℕ, suc, ◌-◌, ◌≤◌, ◌<◌, List, [], ◌∷◌, ◌++◌, ◌==◌, length, take, drop, get_or, Result, Ok, Err, true, refl, sym, ap, subst, ◌∙◌, arith}
-use Rattle.std.specs.Prelude.{IsErrAnd}
+use Rattle.std.specs.Prelude.{IsErrAnd, IfErr}
 use Rattle.std.proofs.lemmas.Bool.Decides.{nat_tests}
 use Rattle.sf_spelling.specs.declared.read.Failure.{Failure}
 use Rattle.sf_spelling.specs.declared.read.Failure.TheVariants.{Bad, Wide, Again, Memory}
@@ -33,6 +33,11 @@ goes_then e r x f is h = subst (λ r. Fails e (r >>= f)) (sym is) h
 pub fails_so : {X Y : Type 0} (view : X → Y) (e : Failure) (r : Result X Failure) (read : Result Y Stop) → IsErrAnd r (λ g. g ≡ e) → Fails e read → GivesRead view r read
 fails_so view e (Ok x) read is h = absurd is
 fails_so view e (Err g) read is h = subst (λ (g : Failure). Fails g read) (sym is) h
+
+-- the same, where only the failure is spoken of
+pub fails_on : {X Y : Type 0} (e : Failure) (r : Result X Failure) (read : Result Y Stop) → IsErrAnd r (λ g. g ≡ e) → Fails e read → IfErr r (λ g. Fails g read)
+fails_on e (Ok x) read is h = absurd is
+fails_on e (Err g) read is h = subst (λ (g : Failure). Fails g read) (sym is) h
 
 positive_is : (s : List ℕ) (m : ℕ) (after : List ℕ) → positive_at s ≡ Ok (m, after) → 0 < m
 positive_is s m after e = (subst (PositiveSound s) e (positive_sound s)).0

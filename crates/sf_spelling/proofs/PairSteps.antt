@@ -8,7 +8,7 @@ use Rattle.sf_spelling.specs.Gives.{Fails}
 use Rattle.sf_spelling.proofs.Failing.{fails_then}
 
 -- of three steps the first two may be taken as one
-both : {X Y : Type 0} (r : Result (List ℕ) Stop) (f : List ℕ → Result X Stop) (g : X → Result Y Stop) → (r >>= (λ e. f e >>= g)) ≡ ((r >>= f) >>= g)
+pub both : {X Y : Type 0} (r : Result (List ℕ) Stop) (f : List ℕ → Result X Stop) (g : X → Result Y Stop) → (r >>= (λ e. f e >>= g)) ≡ ((r >>= f) >>= g)
 both (Ok x) f g = refl
 both (Err e) f g = refl
 

@@ -1,20 +1,20 @@
 //! Values from their spellings.
-ghost use Rattle.std.specs.Prelude.{◌≡◌, ◌<◌, ℕ, IfOk, IfErr, MatchResult, OnOk, min, codes, map, ◌++◌, ◌∷◌, []};
-ghost use Rattle.sf_value.specs.Values.{Data, unit_kind, bool_kind, int_kind, text_kind, pair_kind, event_kind, table_kind, HasKind};
+ghost use Rattle.std.specs.Prelude.{◌≡◌, ◌<◌, ℕ, IfOk, IfErr, MatchResult, OnOk, length, min, codes, ◌++◌, ◌∷◌, []};
+ghost use Rattle.sf_value.specs.Values.{KeyData, Data, unit_kind, bool_kind, int_kind, text_kind, pair_kind, event_kind, table_kind, HasKind};
 ghost use Rattle.sf_value.specs.KindView.{key_kind_of};
-ghost use Rattle.sf_value.specs.View.{key_of, rows_of};
+ghost use Rattle.sf_value.specs.View.{key_of, rows_under};
 ghost use Rattle.sf_spelling.specs.Spelling.{spelling};
 ghost use Rattle.sf_decimal.specs.Decimals.{signed};
 ghost use Rattle.sf_spelling.specs.Scan.{byte_at, word_at, positive_at, integer_at, value_at, narrow, begins_digit, key_at, new_key_at, row_at, rows_at};
 ghost use Rattle.sf_spelling.specs.Steps.{value_behind, pair_closed, none_at, event_before, table_before, spellings};
 ghost use Rattle.sf_spelling.specs.Reading.{Reads};
 ghost use Rattle.sf_spelling.specs.Refuses.{Refuses, IsMemory};
-ghost use Rattle.sf_spelling.specs.Gives.{GivesRead, GivesCapped, cap};
+ghost use Rattle.sf_spelling.specs.Gives.{Fails, GivesRead, GivesCapped, cap};
 ghost use Rattle.sf_spelling.specs.declared.read.Failure.TheVariants.{Memory};
 
 use crate::text::text_of;
 use sf_decimal::{digits_at, signed};
-use sf_value::{Index, Key, KeyType, Ty, TyForm, Value};
+use sf_value::{Key, KeyType, Keys, Ty, TyForm, Value};
 use std::alloc::Global;
 use std::rc::Rc;
 use thiserror::Error;
@@ -45,11 +45,11 @@ pub(crate) enum Failure {
     Memory,
 }
 
-/// The rows of a table, with their keys in an index.
+/// The rows of a table: its keys in order, and the value under each at the same place.
 #[derive(Drop)]
 struct Rows {
-    rows: Vec<(Key, Value)>,
-    keys: Index,
+    keys: Keys,
+    values: Vec<Value>,
 }
 
 /// What is after this byte.
@@ -316,26 +316,26 @@ fn goes_on(bytes: &[u8]) -> bool
     }
 }
 
-/// A key at the front, which is none of those seen, and what is after it. It is then seen.
+/// Reads a key at the front, which is none of those seen, and puts it behind them. The answer is what is after it.
 fn new_key_in<'a>(
     alloc: Global,
     keys: KeyType,
-    seen: &mut Index,
+    seen: &mut Keys,
     bytes: &'a [u8],
-) -> Result<(Key, &'a [u8]), Failure>
-    ensures key { GivesRead (λ x. (key_of x.0, x.1.now)) result (new_key_at (key_kind_of keys) (spellings seen.old) bytes.now) }
-    ensures seen { IfOk result (λ x. seen.new ≡ seen.old ++ key_of x.0 ∷ []) }
+) -> Result<&'a [u8], Failure>
+    ensures key { IfOk result (λ rest. (added : KeyData) × (seen.new ≡ seen.old ++ added ∷ []) ×
+        (new_key_at (key_kind_of keys) (spellings seen.old) bytes.now ≡ Ok (added, rest.now))) }
+    ensures fails { IfErr result (λ e. Fails e (new_key_at (key_kind_of keys) (spellings seen.old) bytes.now)) }
 {
     let (key, rest) = key_in(alloc, keys, bytes)?;
-    match seen.insert(&key) {
-        Err(_) => return Err(Failure::Memory),
-        Ok(false) => return Err(Failure::Again(bytes.len())),
-        Ok(true) => {}
+    match seen.push(key) {
+        Err(_) => Err(Failure::Memory),
+        Ok(false) => Err(Failure::Again(bytes.len())),
+        Ok(true) => Ok(rest),
     }
-    Ok((key, rest))
 }
 
-/// A table of a type at the front, and what is after it. Keys are looked up in its index.
+/// A table of a type at the front, and what is after it. Each key is looked up among those before it.
 #[cycle(value_of)]
 #[tactic(auto, unfolding(crate::specs::Scan::value_at))]
 fn table_of<'a>(
@@ -353,11 +353,14 @@ fn table_of<'a>(
 
 /// The table, which ends before these bytes, as a value.
 fn table_in(alloc: Global, table: Rows, bytes: &[u8]) -> Result<(Value, &[u8]), Failure>
-    requires { table.keys ≡ map (λ e. key_of e.0) table.rows.items }
-    ensures { GivesRead (λ x. (x.0, x.1.now)) result (table_before (rows_of table.rows.items) bytes.now) }
+    requires { length table.keys ≡ length table.values.items }
+    ensures { GivesRead (λ x. (x.0, x.1.now)) result (table_before (rows_under table.keys table.values.items) bytes.now) }
 {
-    let Rows { rows, keys } = table;
-    match Value::of_rows(alloc, rows, keys) {
+    let Rows { keys, values } = table;
+    let Ok(shared) = Rc::new(alloc, keys) else {
+        return Err(Failure::Memory);
+    };
+    match Value::under(alloc, shared, values) {
         Ok(value) => Ok((value, bytes)),
         Err(_) => Err(Failure::Memory),
     }
@@ -371,12 +374,12 @@ fn rows_in<'a>(
     values: &Ty,
     bytes: &'a [u8],
 ) -> Result<(Rows, &'a [u8]), Failure>
-    ensures rows { GivesRead (λ x. (rows_of x.0.rows.items, x.1.now)) result (rows_at (key_kind_of keys) (value_at values.now) bytes.now) }
-    ensures indexed { IfOk result (λ x. x.0.keys ≡ map (λ e. key_of e.0) x.0.rows.items) }
+    ensures rows { GivesRead (λ x. (rows_under x.0.keys x.0.values.items, x.1.now)) result (rows_at (key_kind_of keys) (value_at values.now) bytes.now) }
+    ensures as_many { IfOk result (λ x. length x.0.keys ≡ length x.0.values.items) }
 {
     let mut table = Rows {
-        rows: Vec::new(alloc),
-        keys: Index::new(alloc),
+        keys: Keys::new(alloc),
+        values: Vec::new(alloc),
     };
     let mut left = bytes;
     if let [c, rest @ ..] = bytes {
@@ -385,8 +388,7 @@ fn rows_in<'a>(
         }
     }
     loop {
-        let (key, value, rest) = row_in(alloc, keys, values, &mut table.keys, left)?;
-        put_row(&mut table.rows, key, value)?;
+        let rest = row_in(alloc, keys, values, &mut table, left)?;
         match rest {
             [] => return Err(Failure::Bad(0)),
             [c, behind @ ..] => {
@@ -402,33 +404,34 @@ fn rows_in<'a>(
     }
 }
 
-/// Puts a row behind the others.
-fn put_row(rows: &mut Vec<(Key, Value)>, key: Key, value: Value) -> Result<(), Failure>
-    ensures ok { OnOk result (rows.new.items ≡ rows.old.items ++ (key, value) ∷ []) }
-    ensures err { IfErr result (λ e. e ≡ Memory) }
-{
-    let Ok(()) = rows.push((key, value)) else {
-        return Err(Failure::Memory);
-    };
-    Ok(())
-}
-
-/// A row at the front, whose key is none of those seen, and what is after it. Its key is then seen.
+/// Reads a row at the front, whose key is none of those before it, and puts it behind them. The answer is what is after it.
 #[cycle(value_of)]
 fn row_in<'a>(
     alloc: Global,
     keys: KeyType,
     values: &Ty,
-    seen: &mut Index,
+    rows: &mut Rows,
     bytes: &'a [u8],
-) -> Result<(Key, Value, &'a [u8]), Failure>
-    ensures row { GivesRead (λ x. ((key_of x.0, x.1), x.2.now)) result
-        (row_at (key_kind_of keys) (value_at values.now) (spellings seen.old) bytes.now) }
-    ensures seen { IfOk result (λ x. seen.new ≡ seen.old ++ key_of x.0 ∷ []) }
+) -> Result<&'a [u8], Failure>
+    ensures row { IfOk result (λ rest. (added : KeyData × Data) × (rows.new.keys ≡ rows.old.keys ++ added.0 ∷ []) × (rows.new.values.items ≡ rows.old.values.items ++ added.1 ∷ []) ×
+        (row_at (key_kind_of keys) (value_at values.now) (spellings rows.old.keys) bytes.now ≡ Ok (added, rest.now))) }
+    ensures fails { IfErr result (λ e. Fails e (row_at (key_kind_of keys) (value_at values.now) (spellings rows.old.keys) bytes.now)) }
 {
-    let (key, rest) = new_key_in(alloc, keys, seen, bytes)?;
+    let rest = new_key_in(alloc, keys, &mut rows.keys, bytes)?;
     let (value, rest) = value_behind(alloc, b':', values, rest)?;
-    Ok((key, value, rest))
+    put_value(&mut rows.values, value)?;
+    Ok(rest)
+}
+
+/// Puts a value behind the others.
+fn put_value(values: &mut Vec<Value>, value: Value) -> Result<(), Failure>
+    ensures ok { OnOk result (values.new.items ≡ values.old.items ++ value ∷ []) }
+    ensures err { IfErr result (λ e. e ≡ Memory) }
+{
+    let Ok(()) = values.push(value) else {
+        return Err(Failure::Memory);
+    };
+    Ok(())
 }
 
 /// A value of the type at the front, and what is after it. A number takes no call into the cycle of values with parts.

@@ -1,12 +1,12 @@
 //! Spellings of values.
-ghost use Rattle.std.specs.Prelude.{◌≡◌, ◌++◌, ◌∷◌, [], OnOk, OnErr, length, take};
+ghost use Rattle.std.specs.Prelude.{◌≡◌, ◌++◌, ◌∷◌, [], OnOk, OnErr, length, map, take};
 ghost use Rattle.std.specs.List.{flat_map};
 ghost use Rattle.sf_spelling.specs.Spelling.{escaped, quoted, key_spelling, spelling, rows_spelling, more_spelling};
-ghost use Rattle.sf_value.specs.View.{key_of, rows_of};
+ghost use Rattle.sf_value.specs.View.{key_of, rows_under};
 ghost use Rattle.sf_value.specs.Values.{pair, table};
 
 use sf_decimal::write_integer;
-use sf_value::{Form, Key, Value};
+use sf_value::{Form, Key, Rows, Value};
 use std::alloc::AllocError;
 
 /// Appends the spelling of a value. An error leaves what was there.
@@ -58,8 +58,8 @@ fn append_pair(first: &Value, second: &Value, out: &mut Vec<u8>) -> Result<(), A
 }
 
 #[cycle(append)]
-fn append_table(rows: &[(Key, Value)], out: &mut Vec<u8>) -> Result<(), AllocError>
-    ensures ok { OnOk result (out.new.items ≡ out.old.items ++ spelling (table (rows_of rows.now))) }
+fn append_table(rows: Rows, out: &mut Vec<u8>) -> Result<(), AllocError>
+    ensures ok { OnOk result (out.new.items ≡ out.old.items ++ spelling (table (rows_under (map key_of rows.entry.keys.now) rows.entry.values.now))) }
     ensures err { OnErr result (take (length out.old.items) out.new.items ≡ out.old.items) }
 {
     out.push(b'{')?;
@@ -69,33 +69,39 @@ fn append_table(rows: &[(Key, Value)], out: &mut Vec<u8>) -> Result<(), AllocErr
 }
 
 #[cycle(append)]
-fn append_rows(rows: &[(Key, Value)], out: &mut Vec<u8>) -> Result<(), AllocError>
-    ensures ok { OnOk result (out.new.items ≡ out.old.items ++ rows_spelling (rows_of rows.now)) }
+fn append_rows(rows: Rows, out: &mut Vec<u8>) -> Result<(), AllocError>
+    ensures ok { OnOk result (out.new.items ≡ out.old.items ++ rows_spelling (rows_under (map key_of rows.entry.keys.now) rows.entry.values.now)) }
     ensures err { OnErr result (take (length out.old.items) out.new.items ≡ out.old.items) }
 {
-    match rows {
+    match rows.keys {
         [] => Ok(()),
-        [(key, value), rest @ ..] => {
-            append_key(key, out)?;
-            append(value, out)?;
-            append_more(rest, out)
-        }
+        [key, keys @ ..] => match rows.values {
+            [] => Ok(()),
+            [value, values @ ..] => {
+                append_key(key, out)?;
+                append(value, out)?;
+                append_more(Rows { keys, values }, out)
+            }
+        },
     }
 }
 
 #[cycle(append)]
-fn append_more(rows: &[(Key, Value)], out: &mut Vec<u8>) -> Result<(), AllocError>
-    ensures ok { OnOk result (out.new.items ≡ out.old.items ++ more_spelling (rows_of rows.now)) }
+fn append_more(rows: Rows, out: &mut Vec<u8>) -> Result<(), AllocError>
+    ensures ok { OnOk result (out.new.items ≡ out.old.items ++ more_spelling (rows_under (map key_of rows.entry.keys.now) rows.entry.values.now)) }
     ensures err { OnErr result (take (length out.old.items) out.new.items ≡ out.old.items) }
 {
-    match rows {
+    match rows.keys {
         [] => Ok(()),
-        [(key, value), rest @ ..] => {
-            out.push(b',')?;
-            append_key(key, out)?;
-            append(value, out)?;
-            append_more(rest, out)
-        }
+        [key, keys @ ..] => match rows.values {
+            [] => Ok(()),
+            [value, values @ ..] => {
+                out.push(b',')?;
+                append_key(key, out)?;
+                append(value, out)?;
+                append_more(Rows { keys, values }, out)
+            }
+        },
     }
 }
 

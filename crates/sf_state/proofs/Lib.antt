@@ -1,4 +1,4 @@
 pub mod Copies
 pub mod Scopes
 pub mod Fewer
-pub mod Sought
+mod Parts

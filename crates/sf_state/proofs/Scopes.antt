@@ -24,7 +24,7 @@ use Rattle.sf_law.specs.Places.{names_of_parameters, last_parameter}
 use Rattle.sf_state.specs.declared.state.State.{State}
 use Rattle.sf_state.specs.declared.state.Live.{items-the_row-State, items_hidden-the_row-State-0 as states_are}
 use Rattle.sf_state.specs.declared.state.Gathered.{Gathered}
-use Rattle.sf_state.specs.declared.keys.Keys.{Keys}
+use Rattle.sf_value.specs.declared.keys.Keys.{Keys}
 use Rattle.sf_state.specs.Held.{Holding, held_as, held_in}
 use Rattle.sf_state.proofs.Copies.{held_shown, held_hidden}
 use Rattle.sf_state.specs.declared.env.Env.{Env}

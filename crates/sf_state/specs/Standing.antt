@@ -56,7 +56,7 @@ use Rattle.sf_state.specs.declared.env.Given.{Given}
 use Rattle.sf_state.specs.declared.env.Given.TheVariants.{Value as GValue, Process' as GProcess', Members' as GMembers'}
 use Rattle.sf_state.specs.declared.env.Call.{items-the_row-Given}
 use Rattle.sf_state.specs.declared.env.Env.TheVariants.{Empty as SEmpty, Bound', Running', Collected', Called'}
-use Rattle.sf_state.specs.declared.keys.Keys.{Keys}
+use Rattle.sf_value.specs.declared.keys.Keys.{Keys}
 use Rattle.sf_state.specs.Held.{Holding, held_as}
 
 -- a value or a fault, as what an expression is worth
@@ -103,6 +103,16 @@ kept_state names (KLive' at l) = Alive' names at l
 kept_state names (KSwitch' at w a q b) = Watching' names at w a q b
 kept_state names (KKeeping' at w t a x o k q b) = Keeping' names at w t a x o k q b
 kept_state names (KGathering' at g) = Gathering' names at g
+
+-- whether a state is a primitive
+abbrev pub is_primitive : State → Bool
+is_primitive (Unborn' t names) = false
+is_primitive (SPrimitive i) = true
+is_primitive (Alive' names at l) = false
+is_primitive (Watching' names at w a q b) = false
+is_primitive (Keeping' names at w t a x o k q b) = false
+is_primitive (Gathering' names at g) = false
+is_primitive (Frozen' at d names k) = false
 
 -- whether a state is frozen
 abbrev pub is_frozen : State → Bool
@@ -315,7 +325,7 @@ mutual
 
 -- names for an environment in which each name that is mentioned stands for alike
 pub data HasMentioned (φ : AnswersByName) (p : Plan) : Mentioned → Env → Environment → Type 0 where
-  has_mentioned : {m : Mentioned} {names : Env} {d e : Environment} → IsNames φ p names d → ((x : Name) → IsTrue (is_mentioned m x) → AlikeAt x d e) → HasMentioned φ p m names e
+  has_mentioned : {m : Mentioned} {names : Env} {d e : Environment} → IsNames φ p names d → ((x : Name) → IsTrue (is_mentioned (plan_expressions p) m x) → AlikeAt x d e) → HasMentioned φ p m names e
 
 -- what stands under a name for a process, beside what that began as, where that is asked of the name
 abbrev pub IsHanded : AnswersByName → Plan → Name → Handed → Process → Type 0

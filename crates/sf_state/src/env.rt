@@ -3,9 +3,10 @@ ghost use Rattle.std.specs.Prelude.{◌≡◌, ◌<◌, ◌≤◌, [], bytes_eq,
 ghost use Rattle.std.specs.Map.{lookup};
 ghost use Rattle.sf_func.specs.Registries.{AnswersByName};
 ghost use Rattle.sf_expr.specs.Arena.{placed_at, name_at};
-ghost use Rattle.sf_expr.specs.Expressions.{unnamed, named};
+ghost use Rattle.sf_expr.specs.Expressions.{Pattern, unnamed, named};
+ghost use Rattle.sf_expr.specs.Numbered.{TellsName};
 ghost use Rattle.sf_expr.specs.Patterns.{pattern_of};
-ghost use Rattle.sf_value.specs.Values.{Name};
+ghost use Rattle.sf_value.specs.Values.{Name, first_of, second_of};
 ghost use Rattle.sf_mean.specs.Lives.{Environment, closure, Process as ProcessOf, Members as MembersOf, empty, bind, running, collected, process_of, members_of, each_frozen, Life};
 ghost use Rattle.sf_law.specs.declared.plan.Plan.{Plan as PlanOf};
 ghost use Rattle.sf_law.specs.Arena.{plan_expressions, plan_tree, header_at};
@@ -27,7 +28,7 @@ ghost use Rattle.sf_state.specs.Standing.{closed_over, HasMentioned, IsNames, Ar
 
 use crate::state::{Gathered, Process, State};
 use sf_code::Names;
-use sf_expr::{Exprs, NameId, Pat, PatForm, PatternId};
+use sf_expr::{Exprs, NameId, NumberedPattern, Pat, PatForm, PatternId};
 use sf_law::{Binder, Mentioned, Plan, PlanId, TemplateId};
 use sf_value::{Form, Value};
 use std::alloc::{AllocError, Global};
@@ -120,7 +121,7 @@ impl Binding {
     // The same names of the pattern, with fewer around it, if there are fewer. The error is a want of memory, or too many owners.
     fn over(&self, alloc: Global, fewer: Option<Env>) -> Result<Option<Env>, AllocError>
         ensures { IfOk result (λ names. (φ : AnswersByName) (p : PlanOf) (m l : MentionedOf) (e : Environment) →
-            ((x : Name) → IsTrue (is_mentioned m x) → BindsOthers (pattern_of (placed_at (plan_expressions p) self.now.pattern)) x → IsTrue (is_mentioned l x)) →
+            ((x : Name) → IsTrue (is_mentioned (plan_expressions p) m x) → BindsOthers (pattern_of (placed_at (plan_expressions p) self.now.pattern)) x → IsTrue (is_mentioned (plan_expressions p) l x)) →
             IfSome fewer (λ names. HasMentioned φ p l names e) → IfSome names (λ names. HasMentioned φ p m names (bind (pattern_of (placed_at (plan_expressions p) self.now.pattern)) self.now.value.value e))) }
     {
         let around = match fewer {
@@ -145,7 +146,7 @@ impl Running {
     // owners.
     fn over(&self, alloc: Global, fewer: Option<Env>) -> Result<Option<Env>, AllocError>
         ensures { IfOk result (λ names. (φ : AnswersByName) (p : PlanOf) (m l : MentionedOf) (e : Environment) (P : ProcessOf) →
-            ((x : Name) → IsTrue (is_mentioned m x) → BindsOthers (named (name_at (plan_expressions p) self.now.name)) x → IsTrue (is_mentioned l x)) →
+            ((x : Name) → IsTrue (is_mentioned (plan_expressions p) m x) → BindsOthers (named (name_at (plan_expressions p) self.now.name)) x → IsTrue (is_mentioned (plan_expressions p) l x)) →
             IsHanded φ p (name_at (plan_expressions p) self.now.name) self.now.handed P → IfSome fewer (λ names. HasMentioned φ p l names e) → IfSome names (λ names. HasMentioned φ p m names (running (name_at (plan_expressions p) self.now.name) P e))) }
     {
         let around = match fewer {
@@ -181,7 +182,7 @@ impl Collected {
     // many owners.
     fn over(&self, alloc: Global, fewer: Option<Env>) -> Result<Option<Env>, AllocError>
         ensures { IfOk result (λ names. (φ : AnswersByName) (p : PlanOf) (m l : MentionedOf) (e : Environment) (ms : MembersOf) →
-            ((x : Name) → IsTrue (is_mentioned m x) → BindsOthers (named (name_at (plan_expressions p) self.now.name)) x → IsTrue (is_mentioned l x)) →
+            ((x : Name) → IsTrue (is_mentioned (plan_expressions p) m x) → BindsOthers (named (name_at (plan_expressions p) self.now.name)) x → IsTrue (is_mentioned (plan_expressions p) l x)) →
             Gathers φ p (held_in self.now.members) ms [] → IfSome fewer (λ names. HasMentioned φ p l names e) → IfSome names (λ names. HasMentioned φ p m names (collected (name_at (plan_expressions p) self.now.name) ms e))) }
     {
         let around = match fewer {
@@ -366,15 +367,15 @@ pub enum Given {
 
 impl Call {
     // What a parameter of a name stands for: of the same names the last counts.
-    fn given<'r>(&'r self, plan: &Plan, name: &str) -> Option<&'r Given>
-        ensures { option_map (λ g. g.now) result ≡ given_at (last_parameter name.now (names_of_parameters (plan_expressions plan.now) (header_at plan.now self.now.template).parameters)) self.now.arguments.items }
+    fn given<'r>(&'r self, plan: &Plan, name: NameId) -> Option<&'r Given>
+        ensures { option_map (λ g. g.now) result ≡ given_at (last_parameter (name_at (plan_expressions plan.now) name) (names_of_parameters (plan_expressions plan.now) (header_at plan.now self.now.template).parameters)) self.now.arguments.items }
     {
         self.arguments.get(plan.place(self.template, name)?)
     }
 
     // The same, if that is a process.
-    fn handed<'r>(&'r self, plan: &Plan, name: &str) -> Option<&'r Handed>
-        ensures { option_map (λ h. h.now) result ≡ handed_of (given_at (last_parameter name.now (names_of_parameters (plan_expressions plan.now) (header_at plan.now self.now.template).parameters)) self.now.arguments.items) }
+    fn handed<'r>(&'r self, plan: &Plan, name: NameId) -> Option<&'r Handed>
+        ensures { option_map (λ h. h.now) result ≡ handed_of (given_at (last_parameter (name_at (plan_expressions plan.now) name) (names_of_parameters (plan_expressions plan.now) (header_at plan.now self.now.template).parameters)) self.now.arguments.items) }
     {
         match self.given(plan, name) {
             Some(Given::Process(handed)) => Some(handed),
@@ -383,8 +384,8 @@ impl Call {
     }
 
     // The same, if that are members.
-    fn members<'r>(&'r self, plan: &Plan, name: &str) -> Option<&'r Gathered>
-        ensures { option_map (λ l. held_in l.now) result ≡ given_members (given_at (last_parameter name.now (names_of_parameters (plan_expressions plan.now) (header_at plan.now self.now.template).parameters)) self.now.arguments.items) }
+    fn members<'r>(&'r self, plan: &Plan, name: NameId) -> Option<&'r Gathered>
+        ensures { option_map (λ l. held_in l.now) result ≡ given_members (given_at (last_parameter (name_at (plan_expressions plan.now) name) (names_of_parameters (plan_expressions plan.now) (header_at plan.now self.now.template).parameters)) self.now.arguments.items) }
     {
         match self.given(plan, name) {
             Some(Given::Members(members)) => Some(members),
@@ -393,8 +394,8 @@ impl Call {
     }
 
     // The same, if that is a value.
-    fn value<'r>(&'r self, plan: &Plan, name: &str) -> Option<&'r Value>
-        ensures { option_map (λ v. v.now) result ≡ given_value (given_at (last_parameter name.now (names_of_parameters (plan_expressions plan.now) (header_at plan.now self.now.template).parameters)) self.now.arguments.items) }
+    fn value<'r>(&'r self, plan: &Plan, name: NameId) -> Option<&'r Value>
+        ensures { option_map (λ v. v.now) result ≡ given_value (given_at (last_parameter (name_at (plan_expressions plan.now) name) (names_of_parameters (plan_expressions plan.now) (header_at plan.now self.now.template).parameters)) self.now.arguments.items) }
     {
         match self.given(plan, name) {
             Some(Given::Value(value)) => Some(value),
@@ -460,10 +461,9 @@ impl Env {
         match self {
             Env::Empty | Env::Called(_) => Ok(None),
             Env::Bound(binding) => {
-                let pattern = plan.expressions().placed(binding.pattern);
-                let binder = Binder::Pattern(pattern);
-                if mentioned.is_bound_by(binder) {
-                    let left = mentioned.outside(alloc, binder)?;
+                let binder = Binder::Pattern(binding.pattern);
+                if mentioned.is_bound_by(plan, binder) {
+                    let left = mentioned.outside(alloc, plan, binder)?;
                     let around = binding.around.fewer(alloc, plan, &left)?;
                     binding.over(alloc, around)
                 } else {
@@ -472,10 +472,9 @@ impl Env {
                 }
             }
             Env::Running(running) => {
-                let name = plan.expressions().name_of(running.name);
-                let binder = Binder::Name(name);
-                if mentioned.is_bound_by(binder) {
-                    let left = mentioned.outside(alloc, binder)?;
+                let binder = Binder::Name(running.name);
+                if mentioned.is_bound_by(plan, binder) {
+                    let left = mentioned.outside(alloc, plan, binder)?;
                     let around = running.around.fewer(alloc, plan, &left)?;
                     running.over(alloc, around)
                 } else {
@@ -484,10 +483,9 @@ impl Env {
                 }
             }
             Env::Collected(collected) => {
-                let name = plan.expressions().name_of(collected.name);
-                let binder = Binder::Name(name);
-                if mentioned.is_bound_by(binder) {
-                    let left = mentioned.outside(alloc, binder)?;
+                let binder = Binder::Name(collected.name);
+                if mentioned.is_bound_by(plan, binder) {
+                    let left = mentioned.outside(alloc, plan, binder)?;
                     let around = collected.around.fewer(alloc, plan, &left)?;
                     collected.over(alloc, around)
                 } else {
@@ -626,28 +624,27 @@ impl Env {
     }
 
     /// What a name stands for, if that is a process: of the same names the innermost counts. The names are those of the plan.
-    pub fn running<'r>(&'r self, plan: &Plan, name: &str) -> Option<&'r Handed>
+    pub fn running<'r>(&'r self, plan: &Plan, name: NameId) -> Option<&'r Handed>
         ensures { (φ : AnswersByName) (e : Environment) → IsNames φ plan.now self.now e →
-            IsFound φ plan.now name.now (option_map (λ r. r.now) result) (process_of name.now e) }
+            IsFound φ plan.now (name_at (plan_expressions plan.now) name) (option_map (λ r. r.now) result) (process_of (name_at (plan_expressions plan.now) name) e) }
     {
         match self {
             Env::Empty => None,
             Env::Bound(binding) => {
-                let pattern = plan.expressions().placed(binding.pattern);
-                match part_named(pattern, &*binding.value, name) {
+                match part_named(plan, binding.pattern, &*binding.value, name) {
                     Some(_) => None,
                     None => binding.around.running(plan, name),
                 }
             }
             Env::Running(running) => {
-                if name == plan.expressions().name_of(running.name) {
+                if plan.same_name(name, running.name) {
                     Some(&running.handed)
                 } else {
                     running.around.running(plan, name)
                 }
             }
             Env::Collected(collected) => {
-                if name == plan.expressions().name_of(collected.name) {
+                if plan.same_name(name, collected.name) {
                     None
                 } else {
                     collected.around.running(plan, name)
@@ -659,15 +656,14 @@ impl Env {
 
     /// The members of a name: of the same names the innermost counts, and what is no collection's has none. The names are those of
     /// the plan.
-    pub fn members<'r>(&'r self, plan: &Plan, name: &str) -> Option<&'r Gathered>
+    pub fn members<'r>(&'r self, plan: &Plan, name: NameId) -> Option<&'r Gathered>
         ensures { (φ : AnswersByName) (e : Environment) → IsNames φ plan.now self.now e →
-            AreFound φ plan.now (option_map (λ l. held_in l.now) result) (members_of name.now e) }
+            AreFound φ plan.now (option_map (λ l. held_in l.now) result) (members_of (name_at (plan_expressions plan.now) name) e) }
     {
         match self {
             Env::Empty => None,
             Env::Bound(binding) => {
-                let pattern = plan.expressions().placed(binding.pattern);
-                match part_named(pattern, &*binding.value, name) {
+                match part_named(plan, binding.pattern, &*binding.value, name) {
                     Some(_) => {
                         // a value hides members of its name
                         None
@@ -676,14 +672,14 @@ impl Env {
                 }
             }
             Env::Running(running) => {
-                if name == plan.expressions().name_of(running.name) {
+                if plan.same_name(name, running.name) {
                     None
                 } else {
                     running.around.members(plan, name)
                 }
             }
             Env::Collected(collected) => {
-                if name == plan.expressions().name_of(collected.name) {
+                if plan.same_name(name, collected.name) {
                     Some(&collected.members)
                 } else {
                     collected.around.members(plan, name)
@@ -694,28 +690,27 @@ impl Env {
     }
 
     // The value of a name: of the same names the innermost counts, and a process or a collection has none.
-    fn value<'r>(&'r self, plan: &Plan, name: &str) -> Option<&'r Value>
-        ensures { option_map (λ v. v.now) result ≡ value_named (values_around plan.now self.now) name.now }
+    fn value<'r>(&'r self, plan: &Plan, name: NameId) -> Option<&'r Value>
+        ensures { option_map (λ v. v.now) result ≡ value_named (values_around plan.now self.now) (name_at (plan_expressions plan.now) name) }
     {
         match self {
             Env::Empty => None,
             Env::Running(running) => {
-                if name == plan.expressions().name_of(running.name) {
+                if plan.same_name(name, running.name) {
                     None
                 } else {
                     running.around.value(plan, name)
                 }
             }
             Env::Collected(collected) => {
-                if name == plan.expressions().name_of(collected.name) {
+                if plan.same_name(name, collected.name) {
                     None
                 } else {
                     collected.around.value(plan, name)
                 }
             }
             Env::Bound(binding) => {
-                let pattern = plan.expressions().placed(binding.pattern);
-                match part_named(pattern, &*binding.value, name) {
+                match part_named(plan, binding.pattern, &*binding.value, name) {
                     Some(value) => Some(value),
                     None => binding.around.value(plan, name),
                 }
@@ -736,28 +731,48 @@ fn binds_nothing(pattern: &Pat) -> bool
 }
 
 // The part of a value that a name of a pattern is bound to; what is no pair stands for both its parts.
-fn part_named<'r>(pattern: &Pat, value: &'r Value, name: &str) -> Option<&'r Value>
-    ensures { (vs : ValuesByName) → value_named (values_inside (pattern_of pattern.now) value.now vs) name.now ≡ found_or (option_map (λ v. v.now) result) (value_named vs name.now) }
+fn part_named<'r>(
+    plan: &Plan,
+    pattern: PatternId,
+    value: &'r Value,
+    name: NameId,
+) -> Option<&'r Value>
+    ensures { let e = plan_expressions plan.now in (vs : ValuesByName) →
+        value_named (values_inside (pattern_of (placed_at e pattern)) value.now vs) (name_at e name) ≡ found_or (option_map (λ v. v.now) result) (value_named vs (name_at e name)) }
 {
-    match pattern.form() {
-        PatForm::Unnamed => None,
-        PatForm::Name(own, _) => {
-            if name == own.as_str() {
-                Some(value)
-            } else {
-                None
-            }
-        }
-        PatForm::Both(first, second) => {
-            let (left, right) = match value.form() {
-                Form::Pair(halves) => (&halves.first, &halves.second),
-                _ => (value, value),
-            };
-            match part_named(second, right, name) {
+    part_of_number(plan.numbered(pattern), value, plan.number(name))
+}
+
+// The same of the number of a name.
+fn part_of_number<'r>(
+    pattern: &NumberedPattern,
+    value: &'r Value,
+    number: usize,
+) -> Option<&'r Value>
+    ensures { (x : Name) (p : Pattern) → TellsName number x pattern.now p → (vs : ValuesByName) →
+        value_named (values_inside p value.now vs) x ≡ found_or (option_map (λ v. v.now) result) (value_named vs x) }
+{
+    match pattern {
+        NumberedPattern::Unnamed => None,
+        NumberedPattern::Name(own) => { if number == *own { Some(value) } else { None } }
+        NumberedPattern::Both(first, second) => {
+            let (left, right) = halves_of(value);
+            match part_of_number(second, right, number) {
                 Some(found) => Some(found),
-                None => part_named(first, left, name),
+                None => part_of_number(first, left, number),
             }
         }
+    }
+}
+
+// The halves of a value; what is no pair stands for both.
+fn halves_of(value: &Value) -> (&Value, &Value)
+    ensures first { result.0.now ≡ first_of value.now }
+    ensures second { result.1.now ≡ second_of value.now }
+{
+    match value.form() {
+        Form::Pair(halves) => (&halves.first, &halves.second),
+        _ => (value, value),
     }
 }
 
@@ -773,7 +788,13 @@ pub struct NamesIn<'a> {
 impl<'a> Names for NamesIn<'a> {
     ghost values = { λ n. values_around n.plan.now n.names.now };
 
-    fn value<'r>(&'r self, name: &str) -> Option<&'r Value> {
+    ghost expressions = { λ n. plan_expressions n.plan.now };
+
+    fn expressions(&self) -> &Exprs {
+        self.plan.expressions()
+    }
+
+    fn value<'r>(&'r self, name: NameId) -> Option<&'r Value> {
         self.names.value(self.plan, name)
     }
 }

@@ -3,12 +3,10 @@
 
 mod env;
 mod feedback;
-mod keys;
 mod state;
 
 pub use env::{Binding, Call, Collected, Env, Given, Handed, NamesIn, Running};
 pub use feedback::Feedback;
-pub use keys::Keys;
 pub use state::{
     Editing, Frozen, Gathered, Gathering, Keeping, Kept, Live, Process, Releasing, State, Switch,
     Wrap, hold_back_members, own_states, unshare, unshare_gathering, unshare_keeping,

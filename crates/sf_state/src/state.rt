@@ -1,5 +1,5 @@
 //! The states of networks.
-ghost use Rattle.std.specs.Prelude.{◌≡◌, [], ◌∷◌, length, false, IfOk, OnOk, IsTrue};
+ghost use Rattle.std.specs.Prelude.{◌≡◌, [], ◌∷◌, length, false, IfOk, OnOk, IsTrue, IsFalse};
 ghost use Rattle.sf_value.specs.Values.{Data};
 ghost use Rattle.sf_func.specs.Registries.{AnswersByName};
 ghost use Rattle.sf_law.specs.declared.plan.Plan.{Plan};
@@ -10,16 +10,15 @@ ghost use Rattle.sf_mean.specs.Lives.{base, bind, closure, resumed, empty, runni
 ghost use Rattle.sf_mean.specs.Meaning.{body_of};
 ghost use Rattle.sf_state.specs.declared.env.Env.{Env as EnvOf};
 ghost use Rattle.sf_state.specs.Held.{held_in};
-ghost use Rattle.sf_state.specs.Standing.{IsNames, Stands, Ready, Waits, WaitsKeeping, WaitsGathered, Gathers, IsProcess, AllFollow, kept_state, is_frozen};
+ghost use Rattle.sf_state.specs.Standing.{IsNames, Stands, Ready, Waits, WaitsKeeping, WaitsGathered, Gathers, IsProcess, AllFollow, kept_state, is_primitive, is_frozen};
 
 use crate::env::{Env, Handed};
 use crate::feedback::Feedback;
-use crate::keys::Keys;
 use sf_expr::{NameId, PatternId};
 use sf_law::{Plan, PlanCollection, PlanId};
 use sf_prim::PrimState;
 use sf_term::{Join, Observation, Switching};
-use sf_value::{Value, ValueFault};
+use sf_value::{Keys, Value, ValueFault};
 use std::alloc::{AllocError, Global};
 use std::mem;
 use std::rc::Rc;
@@ -366,17 +365,29 @@ impl State {
 
     /// The same state, over the same node: it copies a primitive alone, and no step of one of the two changes the other.
     /// The error is a want of memory, or too many owners of one node.
+    #[inline(always)]
     pub fn share(&self, alloc: Global) -> Result<State, AllocError>
+        ensures { IfOk result (λ shared. (φ : AnswersByName) (p : Plan) (P : ProcessOf) (L : Life) → Stands φ p self.now P L → Stands φ p shared P L) }
+    {
+        match self {
+            State::Primitive(primitive) => {
+                let copy = primitive.clone_in(alloc)?;
+                Ok(State::Primitive(copy))
+            }
+            _ => self.share_node(),
+        }
+    }
+
+    // The same of a state that is no primitive.
+    #[inline(never)]
+    fn share_node(&self) -> Result<State, AllocError>
+        requires { IsFalse (is_primitive self.now) }
         ensures { IfOk result (λ shared. (φ : AnswersByName) (p : Plan) (P : ProcessOf) (L : Life) → Stands φ p self.now P L → Stands φ p shared P L) }
     {
         match self {
             State::Unborn(process) => {
                 let same = process.share()?;
                 Ok(State::Unborn(same))
-            }
-            State::Primitive(primitive) => {
-                let copy = primitive.clone_in(alloc)?;
-                Ok(State::Primitive(copy))
             }
             State::Live(names, node) => {
                 let around = names.share()?;
@@ -402,6 +413,7 @@ impl State {
                 let rest = frozen.clone()?;
                 Ok(State::Frozen(rest))
             }
+            State::Primitive(_) => unreachable!(),
         }
     }
 
@@ -845,7 +857,7 @@ fn share_all(alloc: Global, states: &[State]) -> Result<Vec<State>, AllocError>
 {
     let mut shared = Vec::with_capacity(alloc, states.len())?;
     for state in states {
-        shared.push(state.share(alloc)?)?;
+        shared.push_reserved(state.share(alloc)?);
     }
     Ok(shared)
 }

@@ -7,13 +7,16 @@ use Rattle.std.specs.Prelude.{IsErr}
 use Rattle.std.specs.declared.alloc.Global.{Global}
 use Rattle.sf_value.specs.declared.value.Value.{Value}
 use Rattle.sf_value.specs.Values.{KeyData, Data, table}
+use Rattle.sf_value.specs.View.{rows_under}
 use Rattle.sf_value.specs.declared.fault.Fault.{Fault}
 use Rattle.sf_value.specs.declared.fault.Fault.TheVariants.{Memory}
 use Rattle.sf_func.specs.Registries.{AnswersByName}
 use Rattle.sf_term.specs.Trees.{Collection, gathered}
+use Rattle.sf_term.specs.declared.form.Observation.{Observation}
+use Rattle.sf_term.specs.declared.form.Observation.TheVariants.{Immediate}
 use Rattle.sf_mean.specs.Collections.{with_row}
 use Rattle.sf_mean.specs.Lives.{Step, step, Life, Process, frozen, Environment, Members, member, first_input}
-use Rattle.sf_mean.specs.Meaning.{Network, Outcome, gave, faulted, combined, Cost, no_cost, both_costs, members_made, Gives, gives, and_gave, of_form, Form, of_gathered, Each, no_more, one_more, Others, others_go_on, others_stop, Tables, and_table}
+use Rattle.sf_mean.specs.Meaning.{Network, Outcome, gave, faulted, combined, Cost, no_cost, both_costs, members_made, Gives, gives, and_gave, of_form, Form, of_gathered, Each, no_more, one_more, Others, others_go_on, others_stop, Tables, and_table, switched_value}
 use Rattle.sf_mean.proofs.Once.{once_each}
 use Rattle.sf_law.specs.declared.plan.Plan.{Plan}
 use Rattle.sf_law.specs.Arena.{network_of_plan}
@@ -28,7 +31,6 @@ use Rattle.sf_state.specs.Standing.{Stands, Ready, ready, lives_gathered, gather
 use Rattle.sf_state.proofs.Copies.{each_follows, held_shown, members_live, IsFresh, HasLived, primitive_lived, alive_lived, watching_lived, keeping_lived, gathering_lived, unborn_fresh, frozen_fresh}
 use Rattle.sf_parts.specs.declared.meter.Meter.{Meter}
 use Rattle.sf_parts.specs.Meters.{entered_of, height_of}
-use Rattle.sf_parts.specs.Tables.{rows_under}
 use Rattle.sf_parts.specs.Answering.{Rel, Ticks, StopsFor, memory, Answers, answers, fails, LiveSteps, left_or}
 use Rattle.sf_step.specs.Sampling.{PartSteps, StateSteps, MemberSteps, EachSteps, MembersSteps, left_with}
 use Rattle.sf_step.proofs.Turning.{gone_on}
@@ -159,11 +161,20 @@ module _ (φ : AnswersByName) (p : Plan) (w : Option ℕ) where
 
 -- ## Members that run, or wait
 
+-- an edit that shows at once shows nothing of what was before
+pub at_once : {w : Observation} (a b z : Data) → w ≡ Immediate → switched_value w a z ≡ switched_value w b z
+at_once a b z e = ap (λ (w : Observation). switched_value w a z) e ∙ sym (ap (λ (w : Observation). switched_value w b z) e)
+
 -- a `?` that passes a failure on
 pub pass_with : {φ : AnswersByName} {p : Plan} {w : Option ℕ} {bs : List State} {s : Step} {E : Type 0} {m n : Meter} {inside : ℕ} {f : Fault} (r : Result (Vec Value Global) E) (cs : List State) → IsErr r
     → EachSteps φ p w bs s (Err f) m n inside → EachSteps φ p w bs s (left_with r cs f) m n inside
 pass_with (Ok ys) cs e h = absurd cc
 pass_with (Err q) cs e h = h
+
+pub pass_each : {φ : AnswersByName} {p : Plan} {w : Option ℕ} {bs : List State} {s : Step} {A E : Type 0} {m n : Meter} {inside : ℕ} {f : Fault} (r : Result A E) (y : List State × List Data) → IsErr r
+    → EachSteps φ p w bs s (Err f) m n inside → EachSteps φ p w bs s (left_or r y f) m n inside
+pass_each (Ok a) y e h = absurd cc
+pass_each (Err q) y e h = h
 
 module _ (φ : AnswersByName) (p : Plan) where
   -- states step as those that stand for all that they stand for
@@ -221,6 +232,12 @@ module _ (φ : AnswersByName) (p : Plan) where
   pub members_fail : (g : Gathered) (d : ℕ) (x : Data) (m n : Meter) (inside : ℕ) (f : Fault) → EachSteps φ p g.wait g.states.value.items (step d x) (Err f) m n inside
       → inside ≤ height_of m → (ms : Members) (L : Life) → Gathers φ p (held_in g) ms L → StopsFor (Each (network_of_plan φ p) ms (step d x) L) f m n inside
   members_fail g d x m n inside f hs low ms L (gathers K S) = failed (hs low ms L S)
+
+  -- no table is made of their values
+  pub members_unseen : {A E : Type 0} (r : Result A E) (g h : Gathered) (d : ℕ) (x : Data) (m n : Meter) (inside : ℕ) (ys : List Data) (f : Fault) → h.keys.value ≡ g.keys.value → h.wait ≡ None
+      → EachSteps φ p g.wait g.states.value.items (step d x) (left_or r (h.states.value.items, ys) f) m n inside → MembersSteps φ p g (step d x) (left_or r (h, table (rows_under g.keys.value ys)) f) m n inside
+  members_unseen (Ok a) g h d x m n inside ys f keys runs hs = members_step g h d x m n inside ys (table (rows_under g.keys.value ys)) refl keys runs hs
+  members_unseen (Err q) g h d x m n inside ys f keys runs hs = λ low ms L G. fails (members_fail g d x m n inside f hs low ms L G)
 
   -- memory runs out for their table
   pub members_end : (g : Gathered) (d : ℕ) (x : Data) (m n n2 : Meter) (inside : ℕ) (cs : List State) (ys : List Data) {f : Fault} → f ≡ Memory → entered_of n2 ≡ entered_of n → height_of n2 ≡ height_of n

@@ -1,12 +1,13 @@
 //! One sample.
-ghost use Rattle.std.specs.Prelude.{◌≡◌, ◌≤◌, ◌∷◌, None, Some, IsTrue, IsFalse};
+ghost use Rattle.std.specs.Prelude.{◌≡◌, ◌≤◌, List, ◌∷◌, None, Some, IsTrue, IsFalse};
+ghost use Rattle.sf_value.specs.Values.{Data};
 ghost use Rattle.sf_parts.specs.Beginning.{is_awake, is_in_place};
 ghost use Rattle.sf_mean.specs.Lives.{step, Life, Process as ProcessOf};
 ghost use Rattle.sf_state.specs.Standing.{Stands};
 ghost use Rattle.sf_parts.specs.Answering.{LiveSteps, kept, left_or};
 ghost use Rattle.sf_parts.specs.Contexts.{plan_in, dt_in};
 ghost use Rattle.sf_parts.specs.Meters.{entered_of, height_of, fault_of as fault_in};
-ghost use Rattle.sf_step.specs.Sampling.{StateSteps, SwitchSteps, KeepingSteps, GatheringSteps, MembersSteps, EachSteps, MemberSteps, CountedSteps, left_beside, left_with};
+ghost use Rattle.sf_step.specs.Sampling.{StateSteps, SwitchSteps, KeepingSteps, GatheringSteps, MembersSteps, EachSteps, MemberSteps, CountedSteps, ShownSteps, left_beside, left_with};
 ghost use Rattle.sf_step.specs.Stepping.{Steps};
 
 use sf_func::Holds;
@@ -330,8 +331,8 @@ fn step_edited<R: Holds>(
     Ok(None)
 }
 
-// The next sample of members that are edited: those that run are stepped, and at an event the edit, which is handed them as they
-// were before, stands after them; its members begin on this sample.
+// The next sample of members that are edited. At an event the edit is made first, of those that run as they are, so that nothing
+// else has their list when they are stepped; its members begin after them, on this sample. Its fault comes after theirs.
 #[cycle(step)]
 #[inline(never)]
 fn step_editing<R: Holds>(
@@ -359,19 +360,43 @@ fn step_editing<R: Holds>(
             let Ok(around) = editing.inside(alloc, context.plan, names, context.dt, payload) else {
                 return Err(meter.stop(Fault::Memory));
             };
-            let ran = &mut editing.members;
-            step_members(context, ran, inside, value, meter)?;
-            match collect(context, &*editing.edit, &around) {
+            let made = collect(context, &*editing.edit, &around);
+            drop(around);
+            let shown = editing.shown;
+            step_old(context, shown, &mut editing.members, inside, value, meter)?;
+            match made {
                 Err(fault) => Err(meter.stop(fault)),
                 Ok(mut fresh) => {
-                    // (what is frozen in them needn't be shared any more)
-                    drop(around);
                     step_members(context, &mut fresh, inside, &mut begun, meter)?;
                     editing.members = fresh;
-                    show(editing.shown, value, begun);
+                    show(shown, value, begun);
                     Ok(())
                 }
             }
+        }
+    }
+}
+
+// The last sample of members that give way to those of an edit: their table takes the value's place, if it shows.
+#[cycle(step)]
+#[inline(always)]
+fn step_old<R: Holds>(
+    context: &SampleContext<R>,
+    shown: Observation,
+    members: &mut Gathered,
+    inside: u64,
+    value: &mut Value,
+    meter: &mut Meter,
+) -> Result<(), Stop>
+    ensures { ShownSteps (R.answers context.now.functions.now) (plan_in context.now) shown value.new members.old (step (dt_in context.now) value.old)
+        (λ y. left_or result (members.new, y) (fault_in meter.new)) meter.old meter.new inside }
+{
+    match shown {
+        Observation::Delayed => step_members(context, members, inside, value, meter),
+        Observation::Immediate => {
+            let wait = members.wait;
+            members.wait = None;
+            step_unseen(context, wait, &mut members.states, inside, &*value, meter)
         }
     }
 }
@@ -393,7 +418,7 @@ fn step_members<R: Holds>(
     let wait = members.wait;
     let outputs = step_list(context, wait, &mut members.states, inside, &*value, meter)?;
     members.wait = None;
-    match table_of(context.alloc, &*members.keys, outputs) {
+    match table_of(context.alloc, &members.keys, outputs) {
         Ok(rows) => {
             *value = rows;
             Ok(())
@@ -447,11 +472,55 @@ fn step_each<R: Holds>(
             return Err(meter.stop(Fault::Memory));
         };
         step_member(context, wait, state, inside, &mut output, meter)?;
-        let Ok(()) = outputs.push(output) else {
-            return Err(meter.stop(Fault::Memory));
-        };
+        outputs.push_reserved(output);
     }
     Ok(outputs)
+}
+
+// The same where no table is made of their values.
+#[cycle(step)]
+#[inline(never)]
+fn step_unseen<R: Holds>(
+    context: &SampleContext<R>,
+    wait: Option<u64>,
+    list: &mut Rc<Vec<State>>,
+    inside: u64,
+    value: &Value,
+    meter: &mut Meter,
+) -> Result<(), Stop>
+    ensures { (ys : List Data) × EachSteps (R.answers context.now.functions.now) (plan_in context.now) wait list.old.value.items (step (dt_in context.now) value.now)
+        (left_or result (list.new.value.items, ys) (fault_in meter.new)) meter.old meter.new inside }
+{
+    let Ok(()) = unshare_states(context.alloc, list) else {
+        return Err(meter.stop(Fault::Memory));
+    };
+    match Rc::get_mut(list) {
+        Some(states) => step_each_unseen(context, wait, states, inside, value, meter),
+        None => Err(meter.stop(Fault::Memory)),
+    }
+}
+
+// The same of a list that is their own.
+#[cycle(step)]
+#[inline(always)]
+fn step_each_unseen<R: Holds>(
+    context: &SampleContext<R>,
+    wait: Option<u64>,
+    states: &mut Vec<State>,
+    inside: u64,
+    value: &Value,
+    meter: &mut Meter,
+) -> Result<(), Stop>
+    ensures { (ys : List Data) × EachSteps (R.answers context.now.functions.now) (plan_in context.now) wait states.old.items (step (dt_in context.now) value.now)
+        (left_or result (states.new.items, ys) (fault_in meter.new)) meter.old meter.new inside }
+{
+    for member in states.iter_mut() {
+        let Ok(mut output) = value.clone_in(context.alloc) else {
+            return Err(meter.stop(Fault::Memory));
+        };
+        step_member(context, wait, member, inside, &mut output, meter)?;
+    }
+    Ok(())
 }
 
 // The next sample of a member: where members wait since they were frozen, its first from then on.

@@ -96,13 +96,13 @@ parts_needed p (nodes.Joined j a b) h = record { terms = omega arith; expression
 parts_needed p (nodes.Sided d a) h = record { terms = omega arith; expressions = omega arith; functions = omega arith; patterns = omega arith; names = omega arith; constants = omega arith; arguments = omega arith; collections = omega arith }
 parts_needed p (nodes.Headed q e a) h = record { terms = omega arith; expressions = omega (arith, holds_below p.expressions e h.0); functions = omega arith; patterns = omega arith; names = omega arith; constants = omega arith; arguments = omega arith; collections = omega arith }
 parts_needed p (nodes.Transformed f a) h = record { terms = omega arith; expressions = omega arith; functions = omega (arith, function_below p.expressions f h.0); patterns = omega arith; names = omega arith; constants = omega arith; arguments = omega arith; collections = omega arith }
-parts_needed p (nodes.Switching w a q b) h = record { terms = omega (arith, h.0, h.2); expressions = omega arith; functions = omega arith; patterns = omega (arith, pattern_below p.expressions q h.1); names = omega arith; constants = omega arith; arguments = omega arith; collections = omega arith }
-parts_needed p (nodes.Keeping w a o k s q b) h = record {
+parts_needed p (nodes.Switching n) h = record { terms = omega (arith, h.0, h.2); expressions = omega arith; functions = omega arith; patterns = omega (arith, pattern_below p.expressions n.pattern h.1); names = omega arith; constants = omega arith; arguments = omega arith; collections = omega arith }
+parts_needed p (nodes.Keeping n) h = record {
   terms = omega (arith, h.0, h.1, h.4);
   expressions = omega arith;
   functions = omega arith;
-  patterns = omega (arith, pattern_below p.expressions q h.3);
-  names = omega (arith, name_below p.expressions k h.2);
+  patterns = omega (arith, pattern_below p.expressions n.pattern h.3);
+  names = omega (arith, name_below p.expressions n.name h.2);
   constants = omega arith;
   arguments = omega arith;
   collections = omega arith;
@@ -168,8 +168,8 @@ node-made p (nodes.Joined j a b) = refl
 node-made p (nodes.Sided d a) = refl
 node-made p (nodes.Headed h e a) = refl
 node-made p (nodes.Transformed f a) = refl
-node-made p (nodes.Switching w a q b) = refl
-node-made p (nodes.Keeping w a o k s q b) = refl
+node-made p (nodes.Switching n) = refl
+node-made p (nodes.Keeping n) = refl
 node-made p (nodes.Gathered c) = ap gathered (collection-made p (collection_under p c))
 node-made p (nodes.Releasing n) = ap (λ i. releasing n.shown i (tree p n.observer) (name_at p.expressions n.name) (pattern_of (pattern_under p n.pattern)) (tree p n.body)) (collection-made p (collection_under p n.members))
 node-made p (nodes.Editing n) =
@@ -215,8 +215,8 @@ parts_below p t = of_node (term_entry (entries_of p.terms) t.0).node (p.arena.in
     of_node (nodes.Sided d a) h = omega arith
     of_node (nodes.Headed q e a) h = omega arith
     of_node (nodes.Transformed f a) h = omega arith
-    of_node (nodes.Switching w a q b) h = (omega arith, omega arith)
-    of_node (nodes.Keeping w a o k s q b) h = (omega arith, omega arith, omega arith)
+    of_node (nodes.Switching n) h = (omega arith, omega arith)
+    of_node (nodes.Keeping n) h = (omega arith, omega arith, omega arith)
     of_node (nodes.Gathered c) h = members_below t.0 (collection_under p c) h
     of_node (nodes.Releasing n) h = (members_below t.0 (collection_under p n.members) (omega arith), omega arith, omega arith)
     of_node (nodes.Editing n) h = (members_below t.0 (collection_under p n.members) (omega arith), members_below t.0 (collection_under p n.edit) (omega arith))
@@ -611,8 +611,8 @@ parts_held p t = of_node (term_entry (entries_of p.terms) t.0).node needed
     of_node (nodes.Sided d a) h = omega (arith, h.terms)
     of_node (nodes.Headed q e a) h = (below_holds p.expressions e (omega (arith, h.expressions)), omega (arith, h.terms))
     of_node (nodes.Transformed f a) h = (below_function p.expressions f (omega (arith, h.functions)), omega (arith, h.terms))
-    of_node (nodes.Switching w a q c) h = (omega (arith, h.terms), below_pattern p.expressions q (omega (arith, h.patterns)), omega (arith, h.terms))
-    of_node (nodes.Keeping k a o n s q c) h = (omega (arith, h.terms), omega (arith, h.terms), below_name p.expressions n (omega (arith, h.names)), below_pattern p.expressions q (omega (arith, h.patterns)), omega (arith, h.terms))
+    of_node (nodes.Switching n) h = (omega (arith, h.terms), below_pattern p.expressions n.pattern (omega (arith, h.patterns)), omega (arith, h.terms))
+    of_node (nodes.Keeping n) h = (omega (arith, h.terms), omega (arith, h.terms), below_name p.expressions n.name (omega (arith, h.names)), below_pattern p.expressions n.pattern (omega (arith, h.patterns)), omega (arith, h.terms))
     of_node (nodes.Gathered c) h = whole_held p c (omega (arith, h.collections)) h.terms
     of_node (nodes.Releasing n) h =
         (whole_held p n.members (omega (arith, h.collections)) (omega (arith, h.terms)), omega (arith, h.terms), below_name p.expressions n.name (omega (arith, h.names)), below_pattern p.expressions n.pattern (omega (arith, h.patterns)), omega (arith, h.terms))
@@ -774,24 +774,24 @@ deep_after a b r n t same made h =
 
 -- the term of a switch, whose pattern is put beside the expressions
 switch_made : (a b : Program) (q : PatternId) (p : PlacedPattern) (w : Switching) (i j : TermId) → AddsPattern a.expressions b.expressions q p → MoreLists (lists_of a) (lists_of b) → entries_of b.terms ≡ entries_of a.terms → headers_of b ≡ headers_of a
-    → term_of b (nodes.Switching w i q j) ≡ switching w (tree a i) (pattern_of p) (tree a j)
+    → term_of b (nodes.Switching (record { form = w; source = i; pattern = q; body = j })) ≡ switching w (tree a i) (pattern_of p) (tree a j)
 unfolding pattern_under
 switch_made a b q p w i j added m terms headers =
     let same = put_beside a b (pattern_beside _ _ _ _ added) m terms headers in
     rw (same.trees i, same.trees j, added.is) refl
 
 pub adds_switch : (a b c : Program) (r : Result TermId BuildRefusal) (q : PatternId) (p : PlacedPattern) (w : Switching) (i j : TermId) (s : Spot) → AddsPattern a.expressions b.expressions q p → MoreLists (lists_of a) (lists_of b) → entries_of b.terms ≡ entries_of a.terms → headers_of b ≡ headers_of a
-    → IfOk r (λ id. AddsTerm b c id (nodes.Switching w i q j) (term_of b (nodes.Switching w i q j)) s)
-    → IfOk r (λ id. AddsTerm a c id (nodes.Switching w i (next_pattern a.expressions) j) (switching w (tree a i) (pattern_of p) (tree a j)) s)
+    → IfOk r (λ id. AddsTerm b c id (nodes.Switching (record { form = w; source = i; pattern = q; body = j })) (term_of b (nodes.Switching (record { form = w; source = i; pattern = q; body = j }))) s)
+    → IfOk r (λ id. AddsTerm a c id (nodes.Switching (record { form = w; source = i; pattern = next_pattern a.expressions; body = j })) (switching w (tree a i) (pattern_of p) (tree a j)) s)
 adds_switch a b c r q p w i j s added m terms headers adds =
-    term_with a b c r q (next_pattern a.expressions) (λ (q : PatternId). nodes.Switching w i q j) _ s added.next (put_beside a b (pattern_beside _ _ _ _ added) m terms headers) (switch_made a b q p w i j added m terms headers) adds
+    term_with a b c r q (next_pattern a.expressions) (λ (q : PatternId). nodes.Switching (record { form = w; source = i; pattern = q; body = j })) _ s added.next (put_beside a b (pattern_beside _ _ _ _ added) m terms headers) (switch_made a b q p w i j added m terms headers) adds
 
 -- it is too deep where its parts are
 pub switch_deep : (a b : Program) (r : Result TermId BuildRefusal) (q : PatternId) (p : PlacedPattern) (w : Switching) (i j : TermId) → AddsPattern a.expressions b.expressions q p → MoreLists (lists_of a) (lists_of b) → entries_of b.terms ≡ entries_of a.terms → headers_of b ≡ headers_of a
-    → (r ≡ Err TooDeep ↔ (term_count b < 100000) × (64 < term_depth (term_of b (nodes.Switching w i q j))))
+    → (r ≡ Err TooDeep ↔ (term_count b < 100000) × (64 < term_depth (term_of b (nodes.Switching (record { form = w; source = i; pattern = q; body = j })))))
     → r ≡ Err TooDeep ↔ (term_count a < 100000) × (64 < term_depth (switching w (tree a i) (pattern_of p) (tree a j)))
 switch_deep a b r q p w i j added m terms headers h =
-    deep_after a b r (nodes.Switching w i q j) _ (put_beside a b (pattern_beside _ _ _ _ added) m terms headers) (switch_made a b q p w i j added m terms headers) h
+    deep_after a b r (nodes.Switching (record { form = w; source = i; pattern = q; body = j })) _ (put_beside a b (pattern_beside _ _ _ _ added) m terms headers) (switch_made a b q p w i j added m terms headers) h
 
 -- A name was put beside the expressions, and a pattern behind it.
 pub record AddsNameAndPattern (x y : Exprs) (n : NameId) (g : Name) (q : PatternId) (p : PlacedPattern) : Type 0 where
@@ -849,7 +849,7 @@ collection_at_after a b i same h = (collection_at_kept a b i (unchanged_keeps a 
 
 -- the term of a switch that knows its source by a name, whose name and pattern are put beside the expressions
 keeping_made : (a b : Program) (n : NameId) (g : Name) (q : PatternId) (p : PlacedPattern) (w : Observation) (i o j : TermId) (at : Spot) → AddsNameAndPattern a.expressions b.expressions n g q p → MoreLists (lists_of a) (lists_of b) → entries_of b.terms ≡ entries_of a.terms → headers_of b ≡ headers_of a
-    → term_of b (nodes.Keeping w i o n at q j) ≡ keeping w (tree a i) (tree a o) g (pattern_of p) (tree a j)
+    → term_of b (nodes.Keeping (record { shown = w; source = i; observer = o; name = n; place = at; pattern = q; body = j })) ≡ keeping w (tree a i) (tree a o) g (pattern_of p) (tree a j)
 unfolding pattern_under expressions_of
 keeping_made a b n g q p w i o j at added m terms headers =
     let same = put_beside a b added.beside m terms headers in
@@ -880,10 +880,10 @@ adds_named a b c r n g q p node t s added m terms headers made adds =
     term_with {I = NameId × PatternId} a b c r (n, q) (next_name a.expressions, next_pattern a.expressions) node t s ids (put_beside a b added.beside m terms headers) made adds
 
 pub adds_keeping : (a b c : Program) (r : Result TermId BuildRefusal) (n : NameId) (g : Name) (q : PatternId) (p : PlacedPattern) (w : Observation) (i o j : TermId) (at s : Spot) → AddsNameAndPattern a.expressions b.expressions n g q p → MoreLists (lists_of a) (lists_of b) → entries_of b.terms ≡ entries_of a.terms → headers_of b ≡ headers_of a
-    → IfOk r (λ id. AddsTerm b c id (nodes.Keeping w i o n at q j) (term_of b (nodes.Keeping w i o n at q j)) s)
-    → IfOk r (λ id. AddsTerm a c id (nodes.Keeping w i o (next_name a.expressions) at (next_pattern a.expressions) j) (keeping w (tree a i) (tree a o) g (pattern_of p) (tree a j)) s)
+    → IfOk r (λ id. AddsTerm b c id (nodes.Keeping (record { shown = w; source = i; observer = o; name = n; place = at; pattern = q; body = j })) (term_of b (nodes.Keeping (record { shown = w; source = i; observer = o; name = n; place = at; pattern = q; body = j }))) s)
+    → IfOk r (λ id. AddsTerm a c id (nodes.Keeping (record { shown = w; source = i; observer = o; name = next_name a.expressions; place = at; pattern = next_pattern a.expressions; body = j })) (keeping w (tree a i) (tree a o) g (pattern_of p) (tree a j)) s)
 adds_keeping a b c r n g q p w i o j at s added m terms headers adds =
-    adds_named a b c r n g q p (λ (k : NameId × PatternId). nodes.Keeping w i o k.0 at k.1 j) _ s added m terms headers (keeping_made a b n g q p w i o j at added m terms headers) adds
+    adds_named a b c r n g q p (λ (k : NameId × PatternId). nodes.Keeping (record { shown = w; source = i; observer = o; name = k.0; place = at; pattern = k.1; body = j })) _ s added m terms headers (keeping_made a b n g q p w i o j at added m terms headers) adds
 
 pub adds_releasing : (a b c : Program) (r : Result TermId BuildRefusal) (n : NameId) (g : Name) (q : PatternId) (p : PlacedPattern) (w : Observation) (i : CollectionId) (o j : TermId) (at s : Spot) → HoldsWhole a i → AddsNameAndPattern a.expressions b.expressions n g q p → MoreLists (lists_of a) (lists_of b) → entries_of b.terms ≡ entries_of a.terms → headers_of b ≡ headers_of a
     → IfOk r (λ id. AddsTerm b c id (nodes.Releasing (record { shown = w; members = i; observer = o; name = n; place = at; pattern = q; body = j })) (term_of b (nodes.Releasing (record { shown = w; members = i; observer = o; name = n; place = at; pattern = q; body = j }))) s)
@@ -898,9 +898,9 @@ adds_editing a b c r n g q p w i j at s held edit added m terms headers adds =
     adds_named a b c r n g q p (λ (k : NameId × PatternId). nodes.Editing (record { shown = w; members = i; name = k.0; place = at; pattern = k.1; edit = j })) _ s added m terms headers (editing_made a b n g q p w i j at held edit added m terms headers) adds
 
 pub keeping_deep : (a b : Program) (r : Result TermId BuildRefusal) (n : NameId) (g : Name) (q : PatternId) (p : PlacedPattern) (w : Observation) (i o j : TermId) (at : Spot) → AddsNameAndPattern a.expressions b.expressions n g q p → MoreLists (lists_of a) (lists_of b) → entries_of b.terms ≡ entries_of a.terms → headers_of b ≡ headers_of a
-    → (r ≡ Err TooDeep ↔ (term_count b < 100000) × (64 < term_depth (term_of b (nodes.Keeping w i o n at q j))))
+    → (r ≡ Err TooDeep ↔ (term_count b < 100000) × (64 < term_depth (term_of b (nodes.Keeping (record { shown = w; source = i; observer = o; name = n; place = at; pattern = q; body = j })))))
     → r ≡ Err TooDeep ↔ (term_count a < 100000) × (64 < term_depth (keeping w (tree a i) (tree a o) g (pattern_of p) (tree a j)))
-keeping_deep a b r n g q p w i o j at added m terms headers h = deep_after a b r (nodes.Keeping w i o n at q j) _ (put_beside a b added.beside m terms headers) (keeping_made a b n g q p w i o j at added m terms headers) h
+keeping_deep a b r n g q p w i o j at added m terms headers h = deep_after a b r (nodes.Keeping (record { shown = w; source = i; observer = o; name = n; place = at; pattern = q; body = j })) _ (put_beside a b added.beside m terms headers) (keeping_made a b n g q p w i o j at added m terms headers) h
 
 pub releasing_deep : (a b : Program) (r : Result TermId BuildRefusal) (n : NameId) (g : Name) (q : PatternId) (p : PlacedPattern) (w : Observation) (i : CollectionId) (o j : TermId) (at : Spot) → HoldsWhole a i → AddsNameAndPattern a.expressions b.expressions n g q p → MoreLists (lists_of a) (lists_of b) → entries_of b.terms ≡ entries_of a.terms → headers_of b ≡ headers_of a
     → (r ≡ Err TooDeep ↔ (term_count b < 100000) × (64 < term_depth (term_of b (nodes.Releasing (record { shown = w; members = i; observer = o; name = n; place = at; pattern = q; body = j })))))

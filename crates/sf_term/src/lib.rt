@@ -15,7 +15,9 @@ pub use form::{
     Accumulation, Bare, Heading, Join, Naming, Observation, Selection, Side, Start, Switching,
     Timing, WithValue,
 };
-pub use node::{Argument, ArgumentsId, Editing, Node, Primitive, Releasing, TermId};
+pub use node::{
+    Argument, ArgumentsId, Editing, Keeping, Node, Primitive, Releasing, Switch, TermId,
+};
 pub use program::Program;
 pub use refusal::BuildRefusal;
 pub use template::{Parameter, ParameterForm, Template};

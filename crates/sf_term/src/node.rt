@@ -74,17 +74,49 @@ pub enum Node {
     Headed(Heading, ExprId, TermId),
     /// `>=-(f, t)`: the values of a term, with what a function makes of its first input in the place of that input.
     Transformed(FunctionId, TermId),
-    /// A term, and the body that it gives way to, inside a pattern.
-    Switching(Switching, TermId, PatternId, TermId),
-    /// `kSwitch(t, q, k, p => u)`, delayed `dkSwitch`: at the first event that `q` sees in the inputs and values of `t`, `u`
-    /// takes over for good, which knows `t` as it stood by the name `k`.
-    Keeping(Observation, TermId, TermId, NameId, Spot, PatternId, TermId),
+    /// `switch(t, p => u)`, delayed `dSwitch`, and `rSwitch` and `drSwitch`.
+    Switching(Switch),
+    /// `kSwitch(t, q, k, p => u)`, delayed `dkSwitch`.
+    Keeping(Keeping),
     /// `parB c`: the members of a collection.
     Gathered(CollectionId),
     /// `pSwitchB(c, q, ks, p => u)`, delayed `dpSwitchB`.
     Releasing(Releasing),
     /// `rpSwitchB(c, ks, p => d)`, delayed `drpSwitchB`.
     Editing(Editing),
+}
+
+/// A term that gives way to a body, inside the pattern of an event: once, or at each event beside the input.
+#[derive(Clone, Copy, Debug, PartialEq, Eq)]
+pub struct Switch {
+    /// Which of the four switches it is.
+    pub form: Switching,
+    /// The term.
+    pub source: TermId,
+    /// The pattern of the event's payload.
+    pub pattern: PatternId,
+    /// The body.
+    pub body: TermId,
+}
+
+/// A term that gives way at the first event that an observer sees in its inputs and values: a body takes over for good, which
+/// knows it as it stood.
+#[derive(Clone, Copy, Debug, PartialEq, Eq)]
+pub struct Keeping {
+    /// Whose value shows at the event.
+    pub shown: Observation,
+    /// The term.
+    pub source: TermId,
+    /// What gives the event.
+    pub observer: TermId,
+    /// The name of the term in the body.
+    pub name: NameId,
+    /// Where that name stands.
+    pub place: Spot,
+    /// The pattern of the event's payload.
+    pub pattern: PatternId,
+    /// The body.
+    pub body: TermId,
 }
 
 /// Members that give way at the first event that an observer sees in their inputs and values: a body takes over for good, which

@@ -19,13 +19,15 @@ use crate::argument::{StoredArguments, clone_lists};
 use crate::collection::{CollExpr, CollectionId, clone_collections};
 use crate::form::{Bare, Naming, Observation, Switching};
 use crate::names::{are_named, has_names};
-use crate::node::{Argument, ArgumentsId, Editing, Node, Primitive, Releasing, TermId};
+use crate::node::{
+    Argument, ArgumentsId, Editing, Keeping, Node, Primitive, Releasing, Switch, TermId,
+};
 use crate::refusal::BuildRefusal;
 use crate::template::{Parameter, Template, clone_all};
 use sf_arena::{Arena, Entry};
 use sf_expr::{
-    Constant, ExprId, ExprNode, Exprs, Folding, FunctionId, Mapping, Operator, Pat, PatternId,
-    Spot, Unary,
+    Constant, ExprId, ExprNode, Exprs, Folded, Folding, FunctionId, Mapped, Mapping, Operator, Pat,
+    PatternId, Spot, Unary,
 };
 use sf_lex::is_name;
 use sf_value::Ty;
@@ -135,14 +137,14 @@ impl Program {
                 let depth = self.expressions.function_depth(function);
                 1 + depth.max(self.depth(part))
             }
-            Node::Switching(_, source, pattern, body) => {
-                let terms = self.depth(source).max(self.depth(body));
-                1 + terms.max(self.expressions.pattern_depth(pattern))
+            Node::Switching(node) => {
+                let terms = self.depth(node.source).max(self.depth(node.body));
+                1 + terms.max(self.expressions.pattern_depth(node.pattern))
             }
-            Node::Keeping(_, source, observer, _, _, pattern, body) => {
-                let watched = self.depth(source).max(self.depth(observer));
-                let terms = watched.max(self.depth(body));
-                1 + terms.max(self.expressions.pattern_depth(pattern))
+            Node::Keeping(node) => {
+                let watched = self.depth(node.source).max(self.depth(node.observer));
+                let terms = watched.max(self.depth(node.body));
+                1 + terms.max(self.expressions.pattern_depth(node.pattern))
             }
             Node::Call(_, arguments) => {
                 let depth = self.depth_in(self.arguments(arguments));
@@ -438,8 +440,9 @@ impl Program {
         requires part_held { HoldsExpression self.old part }
         requires body_held { HoldsExpression self.old body }
         ensures ok { let next = next_pattern (expressions_of self.old) in
+            let node = expressions.Mapped (record { part = part; mapping = mapping; pattern = next; body = body }) in
             let whole = mapped_of (expression_under self.old part) mapping (pattern_of pattern) (expression_under self.old body) in
-            IfOk result (λ id. AddsExpression self.old self.new id (expressions.Mapped part mapping next body) whole spot) }
+            IfOk result (λ id. AddsExpression self.old self.new id node whole spot) }
         ensures placed { let next = next_pattern (expressions_of self.old) in
             OnOk result (HoldsPatternIn self.new next × (pattern_under self.new next ≡ pattern)) }
         ensures named { OnOk result (HasNames (pattern_of pattern)) }
@@ -455,7 +458,15 @@ impl Program {
             .depth(part)
             .max(self.expressions.depth(body));
         match self.place(pattern, parts) {
-            Ok(id) => self.add_expression(ExprNode::Mapped(part, mapping, id, body), spot),
+            Ok(pattern) => {
+                let node = Mapped {
+                    part,
+                    mapping,
+                    pattern,
+                    body,
+                };
+                self.add_expression(ExprNode::Mapped(node), spot)
+            }
             Err(refusal) => Err(refusal),
         }
     }
@@ -478,8 +489,9 @@ impl Program {
         requires second_held { HoldsExpression self.old second }
         requires body_held { HoldsExpression self.old body }
         ensures ok { let next = next_pattern (expressions_of self.old) in
+            let node = expressions.Folded (record { first = first; folding = folding; second = second; pattern = next; body = body }) in
             let whole = folded_of (expression_under self.old first) folding (expression_under self.old second) (pattern_of pattern) (expression_under self.old body) in
-            IfOk result (λ id. AddsExpression self.old self.new id (expressions.Folded first folding second next body) whole spot) }
+            IfOk result (λ id. AddsExpression self.old self.new id node whole spot) }
         ensures placed { let next = next_pattern (expressions_of self.old) in
             OnOk result (HoldsPatternIn self.new next × (pattern_under self.new next ≡ pattern)) }
         ensures named { OnOk result (HasNames (pattern_of pattern)) }
@@ -496,7 +508,16 @@ impl Program {
             .max(self.expressions.depth(second));
         let parts = operands.max(self.expressions.depth(body));
         match self.place(pattern, parts) {
-            Ok(id) => self.add_expression(ExprNode::Folded(first, folding, second, id, body), spot),
+            Ok(pattern) => {
+                let node = Folded {
+                    first,
+                    folding,
+                    second,
+                    pattern,
+                    body,
+                };
+                self.add_expression(ExprNode::Folded(node), spot)
+            }
             Err(refusal) => Err(refusal),
         }
     }
@@ -603,8 +624,9 @@ impl Program {
         requires source_held { HoldsTerm self.old source }
         requires body_held { HoldsTerm self.old body }
         ensures ok { let next = next_pattern (expressions_of self.old) in
+            let node = terms.Switching (record { form = form; source = source; pattern = next; body = body }) in
             let whole = switching_of form (tree self.old source) (pattern_of pattern) (tree self.old body) in
-            IfOk result (λ id. AddsTerm self.old self.new id (terms.Switching form source next body) whole spot) }
+            IfOk result (λ id. AddsTerm self.old self.new id node whole spot) }
         ensures placed { let next = next_pattern (expressions_of self.old) in
             OnOk result (HoldsPatternIn self.new next × (pattern_under self.new next ≡ pattern)) }
         ensures named { OnOk result (HasNames (pattern_of pattern)) }
@@ -627,7 +649,15 @@ impl Program {
             return Err(BuildRefusal::BadName);
         }
         match self.expressions.pattern_in(pattern) {
-            Ok(id) => self.add(Node::Switching(form, source, id, body), spot),
+            Ok(pattern) => {
+                let node = Switch {
+                    form,
+                    source,
+                    pattern,
+                    body,
+                };
+                self.add(Node::Switching(node), spot)
+            }
             Err(_) => Err(BuildRefusal::Memory),
         }
     }
@@ -653,8 +683,9 @@ impl Program {
         requires body_held { HoldsTerm self.old body }
         ensures ok { let name = next_name (expressions_of self.old) in
             let next = next_pattern (expressions_of self.old) in
+            let node = terms.Keeping (record { shown = form; source = source; observer = observer; name = name; place = place; pattern = next; body = body }) in
             let whole = keeping_of form (tree self.old source) (tree self.old observer) (string_bytes process) (pattern_of pattern) (tree self.old body) in
-            IfOk result (λ id. AddsTerm self.old self.new id (terms.Keeping form source observer name place next body) whole spot) }
+            IfOk result (λ id. AddsTerm self.old self.new id node whole spot) }
         ensures placed { let next = next_pattern (expressions_of self.old) in
             OnOk result (HoldsPatternIn self.new next × (pattern_under self.new next ≡ pattern)) }
         ensures named { OnOk result (IsName (string_bytes process) × HasNames (pattern_of pattern)) }
@@ -679,9 +710,17 @@ impl Program {
         }
         match self.expressions.name(process) {
             Ok(name) => match self.expressions.pattern_in(pattern) {
-                Ok(id) => {
-                    let node = Node::Keeping(form, source, observer, name, place, id, body);
-                    self.add(node, spot)
+                Ok(pattern) => {
+                    let node = Keeping {
+                        shown: form,
+                        source,
+                        observer,
+                        name,
+                        place,
+                        pattern,
+                        body,
+                    };
+                    self.add(Node::Keeping(node), spot)
                 }
                 Err(_) => Err(BuildRefusal::Memory),
             },

@@ -50,10 +50,11 @@ fn worth(
     }
     let values = named(alloc, numbers)?;
     let names = NamedValues {
+        expressions: exprs,
         values: values.as_slice(),
     };
     let functions = Registry::new(alloc);
-    match eval(alloc, exprs, exprs.at(count - 1), &names, &functions) {
+    match eval(alloc, exprs.at(count - 1), &names, &functions) {
         Ok(value) => Ok((number_in(&value), None)),
         Err(fault) => Ok((None, Some(fault))),
     }

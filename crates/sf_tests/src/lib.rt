@@ -13,6 +13,8 @@ mod differing;
 #[cfg(test)]
 mod evaluating;
 #[cfg(test)]
+mod faulting;
+#[cfg(test)]
 mod library;
 #[cfg(test)]
 mod metering;

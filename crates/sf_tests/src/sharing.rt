@@ -3,7 +3,7 @@ use crate::networks::checked;
 use sf_func::Registry;
 use sf_law::Plan;
 use sf_optimise::plain;
-use sf_state::State;
+use sf_state::{Live, State};
 use sf_step::{Meter, step};
 use sf_value::{Fault, Form, Key, Value, same};
 use std::alloc::Global;
@@ -35,6 +35,10 @@ const GIVING_WAY: &[u8] =
 /// The same, which is edited in each sample, and goes on.
 const EDITED: &[u8] =
     b"network 1;\ntemplate main(): Int ~> Int = ((identity &&& constant event ()) >>> (rpSwitchB(add(empty Int, 1, (iPre 7 >>> iPre 8)), kept, _ => use kept) >>> arr t => fromEvent(get(t, 1), 0)));\n";
+
+/// A delay as a member of a collection, whose table is looked at.
+const TABLES: &[u8] =
+    b"network 1;\ntemplate main(): Int ~> Table Int = parB add(empty Int, 1, iPre 7);\n";
 
 /// How many owners a state's node has.
 fn owners(state: &State) -> usize {
@@ -178,6 +182,30 @@ fn table_owners(value: &Value) -> usize {
         Form::Table(table) => Rc::strong_count(table),
         _ => 0,
     }
+}
+
+/// How many owners the keys of a collection's members have.
+fn key_owners(state: &State) -> usize {
+    match state {
+        State::Live(_, node) => match &**node {
+            Live::Gathered(members) => Rc::strong_count(&members.keys),
+            _ => 0,
+        },
+        _ => 0,
+    }
+}
+
+#[test]
+fn tables_of_members_share_their_keys(rt: HostRuntime) -> Result<(), Fail> {
+    let alloc = rt.alloc();
+    let functions = Registry::new(alloc);
+    let plan = planned(alloc, TABLES, &functions)?;
+    let mut state = State::unborn(plan.main());
+    let _first = given(alloc, &mut state, &plan, &functions)?;
+    assert_eq!(rt; key_owners(&state), 2);
+    let _second = given(alloc, &mut state, &plan, &functions)?;
+    assert_eq!(rt; key_owners(&state), 3);
+    Ok(())
 }
 
 #[test]

@@ -268,7 +268,7 @@ transformed_read {v} {one} {two} {new} {id} {a} {f} {t} {spot} k added opening f
     transformed_placed opening.at comma closing (term_stands two new id _ t spot added) (function_keeps v two new added.kept.trees f xs (function_keeps v one two k f xs p)) (term_keeps v two new added.kept.trees a ys q)))
 
 -- a term, a pattern and another term in brackets
-pub switching_read : {v : Version} {one two new : Program} {id a b : TermId} {w : Switching} {p : PlacedPattern} {q : PatternId} {t : Term} {spot : Spot} {r r0 r1 r2 r3 rest : List Spot} → KeepsTrees one two → AddsTerm two new id (nodes.Switching w a q b) t spot
+pub switching_read : {v : Version} {one two new : Program} {id a b : TermId} {w : Switching} {p : PlacedPattern} {q : PatternId} {t : Term} {spot : Spot} {r r0 r1 r2 r3 rest : List Spot} → KeepsTrees one two → AddsTerm two new id (nodes.Switching (record { form = w; source = a; pattern = q; body = b })) t spot
     → HoldsPatternIn new q × (pattern_under new q ≡ p) → BehindOne r r0 → Consumes (TermPlaced v one a) r0 r1 → BehindOne r1 r2 → Consumes (Parted (PatternPlaced p) (TermPlaced v two b)) r2 r3 → BehindOne r3 rest
     → Consumes (TermPlaced v new id) (spot ∷ r) rest
 switching_read {v} {one} {two} {new} {id} {a} {b} {w} {p} {q} {t} {spot} k added there opening source comma body closing =
@@ -281,7 +281,7 @@ named_read {v} {old} {new} {id} {w} {k} {t} {spot} {place} added name = record {
 
 -- two terms, a name, a pattern and a third term in brackets
 pub keeping_read : {v : Version} {one two three new : Program} {id a b c : TermId} {w : Observation} {k : NameId} {p : PlacedPattern} {q : PatternId} {t : Term} {spot place : Spot} {r r0 r1 r2 r3 r4 r5 r6 r7 rest : List Spot} → KeepsTrees one two → KeepsTrees two three
-    → AddsTerm three new id (nodes.Keeping w a b k place q c) t spot → HoldsPatternIn new q × (pattern_under new q ≡ p) → BehindOne r r0 → Consumes (TermPlaced v one a) r0 r1 → BehindOne r1 r2 → Consumes (TermPlaced v two b) r2 r3 → BehindOne r3 r4
+    → AddsTerm three new id (nodes.Keeping (record { shown = w; source = a; observer = b; name = k; place = place; pattern = q; body = c })) t spot → HoldsPatternIn new q × (pattern_under new q ≡ p) → BehindOne r r0 → Consumes (TermPlaced v one a) r0 r1 → BehindOne r1 r2 → Consumes (TermPlaced v two b) r2 r3 → BehindOne r3 r4
     → NamePlaced place r4 r5 → BehindOne r5 r6 → Consumes (Parted (PatternPlaced p) (TermPlaced v three c)) r6 r7 → BehindOne r7 rest → Consumes (TermPlaced v new id) (spot ∷ r) rest
 keeping_read {v} {one} {two} {three} {new} {id} {a} {b} {c} {w} {k} {p} {q} {t} {spot} {place} {r2 = r2} {r7 = r7} K L added there opening source comma observer second name third body closing =
     let stays : (i : TermId) (xs : List Spot) → TermPlaced v three i xs → TermPlaced v new i xs = term_keeps v three new added.kept.trees in

@@ -1,7 +1,7 @@
 -- The index of a table's keys.
 use Rattle.std.proofs.Common.{◌≡◌, ◌<◌, ◌+◌, ℕ, ℤ, suc, Bool, true, false, cond, List, [], ◌∷◌, ◌++◌, length, map, Option, None, Some, refl, sym, ap, subst, ◌∙◌, inl, inr, arith, append_assoc, length-append, rules}
 use Rattle.std.specs.Prelude.{ltb, not, ◌||◌, is_some, if◌then◌else◌, string_bytes, nat_eq}
-use Rattle.std.specs.List.{AllByRecursion, list_any}
+use Rattle.std.specs.List.{AllByRecursion, AllZip, list_any}
 use Rattle.std.specs.List.Sorted.{IsStrictlySortedBy}
 use Rattle.std.specs.Map.{lookup, keys_of}
 use Rattle.std.specs.BTreeMap.{insert_entry, is_at}
@@ -14,6 +14,7 @@ use Rattle.std.specs.declared.cmp.Ordering.TheVariants.{Less, Equal, Greater}
 use Rattle.std.specs.declared.rc.Rc.{Rc}
 use Rattle.std.specs.declared.string.String.{String}
 use Rattle.std.proofs.lemmas.Map.{lookup-none}
+use Rattle.std.proofs.lemmas.Map.Entries.{entries_from_clone}
 use Rattle.std.proofs.lemmas.Map.Keys.{sorted_head, sorted_tail}
 use Rattle.std.proofs.lemmas.Map.Text.{is_eq-slice_cmp}
 use Rattle.std.proofs.lemmas.Bool.Decides.{nat_tests}
@@ -69,7 +70,7 @@ module _ {K : Type 0} (cmp : K → K → Ordering) where
       each (Some w) h e = is ∙ ap (insert_entry cmp es k) e ∙ stays o es k w s h
 
 -- what holds of the places holds of them in order
-put_all : (P : Placed → Type 0) (e : Placed) (xs : List Placed) → P e → AllByRecursion P xs → AllByRecursion P (put_by_place e xs)
+pub put_all : (P : Placed → Type 0) (e : Placed) (xs : List Placed) → P e → AllByRecursion P xs → AllByRecursion P (put_by_place e xs)
 put_all P e [] p a = (p, tt)
 put_all P e (x ∷ xs) p a = each (ltb e.1 x.1) (put_all P e xs p a.1)
   where
@@ -100,10 +101,10 @@ keys_length (x ∷ xs) = ap suc (keys_length xs)
 pub length_keys : (es : List Placed) → length (keys_by_place es) ≡ length es
 length_keys es = keys_length (by_place es) ∙ length_by_place es
 
-is_less : (a b : ℕ) → a < b → ltb a b ≡ true
+pub is_less : (a b : ℕ) → a < b → ltb a b ≡ true
 is_less a b h = grind (arith, nat_tests)
 
-is_not_less : (a b : ℕ) → b < a → ltb a b ≡ false
+pub is_not_less : (a b : ℕ) → b < a → ltb a b ≡ false
 is_not_less a b h = grind (arith, nat_tests)
 
 -- a key with the last place stands last
@@ -327,7 +328,7 @@ behind k (x ∷ xs) ys h = each (equal_keys k x.0) h (behind k xs ys)
 abbrev Texts : Type 0 → Type 0 → Type 0
 Texts A Y = Rc (String Y) A
 
-abbrev bytes_key : {A Y : Type 0} → Rc (String Y) A → KeyData
+abbrev pub bytes_key : {A Y : Type 0} → Rc (String Y) A → KeyData
 bytes_key t = text_key (string_bytes t.value)
 
 same_numbers : (a b : ℤ) → equal_keys (number_key a) (number_key b) ≡ is_at (int_cmp a) b
@@ -377,3 +378,17 @@ module _ {A Y : Type 0} where
       → new ≡ (if is_some (lookup (is_at (λ (u : Rc (String Y) A). string_cmp s.value u.value)) ts) then ts else insert_entry (λ (t u : Rc (String Y) A). string_cmp t.value u.value) ts s n)
       → Puts (bytes_key s) (placed ns ts) (placed ns new) (nat_eq p n)
   put_text ns ts new s n p index len is was = puts (λ (t u : Rc (String Y) A). string_cmp t.value u.value) bytes_key (placed ns) (λ k es. text_place k ns es) (text_grown ns) ts new s n p index len is was
+
+  -- ## Copies
+
+  copied_texts : (ts us : List (Rc (String Y) A × ℕ)) → AllZip (λ p q. (q.0.value ≡ p.0.value) × (q.1 ≡ p.1)) ts us → seen_as bytes_key us ≡ seen_as bytes_key ts
+  copied_texts [] [] h = refl
+  copied_texts [] (u ∷ us) h = absurd h
+  copied_texts (t ∷ ts) [] h = absurd h
+  copied_texts (t ∷ ts) (u ∷ us) h =
+      ap (λ (s : String Y). (text_key (string_bytes s), u.1) ∷ seen_as bytes_key us) h.0.0 ∙ ap (λ n. (bytes_key t.0, n) ∷ seen_as bytes_key us) h.0.1 ∙ ap (λ xs. (bytes_key t.0, t.1) ∷ xs) (copied_texts ts us h.1)
+
+  -- a copy has the same keys at the same places
+  pub same_placed : (ns ms : List (ℤ × ℕ)) (ts us : List (Rc (String Y) A × ℕ)) → AllZip (λ p q. (q.0 ≡ p.0) × (q.1 ≡ p.1)) ns ms → AllZip (λ p q. (q.0.value ≡ p.0.value) × (q.1 ≡ p.1)) ts us → placed ms us ≡ placed ns ts
+  same_placed ns ms ts us n t =
+      ap (λ ks. placed ks us) (entries_from_clone (λ k l. l ≡ k) (λ v w. w ≡ v) (λ k l e. e) (λ v w e. e) ns ms n) ∙ ap (λ xs. seen_as number_key ns ++ xs) (copied_texts ts us t)

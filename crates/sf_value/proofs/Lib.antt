@@ -1,4 +1,8 @@
+pub mod Comparing
 pub mod Typing
-pub mod Rows
+pub mod Parting
 pub mod Indexes
+pub mod Removing
+pub mod Listing
 pub mod Under
+pub mod Sought

@@ -1,25 +1,25 @@
 -- Each value inside a value is made of fewer values.
-use Rattle.std.specs.Prelude.{◌+◌, ◌≤◌, max, List, [], ◌∷◌}
+use Rattle.std.specs.Prelude.{◌≡◌, ◌+◌, ◌≤◌, max, List, [], ◌∷◌, length}
 use Rattle.std.proofs.Common.{arith}
 use denote.Param.Weighed.{most}
-use Rattle.sf_value.specs.Values.{Data, count, count_of_rows}
-use Rattle.sf_value.specs.View.{data_of, rows_of}
-use Rattle.sf_value.specs.declared.value.Key.{Key}
+use Rattle.sf_value.specs.Values.{KeyData, Data, count, count_of_rows}
+use Rattle.sf_value.specs.View.{data_of, rows_under, IsFilled}
 use Rattle.sf_value.specs.declared.value.Form.{Form}
 use Rattle.sf_value.specs.declared.value.Form.TheVariants.{Unit, Bool, Int, Text, Pair, NoEvent, Event, Table}
 use Rattle.sf_value.specs.declared.value.Value.TheDeep.{deep-Form}
-use Rattle.sf_value.specs.declared.value.Value.TheShapes.{weighed-Table-rows-at-2}
 
-rows_fit : (es : List (Key × Data)) → most (weighed-Table-rows-at-2.weight Data (λ d. count d + 1)) es ≤ count_of_rows (rows_of es) + 1
-rows_fit [] = omega arith
-rows_fit (e ∷ es) = omega (arith, rows_fit es)
+values_fit : (ks : List KeyData) (ds : List Data) → length ks ≡ length ds → most (λ d. count d + 1) ds ≤ count_of_rows (rows_under ks ds) + 1
+values_fit [] [] h = omega arith
+values_fit [] (d ∷ ds) h = absurd cc
+values_fit (k ∷ ks) [] h = omega arith
+values_fit (k ∷ ks) (d ∷ ds) h = let rest : length ks ≡ length ds = cc in omega (arith, values_fit ks ds rest)
 
-pub deep_le-count : (f : Form) → max (deep-Form f) 0 ≤ count (data_of f)
-deep_le-count Unit = omega arith
-deep_le-count (Bool b) = omega arith
-deep_le-count (Int z) = omega arith
-deep_le-count (Text s) = omega arith
-deep_le-count (Pair x) = omega arith
-deep_le-count NoEvent = omega arith
-deep_le-count (Event x) = omega arith
-deep_le-count (Table t) = omega (arith, rows_fit t.value.rows.items)
+pub deep_le-count : (f : Form) → IsFilled f → max (deep-Form f) 0 ≤ count (data_of f)
+deep_le-count Unit h = omega arith
+deep_le-count (Bool b) h = omega arith
+deep_le-count (Int z) h = omega arith
+deep_le-count (Text s) h = omega arith
+deep_le-count (Pair x) h = omega arith
+deep_le-count NoEvent h = omega arith
+deep_le-count (Event x) h = omega arith
+deep_le-count (Table t) h = omega (arith, values_fit t.value.keys.value t.value.values.items h)

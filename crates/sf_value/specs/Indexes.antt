@@ -1,5 +1,5 @@
 -- Keys with their places.
-use Rattle.std.specs.Prelude.{◌≡◌, ℕ, ◌<◌, ℤ, cond, List, [], ◌∷◌, ◌++◌, map, length, Option, ltb, string_bytes}
+use Rattle.std.specs.Prelude.{◌≡◌, ℕ, ◌-◌, ◌<◌, ℤ, cond, not, nat_eq, List, [], ◌∷◌, ◌++◌, map, length, Option, ltb, string_bytes}
 use Rattle.std.specs.List.{AllByRecursion}
 use Rattle.std.specs.Map.{lookup}
 use Rattle.std.specs.declared.rc.Rc.{Rc}
@@ -33,3 +33,12 @@ pub record IsIndex (es : List (KeyData × ℕ)) : Type 0 where
   pub below : AllByRecursion (λ e. e.1 < length es) es
   pub different : AreDifferentKeys (keys_by_place es)
   pub places : (k : KeyData) → found_place k es ≡ key_index k (keys_by_place es)
+
+-- a place once the one at i was taken out
+abbrev pub moved_up : ℕ → ℕ → ℕ
+moved_up i n = cond (ltb i n) (n - 1) n
+
+-- what is left without the place i
+abbrev pub without_place : {K : Type 0} → ℕ → List (K × ℕ) → List (K × ℕ)
+without_place i [] = []
+without_place i (e ∷ es) = cond (not (nat_eq e.1 i)) ((e.0, moved_up i e.1) ∷ without_place i es) (without_place i es)

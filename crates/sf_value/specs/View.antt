@@ -1,7 +1,7 @@
 -- The data that a `Value` stands for.
-use Rattle.std.specs.Prelude.{◌≡◌, List, [], ◌∷◌, map, IsTrue, ⊤, string_bytes}
+use Rattle.std.specs.Prelude.{◌≡◌, List, [], ◌∷◌, length, IsTrue, ⊤, string_bytes}
 use Rattle.std.specs.Str.{IsUtf8}
-use Rattle.sf_value.specs.Values.{Data, unit, truth, number, text, pair, no_event, event, table, Rows, no_rows, row, is_narrow, HasDifferentKeys}
+use Rattle.sf_value.specs.Values.{KeyData, Data, unit, truth, number, text, pair, no_event, event, table, Rows, no_rows, row, is_narrow, HasDifferentKeys}
 pub use Rattle.sf_value.specs.Keys.{key_of}
 use Rattle.sf_value.specs.declared.value.Key.{Key}
 use Rattle.sf_value.specs.declared.value.Form.{Form}
@@ -12,6 +12,12 @@ abbrev pub rows_of : List (Key × Data) → Rows
 rows_of [] = no_rows
 rows_of (e ∷ es) = row (key_of e.0) e.1 (rows_of es)
 
+-- each value under the key at its place, as far as both lists go
+abbrev pub rows_under : List KeyData → List Data → Rows
+rows_under [] ds = no_rows
+rows_under (k ∷ ks) [] = no_rows
+rows_under (k ∷ ks) (d ∷ ds) = row k d (rows_under ks ds)
+
 -- what a form means
 abbrev pub data_of : Form → Data
 data_of Unit = unit
@@ -21,7 +27,7 @@ data_of (Text s) = text (string_bytes s.value)
 data_of (Pair x) = pair x.value.first x.value.second
 data_of NoEvent = no_event
 data_of (Event x) = event x.value
-data_of (Table t) = table (rows_of t.value.rows.items)
+data_of (Table t) = table (rows_under t.value.keys.value t.value.values.items)
 
 -- a number is within signed 64 bits, a text is UTF-8, the keys of a table are different; this holds of each value that a value is made of
 abbrev pub IsProper : Data → Type 0
@@ -30,7 +36,7 @@ IsProper (text s) = IsUtf8 s
 IsProper (table rs) = HasDifferentKeys rs
 IsProper d = ⊤
 
--- the index of a table has the keys of its rows, in order
-abbrev pub IsIndexed : Form → Type 0
-IsIndexed (Table t) = t.value.keys ≡ map (λ e. key_of e.0) t.value.rows.items
-IsIndexed f = ⊤
+-- a table has as many values as keys
+abbrev pub IsFilled : Form → Type 0
+IsFilled (Table t) = length t.value.keys.value ≡ length t.value.values.items
+IsFilled f = ⊤

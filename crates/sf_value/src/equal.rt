@@ -1,7 +1,8 @@
 //! Comparisons of values with values and with types.
-ghost use Rattle.std.specs.Prelude.{◌≡◌, ◌↔◌, IsTrue};
-ghost use Rattle.sf_value.specs.Values.{number_key, text_key, HasKind, HasKeyKind, HasRowKinds};
-ghost use Rattle.sf_value.specs.View.{key_of, rows_of};
+ghost use Rattle.std.specs.Prelude.{◌≡◌, ◌↔◌, IsTrue, map};
+ghost use Rattle.std.specs.List.{AllByRecursion};
+ghost use Rattle.sf_value.specs.Values.{number_key, text_key, HasKind, HasKeyKind};
+ghost use Rattle.sf_value.specs.View.{key_of};
 ghost use Rattle.sf_value.specs.KindView.{key_kind_of};
 
 use crate::ty::{KeyType, Ty, TyForm};
@@ -20,23 +21,40 @@ pub fn same(a: &Value, b: &Value) -> bool
         (Form::Pair(x), Form::Pair(y)) => same(&x.first, &y.first) && same(&x.second, &y.second),
         (Form::NoEvent, Form::NoEvent) => true,
         (Form::Event(x), Form::Event(y)) => same(x, y),
-        (Form::Table(x), Form::Table(y)) => same_rows(&x.rows, &y.rows),
+        (Form::Table(x), Form::Table(y)) => {
+            same_keys(x.keys.all(), y.keys.all()) && same_values(&x.values, &y.values)
+        }
         _ => false,
     }
 }
 
 #[cycle(same)]
-fn same_rows(a: &[(Key, Value)], b: &[(Key, Value)]) -> bool
-    ensures { IsTrue result ↔ (rows_of a.now ≡ rows_of b.now) }
+fn same_values(a: &[Value], b: &[Value]) -> bool
+    ensures { IsTrue result ↔ (a.now ≡ b.now) }
 {
     match a {
         [] => match b {
             [] => true,
             [_, ..] => false,
         },
-        [(k, v), x @ ..] => match b {
+        [v, x @ ..] => match b {
             [] => false,
-            [(l, w), y @ ..] => same_key(k, l) && same(v, w) && same_rows(x, y),
+            [w, y @ ..] => same(v, w) && same_values(x, y),
+        },
+    }
+}
+
+fn same_keys(a: &[Key], b: &[Key]) -> bool
+    ensures { IsTrue result ↔ (map key_of a.now ≡ map key_of b.now) }
+{
+    match a {
+        [] => match b {
+            [] => true,
+            [_, ..] => false,
+        },
+        [k, x @ ..] => match b {
+            [] => false,
+            [l, y @ ..] => same_key(k, l) && same_keys(x, y),
         },
     }
 }
@@ -65,20 +83,29 @@ pub fn has_type(value: &Value, ty: &Ty) -> bool
         (Form::Pair(x), TyForm::Pair(t, u)) => has_type(&x.first, t) && has_type(&x.second, u),
         (Form::NoEvent, TyForm::Event(_)) => true,
         (Form::Event(x), TyForm::Event(t)) => has_type(x, t),
-        (Form::Table(x), TyForm::Table(k, t)) => have_types(&x.rows, *k, t),
+        (Form::Table(x), TyForm::Table(k, t)) => {
+            have_key_type(x.keys.all(), *k) && have_type(&x.values, t)
+        }
         _ => false,
     }
 }
 
 #[cycle(has_type)]
-fn have_types(rows: &[(Key, Value)], keys: KeyType, values: &Ty) -> bool
-    ensures { IsTrue result ↔ HasRowKinds (rows_of rows.now) (key_kind_of keys) values.now }
+fn have_type(values: &[Value], ty: &Ty) -> bool
+    ensures { IsTrue result ↔ AllByRecursion (λ x. HasKind x ty.now) values.now }
 {
-    match rows {
+    match values {
         [] => true,
-        [(k, v), rest @ ..] => {
-            has_key_type(k, keys) && has_type(v, values) && have_types(rest, keys, values)
-        }
+        [value, rest @ ..] => has_type(value, ty) && have_type(rest, ty),
+    }
+}
+
+fn have_key_type(keys: &[Key], ty: KeyType) -> bool
+    ensures { IsTrue result ↔ AllByRecursion (λ k. HasKeyKind (key_of k) (key_kind_of ty)) keys.now }
+{
+    match keys {
+        [] => true,
+        [key, rest @ ..] => has_key_type(key, ty) && have_key_type(rest, ty),
     }
 }
 

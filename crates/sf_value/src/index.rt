@@ -1,9 +1,10 @@
-//! The index of a table's keys.
-ghost use Rattle.std.specs.Prelude.{◌≡◌, [], ◌∷◌, ◌++◌, length, not, is_some, IfOk, IfErr, if◌then◌else◌};
-ghost use Rattle.std.specs.List.{list_any};
+//! The index of keys.
+ghost use Rattle.std.specs.Prelude.{◌≡◌, [], ◌∷◌, ◌++◌, length, not, is_some, IfOk, IfErr, nat_eq, if◌then◌else◌};
+ghost use Rattle.std.specs.List.{list_any, remove};
 ghost use Rattle.std.specs.Option.{unwrap_or};
 ghost use Rattle.std.specs.BTreeMap.{get, insert_entry};
 ghost use Rattle.sf_value.specs.Keys.{key_of, equal_keys, key_index, AreDifferentKeys};
+ghost use Rattle.sf_value.specs.Indexes.{moved_up, without_place};
 
 use crate::value::Key;
 use std::alloc::{AllocError, Global};
@@ -12,11 +13,11 @@ use std::collections::btree_map::Entry;
 use std::marker::Model;
 use std::rc::Rc;
 
-/// Different keys in an order. A key is found in logarithmic time, whatever the keys are.
+/// The places of different keys in an order. A key is found in logarithmic time, whatever the keys are.
 #[derive(Drop)]
-pub struct Index {
+pub(crate) struct Index {
     // the place of each key in the order, from 0
-    pub(crate) numbers: BTreeMap<i64, usize>,
+    numbers: BTreeMap<i64, usize>,
     texts: BTreeMap<Rc<String>, usize>,
 }
 
@@ -35,7 +36,7 @@ impl Model for Index {
 
 impl Index {
     /// No keys.
-    pub fn new(alloc: Global) -> Index
+    pub(crate) fn new(alloc: Global) -> Index
         ensures { result ≡ [] }
     {
         Index {
@@ -45,7 +46,7 @@ impl Index {
     }
 
     /// How many keys there are.
-    pub fn len(&self) -> usize
+    pub(crate) fn len(&self) -> usize
         ensures len { result ≡ length self.now }
         ensures different { AreDifferentKeys self.now }
     {
@@ -53,7 +54,7 @@ impl Index {
     }
 
     /// Puts a key behind the others, where it is none of them, and says whether it is.
-    pub fn insert(&mut self, key: &Key) -> Result<bool, AllocError>
+    pub(crate) fn insert(&mut self, key: &Key) -> Result<bool, AllocError>
         ensures added { IfOk result (λ added. added ≡ not (list_any (equal_keys (key_of key.now)) self.old)) }
         ensures keys { IfOk result (λ added. self.new ≡ (if added then self.old ++ key_of key.now ∷ [] else self.old)) }
         ensures kept { IfErr result (λ _. self.new ≡ self.old) }
@@ -63,6 +64,23 @@ impl Index {
             Key::Int(n) => Ok(place_of(&mut self.numbers, *n, place)? == place),
             Key::Text(s) => Ok(place_of(&mut self.texts, s.clone()?, place)? == place),
         }
+    }
+
+    /// The same keys. The error is a want of memory, or too many owners of a text.
+    pub(crate) fn clone_in(&self, _alloc: Global) -> Result<Index, AllocError>
+        ensures { IfOk result (λ same. same ≡ self.now) }
+    {
+        let numbers = self.numbers.clone()?;
+        let texts = self.texts.clone()?;
+        Ok(Index { numbers, texts })
+    }
+
+    /// Takes the key at a place out, where there is one. Those behind it move up.
+    pub(crate) fn remove(&mut self, place: usize)
+        ensures { self.new ≡ remove self.old place }
+    {
+        take_out(&mut self.numbers, place);
+        take_out(&mut self.texts, place);
     }
 
     /// The place of a key, from 0.
@@ -88,4 +106,23 @@ fn place_of<K: Ord + Drop>(
     ensures kept { IfErr result (λ _. places.new.entries ≡ places.old.entries) }
 {
     Ok(*places.entry(key)?.or_insert(place))
+}
+
+/// Takes the key at a place out. The places behind it are one less.
+fn take_out<K: Ord + Drop>(places: &mut BTreeMap<K, usize>, place: usize)
+    ensures { places.new.entries ≡ without_place place places.old.entries }
+{
+    places.retain(|_, at| is_left(at, place));
+}
+
+/// Whether a place isn't the one that is taken out. One behind it is one less.
+fn is_left(at: &mut usize, place: usize) -> bool
+    ensures left { result ≡ not (nat_eq at.old place) }
+    ensures moved { at.new ≡ moved_up place at.old }
+{
+    if *at > place {
+        *at -= 1;
+        return true;
+    }
+    *at != place
 }

@@ -4,6 +4,7 @@
 mod equal;
 mod fault;
 mod index;
+mod keys;
 mod lookup;
 mod make;
 mod pair;
@@ -13,7 +14,7 @@ mod value;
 
 pub use equal::{has_key_type, has_type, same, same_key};
 pub use fault::{Fault, ValueFault};
-pub use index::Index;
+pub use keys::Keys;
 pub use table::TableRefusal;
 pub use ty::{KeyType, Ty, TyForm, TyRefusal, same_type};
-pub use value::{Form, Key, Pair, Table, Value};
+pub use value::{Form, Key, Pair, Rows, Table, Value};

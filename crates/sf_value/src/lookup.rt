@@ -1,19 +1,23 @@
 //! What a table holds.
-ghost use Rattle.std.specs.Prelude.{◌≡◌};
+ghost use Rattle.std.specs.Prelude.{◌≡◌, length, map};
 ghost use Rattle.std.specs.Option.{option_map};
-ghost use Rattle.sf_value.specs.View.{key_of, rows_of};
+ghost use Rattle.sf_value.specs.View.{key_of, rows_under};
 ghost use Rattle.sf_value.specs.Lookups.{table_rows, value_under};
 
-use crate::value::{Form, Key, Value};
+use crate::value::{Form, Key, Rows, Value};
 
 impl Value {
     /// The rows of a table, in order; none of another value.
-    pub fn rows(&self) -> &[(Key, Value)]
-        ensures { rows_of result.now ≡ table_rows self.now }
+    pub fn rows(&self) -> Rows<'_>
+        ensures rows { rows_under (map key_of result.keys.now) result.values.now ≡ table_rows self.now }
+        ensures as_many { length result.keys.now ≡ length result.values.now }
     {
         match &self.form {
             Form::Table(table) => table.rows(),
-            _ => &[],
+            _ => Rows {
+                keys: &[],
+                values: &[],
+            },
         }
     }
 

@@ -1,7 +1,7 @@
 //! Values from their parts, and back.
 ghost use Rattle.std.specs.Prelude.{◌≡◌, IfOk, string_bytes};
 ghost use Rattle.sf_value.specs.Values.{unit, truth, number, text, pair, no_event, event};
-ghost use Rattle.sf_value.specs.View.{key_of, data_of, IsProper, IsIndexed};
+ghost use Rattle.sf_value.specs.View.{key_of, data_of, IsProper, IsFilled};
 
 use crate::value::{Form, Key, Pair, Value};
 use std::alloc::{AllocError, Global};
@@ -92,13 +92,30 @@ impl Value {
     pub fn form(&self) -> &Form
         ensures data { data_of result.now ≡ self.now }
         ensures proper { IsProper self.now }
-        ensures indexed { IsIndexed result.now }
+        ensures filled { IsFilled result.now }
     {
         &self.form
     }
 
     /// A copy of the value, which shares what it is made of. It takes no memory, however large the value is.
+    #[inline(always)]
     pub fn clone_in(&self, _alloc: Global) -> Result<Value, AllocError>
+        ensures { IfOk result (λ v. v ≡ self.now) }
+    {
+        let form = match &self.form {
+            Form::Unit => Form::Unit,
+            Form::Bool(b) => Form::Bool(*b),
+            Form::Int(n) => Form::Int(*n),
+            Form::NoEvent => Form::NoEvent,
+            // what holds something takes a call
+            _ => return self.shared(),
+        };
+        Ok(Value { form })
+    }
+
+    // A copy of the value, which shares what it is made of.
+    #[inline(never)]
+    pub(crate) fn shared(&self) -> Result<Value, AllocError>
         ensures { IfOk result (λ v. v ≡ self.now) }
     {
         let form = match &self.form {
@@ -117,6 +134,7 @@ impl Value {
 
 impl Key {
     /// A copy of the key, which shares its text. It takes no memory.
+    #[inline]
     pub fn clone_in(&self, _alloc: Global) -> Result<Key, AllocError>
         ensures { IfOk result (λ k. key_of k ≡ key_of self.now) }
     {

@@ -6,16 +6,15 @@ use crate::value::{Form, Pair, Value};
 use std::alloc::{AllocError, Global};
 use std::rc::Rc;
 
-impl Pair {
-    // A copy of both halves, which shares what they are made of. It takes no memory.
+// A copy of both halves, which shares what they are made of. It takes no memory.
+impl Clone for Pair {
+    ghost is_clone = { λ pair copy. copy ≡ pair };
+
     #[cold]
     #[inline(never)]
-    fn clone_in(&self, alloc: Global) -> Result<Pair, AllocError>
-        ensures first { IfOk result (λ copy. copy.first ≡ self.now.first) }
-        ensures second { IfOk result (λ copy. copy.second ≡ self.now.second) }
-    {
-        let first = self.first.clone_in(alloc)?;
-        let second = self.second.clone_in(alloc)?;
+    fn clone(&self) -> Result<Pair, AllocError> {
+        let first = self.first.shared()?;
+        let second = self.second.shared()?;
         Ok(Pair { first, second })
     }
 }
@@ -31,7 +30,7 @@ impl Value {
         let Pair { first, second } = match self.into_form() {
             Form::Pair(node) => match Rc::try_unwrap(node) {
                 Ok(halves) => halves,
-                Err(shared) => shared.clone_in(alloc)?,
+                Err(shared) => (*shared).clone()?,
             },
             form => doubled(alloc, Value { form })?,
         };
@@ -96,6 +95,6 @@ fn in_own_node(alloc: Global, shared: Rc<Pair>) -> Result<Rc<Pair>, AllocError>
     ensures first { IfOk result (λ node. node.value.first ≡ shared.value.first) }
     ensures second { IfOk result (λ node. node.value.second ≡ shared.value.second) }
 {
-    let copy = shared.clone_in(alloc)?;
+    let copy = (*shared).clone()?;
     Ok(Rc::new(alloc, copy)?)
 }

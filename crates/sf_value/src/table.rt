@@ -1,14 +1,14 @@
 //! Tables: values under different keys, in order.
-ghost use Rattle.std.specs.Prelude.{◌≡◌, IfOk, IfErr, map};
+ghost use Rattle.std.specs.Prelude.{◌≡◌, IfOk, IfErr, length, map};
 ghost use Rattle.std.specs.Option.{option_map};
 ghost use Rattle.sf_value.specs.Values.{table};
-ghost use Rattle.sf_value.specs.View.{key_of, rows_of};
+ghost use Rattle.sf_value.specs.View.{key_of, rows_of, rows_under};
 ghost use Rattle.sf_value.specs.Tables.{RefusesRows};
 ghost use Rattle.sf_value.specs.Lookups.{value_under};
 ghost use Rattle.sf_value.specs.declared.table.TableRefusal.TheVariants.{Memory};
 
-use crate::index::Index;
-use crate::value::{Form, Key, Table, Value};
+use crate::keys::Keys;
+use crate::value::{Form, Key, Rows, Table, Value};
 use std::alloc::{AllocError, AllocFailed, Global};
 use std::rc::Rc;
 use thiserror::Error;
@@ -48,52 +48,48 @@ impl Value {
         ensures ok { IfOk result (λ v. v ≡ table (rows_of rows.items)) }
         ensures refused { IfErr result (λ e. RefusesRows rows.items e) }
     {
-        let keys = keys_in(alloc, &rows)?;
-        Ok(Value::of_rows(alloc, rows, keys)?)
+        let mut keys = Keys::new(alloc);
+        let mut values = Vec::with_capacity(alloc, rows.len())?;
+        for (key, value) in rows {
+            if !keys.push(key)? {
+                return Err(TableRefusal::DuplicateKey(keys.len()));
+            }
+            values.push(value)?;
+        }
+        Ok(Value::under(alloc, Rc::new(alloc, keys)?, values)?)
     }
 
-    /// A table of rows, in order, whose keys stand in an index in the same order.
-    pub fn of_rows(alloc: Global, rows: Vec<(Key, Value)>, keys: Index) -> Result<Value, AllocError>
-        requires { keys ≡ map (λ e. key_of e.0) rows.items }
-        ensures { IfOk result (λ v. v ≡ table (rows_of rows.items)) }
+    /// A table of as many values as keys, each under the key at its place. It shares the keys, and takes memory for one node.
+    pub fn under(alloc: Global, keys: Rc<Keys>, values: Vec<Value>) -> Result<Value, AllocError>
+        requires { length keys.value ≡ length values.items }
+        ensures { IfOk result (λ v. v ≡ table (rows_under keys.value values.items)) }
     {
-        // (what is known of an index: its keys are different)
-        let _ = &keys.numbers;
-        let table = Rc::new(alloc, Table { rows, keys })?;
+        let _different = keys.all();
+        let table = Rc::new(alloc, Table { keys, values })?;
         Ok(Value {
             form: Form::Table(table),
         })
     }
 }
 
-/// The keys of the rows, in order, where they are different.
-fn keys_in(alloc: Global, rows: &[(Key, Value)]) -> Result<Index, TableRefusal>
-    ensures keys { IfOk result (λ s. s ≡ map (λ e. key_of e.0) rows.now) }
-    ensures refused { IfErr result (λ e. RefusesRows rows.now e) }
-{
-    let mut keys = Index::new(alloc);
-    for i in 0..rows.len() {
-        if !keys.insert(&rows[i].0)? {
-            return Err(TableRefusal::DuplicateKey(i));
-        }
-    }
-    Ok(keys)
-}
-
 impl Table {
     /// The rows, in order.
-    pub(crate) fn rows(&self) -> &[(Key, Value)]
-        ensures { result.now ≡ self.now.rows.items }
+    pub(crate) fn rows(&self) -> Rows<'_>
+        ensures keys { map key_of result.keys.now ≡ self.now.keys.value }
+        ensures values { result.values.now ≡ self.now.values.items }
     {
-        &self.rows
+        Rows {
+            keys: self.keys.all(),
+            values: &self.values,
+        }
     }
 
     /// The value under a key.
     pub(crate) fn get(&self, key: &Key) -> Option<&Value>
-        requires { self.now.keys ≡ map (λ e. key_of e.0) self.now.rows.items }
-        ensures { option_map (λ v. v.now) result ≡ value_under (key_of key.now) (rows_of self.now.rows.items) }
+        requires { length self.now.keys.value ≡ length self.now.values.items }
+        ensures { option_map (λ v. v.now) result ≡ value_under (key_of key.now) (rows_under self.now.keys.value self.now.values.items) }
     {
         let place = self.keys.place(key)?;
-        Some(&self.rows[place].1)
+        Some(&self.values[place])
     }
 }

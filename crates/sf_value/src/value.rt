@@ -1,5 +1,5 @@
 //! Values.
-use crate::index::Index;
+use crate::keys::Keys;
 use std::marker::Model;
 use std::rc::Rc;
 
@@ -13,13 +13,13 @@ pub struct Value {
 
 impl Value {
     ghost use Rattle.std.specs.Prelude.{◌≡◌};
-    ghost use Rattle.sf_value.specs.View.{data_of, IsProper, IsIndexed};
+    ghost use Rattle.sf_value.specs.View.{data_of, IsProper, IsFilled};
 
     /// What the value is made of, taken out of it.
     pub fn into_form(self) -> Form
         ensures data { data_of result ≡ self }
         ensures proper { IsProper self }
-        ensures indexed { IsIndexed result }
+        ensures filled { IsFilled result }
     {
         let Value { form } = self;
         form
@@ -76,9 +76,19 @@ pub struct Pair {
 #[derive(Drop)]
 #[cycle(value)]
 pub struct Table {
-    pub(crate) rows: Vec<(Key, Value)>,
-    // the keys of the rows, in order
-    pub(crate) keys: Index,
+    // the keys, which tables under the same keys share
+    pub(crate) keys: Rc<Keys>,
+    // the value under each of them, at its place
+    pub(crate) values: Vec<Value>,
+}
+
+/// The rows of a table: its keys in order, and the value under each at the same place.
+#[derive(Clone, Copy)]
+pub struct Rows<'a> {
+    /// The keys, which are different.
+    pub keys: &'a [Key],
+    /// The value under each of them, at its place.
+    pub values: &'a [Value],
 }
 
 /// A key of a table.
@@ -109,15 +119,15 @@ impl Model for Value {
 
     ghost coded = { code_by (List Mark) (Prim.hlevel codes) marks_of data_from data_from-marks_of };
 
-    ghost use Rattle.sf_value.specs.View.{data_of, IsProper, IsIndexed};
+    ghost use Rattle.sf_value.specs.View.{data_of, IsProper, IsFilled};
 
     ghost view = { λ a. data_of a.form };
 
-    ghost invariant = { λ a. IsProper (data_of a.form) × IsIndexed a.form };
+    ghost invariant = { λ a. IsProper (data_of a.form) × IsFilled a.form };
 
     ghost size = { count };
 
     ghost use Rattle.sf_value.specs.Falls.{deep_le-count};
 
-    ghost size_decreases = { λ a h. deep_le-count a.form };
+    ghost size_decreases = { λ a h. deep_le-count a.form h.1 };
 }

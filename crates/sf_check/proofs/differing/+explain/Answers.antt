@@ -19,17 +19,17 @@ use Rattle.sf_mean.specs.Contexts.{Context, names_of_values, inside_pattern}
 use Rattle.sf_mean.specs.Typing.{Takes, Collects}
 use Rattle.sf_expr.proofs.Bound.{on_err}
 use Rattle.sf_differ.specs.Differences.{Explains, tells_nothing, lacks_room}
-use Rattle.sf_differ.proofs.Told.{told_as, told_on, room_on}
+use Rattle.sf_differ.proofs.Told.{told_as, told_on, room_on, unsaid_on}
 use Rattle.sf_operator.proofs.SameKinds.{payload_is}
 use Rattle.sf_check.specs.Contexts.{program_in, context_in}
 use Rattle.sf_check.specs.Breaking.{pattern_in, members_inside, ArgumentKeeps, value_keeps, process_keeps, collection_keeps, ArgumentsLeft, all_left, sequence_left, sequence_right, fan_left, fan_right, head_part, transformed_part, switch_source, switch_body, keeping_source, keeping_body, releasing_body, ReachesMembers, gathered_members, releasing_members, their_edit}
-use Rattle.sf_check.specs.Differing.{BodyStops, EditUnfit, FormDiffers, TermDiffers, CollectionDiffers, ArgumentDiffersWithin, within_value, within_process, within_members, body_pattern, body_output, edit_pattern, edit_tables, both_inputs, side_inputs, head_within, fed_output, initial_output, followed_output, replaced_input, transform_within, transformed_input, source_output, event_beside, switch_body_differs, observer_output, keeping_body_differs, their_observer_output, released_body_differs, event_beside_members, members_edit_differs, added_members, added_key_within, member_within, added_key, member_output, dropped_members, dropped_key_within, dropped_key, kept_members, kept_within, kept_truth, choice_within, one_members, other_members, choice_truth, choice_tables}
-use Rattle.sf_check.proofs.Terms.{sided_there, left_reached, right_reached, first_reached, second_reached, loop_reached, first_term_reached, source_wants, input_wants, observer_reached}
+use Rattle.sf_check.specs.Differing.{BodyStops, EditUnfit, FormDiffers, TermDiffers, CollectionDiffers, ArgumentDiffersWithin, within_value, within_process, within_members, body_pattern, body_output, edit_pattern, edit_tables, both_inputs, side_inputs, head_within, fed_output, replaced_input, transform_within, transformed_input, source_output, event_beside, switch_body_differs, observer_output, keeping_body_differs, their_observer_output, released_body_differs, event_beside_members, members_edit_differs, added_members, added_key_within, member_within, added_key, member_output, dropped_members, dropped_key_within, dropped_key, kept_members, kept_within, kept_truth, choice_within, one_members, other_members, choice_truth, choice_tables}
+use Rattle.sf_check.proofs.Terms.{switch_there, sided_there, headed_there, output_reached, left_reached, right_reached, first_reached, second_reached, loop_reached, first_term_reached, source_wants, input_wants, observer_reached}
 use Rattle.sf_reach.proofs.Shallow.{arguments_shallow, members_shallow, released_shallow, edited_shallow, first_shallow, rest_shallow, found_there, absent_there}
 use Rattle.sf_check.proofs.Arguments.{rest_length, one_less}
 use Rattle.sf_check.proofs.Members.{empty_collects, absent_collects, added_collects, dropped_collects, kept_collects, chosen_collects, their_observer_reached, their_observer_seen, editing_members_reached}
 use Rattle.sf_check.proofs.Unlike.{found_same, argument_as, walk_first, walk_next, walk_end, collection_tells}
-use Rattle.sf_check.proofs.Apart.{part_tells, members_tell, argument_tells, call_tells, form_tells, form_last, stops_last, stops_as, edit_last, exactly_as, fed_takes, watched_takes, table_made}
+use Rattle.sf_check.proofs.Apart.{part_tells, members_tell, argument_tells, call_tells, form_tells, form_last, stops_last, stops_as, edit_last, exactly_as, fed_takes, watched_takes, table_made, among_outputs}
 use Rattle.sf_check.proofs.differing.+explain.Goals as goal
 
 -- ## A part
@@ -64,14 +64,17 @@ explain_sequence-returns-in_err-part t c = told_on _ _ c.from_residual-in_err-pa
 pub explain_parallel-returns-in_err-suited : goal.explain_parallel-returns-in_err-suited
 explain_parallel-returns-in_err-suited t c = told_on _ _ c.from_residual.ensures.1 (form_tells _ _ _ _ _ c.requires.there _ c.spot-spot.ensures (λ d k. both_inputs k) c.in_err-suited.ensures.err)
 
+pub explain_parallel-returns-in_err-a : goal.explain_parallel-returns-in_err-a
+explain_parallel-returns-in_err-a t c = unsaid_on _ _ _ c.from_residual-in_err-a.ensures.1
+
 pub explain_parallel-returns-in_err-part : goal.explain_parallel-returns-in_err-part
 explain_parallel-returns-in_err-part t c =
-    told_on _ _ c.from_residual-in_err-part.ensures.1 (part_tells _ _ _ _ _ c.requires.there (left_reached c.args.context.now.program.now _ c.args.term _ _ c.spot-spot.ensures _ _ c.in-Ok.ensures.ok _ _) c.in_err-part.ensures.err)
+    told_on _ _ c.from_residual-in_err-part.ensures.1 (part_tells _ _ _ _ _ c.requires.there (left_reached c.args.context.now.program.now _ c.args.term _ _ c.spot-spot.ensures _ _ c.in_ok-a.ensures.ok _ _) c.in_err-part.ensures.err)
 
 pub explain_parallel-returns-in_err-part-2 : goal.explain_parallel-returns-in_err-part-2
 explain_parallel-returns-in_err-part-2 t c =
     told_on _ _ c.from_residual-in_err-part-2.ensures.1
-    (part_tells _ _ _ _ _ c.requires.there (right_reached c.args.context.now.program.now _ c.args.term _ _ c.spot-spot.ensures _ _ c.in-Ok.ensures.ok _ _ _ c.in_ok-part.ensures.ok) c.in_err-part-2.ensures.err)
+    (part_tells _ _ _ _ _ c.requires.there (right_reached c.args.context.now.program.now _ c.args.term _ _ c.spot-spot.ensures _ _ c.in_ok-a.ensures.ok _ _ _ c.in_ok-part.ensures.ok) c.in_err-part-2.ensures.err)
 
 pub explain_fan-returns-in_err-part : goal.explain_fan-returns-in_err-part
 explain_fan-returns-in_err-part t c = told_on _ _ c.from_residual.ensures.1 (part_tells _ _ _ _ _ c.requires.there fan_left c.in_err-part.ensures.err)
@@ -82,69 +85,63 @@ explain_fan-returns-in_err-part-2 t c = told_on _ _ c.from_residual-in_err-part-
 pub explain_sided-returns-in_err-suited : goal.explain_sided-returns-in_err-suited
 explain_sided-returns-in_err-suited t c = told_on _ _ c.from_residual.ensures.1 (form_tells _ _ _ _ _ c.requires.there _ c.spot-spot.ensures (λ d k. side_inputs k) c.in_err-suited.ensures.err)
 
+pub explain_sided-returns-in_err-a : goal.explain_sided-returns-in_err-a
+explain_sided-returns-in_err-a t c = unsaid_on _ _ _ c.from_residual-in_err-a.ensures.1
+
 pub explain_sided-returns-in_err-part-in-First : goal.explain_sided-returns-in_err-part-in-First
 explain_sided-returns-in_err-part-in-First t c =
     told_on _ _ c.from_residual-in_err-part-in-First.ensures.1
-    (part_tells _ _ _ _ _ (sided_there _ _ c.in-First.is c.requires.there) (first_reached c.args.context.now.program.now _ c.args.term _ _ c.spot-spot.ensures _ _ c.in-Ok.ensures.ok _) c.in_err-part-in-First.ensures.err)
+    (part_tells _ _ _ _ _ (sided_there _ _ c.in-First.is c.requires.there) (first_reached c.args.context.now.program.now _ c.args.term _ _ c.spot-spot.ensures _ _ c.in_ok-a.ensures.ok _) c.in_err-part-in-First.ensures.err)
 
 pub explain_sided-returns-in_err-part-in-Second : goal.explain_sided-returns-in_err-part-in-Second
 explain_sided-returns-in_err-part-in-Second t c =
     told_on _ _ c.from_residual-in_err-part-in-Second.ensures.1
-    (part_tells _ _ _ _ _ (sided_there _ _ c.in-Second.is c.requires.there) (second_reached c.args.context.now.program.now _ c.args.term _ _ c.spot-spot.ensures _ _ c.in-Ok.ensures.ok _) c.in_err-part-in-Second.ensures.err)
+    (part_tells _ _ _ _ _ (sided_there _ _ c.in-Second.is c.requires.there) (second_reached c.args.context.now.program.now _ c.args.term _ _ c.spot-spot.ensures _ _ c.in_ok-a.ensures.ok _) c.in_err-part-in-Second.ensures.err)
 
 -- ## A value at the head
 
-pub explain_loop-returns-in_err-given : goal.explain_loop-returns-in_err-given
-explain_loop-returns-in_err-given t c = told_on _ _ c.from_residual.ensures.1 (form_tells _ _ _ _ _ c.requires.there _ c.spot-spot.ensures (λ d k. head_within k) c.in_err-given.ensures.err)
+pub explain_headed-returns-in_err-given : goal.explain_headed-returns-in_err-given
+explain_headed-returns-in_err-given t c = told_on _ _ c.from_residual.ensures.1 (form_tells _ _ _ _ _ c.requires.there _ c.spot-spot.ensures (λ d k. head_within k) c.in_err-given.ensures.err)
 
-pub explain_loop-returns-in_err-output : goal.explain_loop-returns-in_err-output
-explain_loop-returns-in_err-output t c =
-    let fed = fed_takes c.spot-spot.result c.in-Ok.ensures in
-    told_on _ _ c.from_residual-in_err-output.ensures.1
-    (part_tells _ _ _ _ _ c.requires.there (loop_reached _ _ _ _ _ c.spot-spot.ensures _ _ c.requires.there _ c.in_ok-given.ensures.ok _ fed.0 fed.1) c.in_err-output.ensures.err)
+pub explain_headed-returns-in_err-fed-in-LoopPre : goal.explain_headed-returns-in_err-fed-in-LoopPre
+explain_headed-returns-in_err-fed-in-LoopPre t c = unsaid_on _ _ _ c.from_residual-in_err-fed-in-LoopPre.ensures.1
 
-pub explain_loop-returns : goal.explain_loop-returns
-explain_loop-returns t c =
+pub explain_headed-returns-in_err-output-in-LoopPre : goal.explain_headed-returns-in_err-output-in-LoopPre
+explain_headed-returns-in_err-output-in-LoopPre t c =
+    let there = headed_there _ _ c.in-LoopPre.is c.requires.there in
+    let fed = fed_takes c.spot-spot.result c.in_ok-fed-in-LoopPre.ensures in
+    told_on _ _ c.from_residual-in_err-output-in-LoopPre.ensures.1
+    (part_tells _ _ _ _ _ there (loop_reached _ _ _ _ _ c.spot-spot.ensures _ _ there _ c.in_ok-given.ensures.ok _ fed.0 fed.1) c.in_err-output-in-LoopPre.ensures.err)
+
+pub explain_headed-returns-in_ok-output-in-LoopPre : goal.explain_headed-returns-in_ok-output-in-LoopPre
+explain_headed-returns-in_ok-output-in-LoopPre t c =
     let p = c.args.context.now.program.now in
     let Γ = context_in c.args.context.now in
-    let part = subst (λ (w : Kind). Takes Γ (tree p c.args.inner) w c.in_ok-output.output) (fed_takes c.spot-spot.result c.in-Ok.ensures).0 c.in_ok-output.ensures.ok in
-    form_last p Γ c.args.term _ c.args.input.now c.requires.there _ c.spot-spot.ensures _ _ (λ d k. fed_output c.in_ok-given.ensures.ok part k) c.suited.ensures.err
+    let output = c.in_ok-output-in-LoopPre in
+    let part = subst (λ (w : Kind). Takes Γ (tree p c.args.inner) w output.output) (fed_takes c.spot-spot.result c.in_ok-fed-in-LoopPre.ensures).0 output.ensures.ok in
+    form_last p Γ c.args.term _ c.args.input.now (headed_there _ _ c.in-LoopPre.is c.requires.there) _ c.spot-spot.ensures _ _ (λ d k. fed_output c.in_ok-given.ensures.ok part k) c.suited.ensures.err
 
-pub explain_replaced-returns-in_err-given : goal.explain_replaced-returns-in_err-given
-explain_replaced-returns-in_err-given t c = told_on _ _ c.from_residual.ensures.1 (form_tells _ _ _ _ _ c.requires.there _ c.spot-spot.ensures (λ d k. head_within k) c.in_err-given.ensures.err)
+pub explain_headed-returns-in_err-part-in-Replaced : goal.explain_headed-returns-in_err-part-in-Replaced
+explain_headed-returns-in_err-part-in-Replaced t c =
+    told_on _ _ c.from_residual-in_err-part-in-Replaced.ensures.1 (part_tells _ _ _ _ _ (headed_there _ _ c.in-Replaced.is c.requires.there) (head_part c.in_ok-given.ensures.ok c.requires.fits) c.in_err-part-in-Replaced.ensures.err)
 
-pub explain_replaced-returns-in_err-part : goal.explain_replaced-returns-in_err-part
-explain_replaced-returns-in_err-part t c = told_on _ _ c.from_residual-in_err-part.ensures.1 (part_tells _ _ _ _ _ c.requires.there (head_part c.in_ok-given.ensures.ok c.requires.fits) c.in_err-part.ensures.err)
+pub explain_headed-returns-in_err-clone_in-in-Replaced : goal.explain_headed-returns-in_err-clone_in-in-Replaced
+explain_headed-returns-in_err-clone_in-in-Replaced t c = room_on _ _ c.from_residual-in_err-clone_in-in-Replaced.ensures.1
 
-pub explain_replaced-returns-in_err-clone_in : goal.explain_replaced-returns-in_err-clone_in
-explain_replaced-returns-in_err-clone_in t c = room_on _ _ c.from_residual-in_err-clone_in.ensures.1
+pub explain_headed-returns-in_ok-clone_in-in-Replaced : goal.explain_headed-returns-in_ok-clone_in-in-Replaced
+explain_headed-returns-in_ok-clone_in-in-Replaced t c =
+    form_last c.args.context.now.program.now (context_in c.args.context.now) c.args.term _ c.args.input.now (headed_there _ _ c.in-Replaced.is c.requires.there) _ c.spot-spot.ensures _ _
+    (λ d k. replaced_input c.in_ok-given.ensures.ok c.in_ok-part-in-Replaced.ensures.ok (exactly_as c.in_ok-clone_in-in-Replaced.ensures.same k)) c.suited-in-Replaced.ensures.err
 
-pub explain_replaced-returns : goal.explain_replaced-returns
-explain_replaced-returns t c =
+pub explain_headed-returns-in_err-output-in-Initialized : goal.explain_headed-returns-in_err-output-in-Initialized
+explain_headed-returns-in_err-output-in-Initialized t c =
+    told_on _ _ c.from_residual-in_err-output-in-Initialized.ensures.1
+    (part_tells _ _ _ _ _ c.requires.there (output_reached _ _ _ _ _ _ _ c.in_ok-given.ensures.ok c.in-Initialized.is c.requires.fits) c.in_err-output-in-Initialized.ensures.err)
+
+pub explain_headed-returns-in_ok-output-in-Initialized : goal.explain_headed-returns-in_ok-output-in-Initialized
+explain_headed-returns-in_ok-output-in-Initialized t c =
     form_last c.args.context.now.program.now (context_in c.args.context.now) c.args.term _ c.args.input.now c.requires.there _ c.spot-spot.ensures _ _
-    (λ d k. replaced_input c.in_ok-given.ensures.ok c.in_ok-part.ensures.ok (exactly_as c.in_ok-clone_in.ensures.same k)) c.suited.ensures.err
-
-pub explain_initial-returns-in_err-given : goal.explain_initial-returns-in_err-given
-explain_initial-returns-in_err-given t c = told_on _ _ c.from_residual.ensures.1 (form_tells _ _ _ _ _ c.requires.there _ c.spot-spot.ensures (λ d k. head_within k) c.in_err-given.ensures.err)
-
-pub explain_initial-returns-in_err-output : goal.explain_initial-returns-in_err-output
-explain_initial-returns-in_err-output t c = told_on _ _ c.from_residual-in_err-output.ensures.1 (part_tells _ _ _ _ _ c.requires.there (head_part c.in_ok-given.ensures.ok c.requires.fits) c.in_err-output.ensures.err)
-
-pub explain_initial-returns : goal.explain_initial-returns
-explain_initial-returns t c =
-    form_last c.args.context.now.program.now (context_in c.args.context.now) c.args.term _ c.args.input.now c.requires.there _ c.spot-spot.ensures _ _
-    (λ d k. initial_output c.in_ok-given.ensures.ok c.in_ok-output.ensures.ok k) c.suited.ensures.err
-
-pub explain_followed-returns-in_err-given : goal.explain_followed-returns-in_err-given
-explain_followed-returns-in_err-given t c = told_on _ _ c.from_residual.ensures.1 (form_tells _ _ _ _ _ c.requires.there _ c.spot-spot.ensures (λ d k. head_within k) c.in_err-given.ensures.err)
-
-pub explain_followed-returns-in_err-output : goal.explain_followed-returns-in_err-output
-explain_followed-returns-in_err-output t c = told_on _ _ c.from_residual-in_err-output.ensures.1 (part_tells _ _ _ _ _ c.requires.there (head_part c.in_ok-given.ensures.ok c.requires.fits) c.in_err-output.ensures.err)
-
-pub explain_followed-returns : goal.explain_followed-returns
-explain_followed-returns t c =
-    form_last c.args.context.now.program.now (context_in c.args.context.now) c.args.term _ c.args.input.now c.requires.there _ c.spot-spot.ensures _ _
-    (λ d k. followed_output c.in_ok-given.ensures.ok c.in_ok-output.ensures.ok k) c.suited.ensures.err
+    (λ d k. among_outputs c.in-Initialized.is c.in_ok-given.ensures.ok c.in_ok-output-in-Initialized.ensures.ok k) c.suited-in-Initialized.ensures.err
 
 -- ## A function at the head
 
@@ -164,6 +161,12 @@ explain_transformed-returns t c =
 
 -- ## Switches
 
+pub explain-explain_basic-requires : goal.explain-explain_basic-requires
+explain-explain_basic-requires t c = (omega arith, (c.requires, (switch_there _ _ c.in-Switching.form c.in-Basic.is (sym c.node.ensures.value ∙ c.in-Switching.is), rw c.in-Switching.is at c.node.ensures.below)))
+
+pub explain-explain_recurring-requires : goal.explain-explain_recurring-requires
+explain-explain_recurring-requires t c = (omega arith, (c.requires, (switch_there _ _ c.in-Switching.form c.in-Recurring.is (sym c.node.ensures.value ∙ c.in-Switching.is), rw c.in-Switching.is at c.node.ensures.below)))
+
 pub explain_basic-returns-in_err-output : goal.explain_basic-returns-in_err-output
 explain_basic-returns-in_err-output t c = told_on _ _ c.from_residual.ensures.1 (part_tells _ _ _ _ _ c.requires.there switch_source c.in_err-output.ensures.err)
 
@@ -171,45 +174,57 @@ pub explain_basic-returns-in_err-suited : goal.explain_basic-returns-in_err-suit
 explain_basic-returns-in_err-suited t c =
     told_on _ _ c.from_residual-in_err-suited.ensures.1 (form_tells _ _ _ _ _ c.requires.there _ c.spot-spot.ensures (λ d k. source_output c.in_ok-output.ensures.ok k) c.in_err-suited.ensures.err)
 
+pub explain_basic-returns-in_err-value : goal.explain_basic-returns-in_err-value
+explain_basic-returns-in_err-value t c = unsaid_on _ _ _ c.from_residual-in_err-value.ensures.1
+
 pub explain_basic-returns : goal.explain_basic-returns
 explain_basic-returns t c =
     let p = c.args.context.now.program.now in
-    let wanted = source_wants p _ c.args.term _ _ c.spot-spot.ensures c.args.form _ c.args.pattern c.args.body _ c.in_ok-output.ensures.ok _ _ c.in-Ok.ensures.ok in
+    let wanted = source_wants p _ c.args.term _ _ c.spot-spot.ensures c.args.shown _ c.args.form.pattern c.args.form.body _ c.in_ok-output.ensures.ok _ _ c.in_ok-value.ensures.ok in
     stops_last p (context_in c.args.context.now) c.args.term _ c.args.input.now c.requires.there _ c.spot-spot.ensures _ _ _ _ _ _ _ (λ d k. switch_body_differs wanted k) (λ binds. switch_body wanted binds) c.explain_body.ensures
 
 pub explain_recurring-returns-in_err-suited : goal.explain_recurring-returns-in_err-suited
 explain_recurring-returns-in_err-suited t c = told_on _ _ c.from_residual.ensures.1 (form_tells _ _ _ _ _ c.requires.there _ c.spot-spot.ensures (λ d k. event_beside k) c.in_err-suited.ensures.err)
 
+pub explain_recurring-returns-in_err-value : goal.explain_recurring-returns-in_err-value
+explain_recurring-returns-in_err-value t c = unsaid_on _ _ _ c.from_residual-in_err-value.ensures.1
+
 pub explain_recurring-returns-in_err-output : goal.explain_recurring-returns-in_err-output
 explain_recurring-returns-in_err-output t c =
     told_on _ _ c.from_residual-in_err-output.ensures.1
-    (part_tells _ _ _ _ _ c.requires.there (first_term_reached c.args.context.now.program.now _ c.args.term _ _ c.spot-spot.ensures _ _ _ _ _ _ c.in-Ok.ensures.ok) c.in_err-output.ensures.err)
+    (part_tells _ _ _ _ _ c.requires.there (first_term_reached c.args.context.now.program.now _ c.args.term _ _ c.spot-spot.ensures _ _ _ _ _ _ c.in_ok-value.ensures.ok) c.in_err-output.ensures.err)
 
 pub explain_recurring-returns : goal.explain_recurring-returns
 explain_recurring-returns t c =
     let p = c.args.context.now.program.now in
-    let wanted = input_wants p _ c.args.term _ _ c.spot-spot.ensures c.args.form _ c.args.pattern c.args.body _ _ c.in-Ok.ensures.ok _ c.in_ok-output.ensures.ok in
+    let wanted = input_wants p _ c.args.term _ _ c.spot-spot.ensures c.args.shown _ c.args.form.pattern c.args.form.body _ _ c.in_ok-value.ensures.ok _ c.in_ok-output.ensures.ok in
     stops_last p (context_in c.args.context.now) c.args.term _ c.args.input.now c.requires.there _ c.spot-spot.ensures _ _ _ _ _ _ _ (λ d k. switch_body_differs wanted k) (λ binds. switch_body wanted binds) c.explain_body.ensures
 
 pub explain_keeping-returns-in_err-value : goal.explain_keeping-returns-in_err-value
 explain_keeping-returns-in_err-value t c = told_on _ _ c.from_residual.ensures.1 (part_tells _ _ _ _ _ c.requires.there keeping_source c.in_err-value.ensures.err)
 
+pub explain_keeping-returns-in_err-watched : goal.explain_keeping-returns-in_err-watched
+explain_keeping-returns-in_err-watched t c = unsaid_on _ _ _ c.from_residual-in_err-watched.ensures.1
+
 pub explain_keeping-returns-in_err-seen : goal.explain_keeping-returns-in_err-seen
 explain_keeping-returns-in_err-seen t c =
     told_on _ _ c.from_residual-in_err-seen.ensures.1
-    (part_tells _ _ _ _ _ c.requires.there (observer_reached c.args.context.now.program.now _ c.args.term _ _ c.spot-spot.ensures _ _ _ _ _ _ _ c.requires.there _ c.in_ok-value.ensures.ok _ c.in-Ok.ensures) c.in_err-seen.ensures.err)
+    (part_tells _ _ _ _ _ c.requires.there (observer_reached c.args.context.now.program.now _ c.args.term _ _ c.spot-spot.ensures _ _ _ _ _ _ _ c.requires.there _ c.in_ok-value.ensures.ok _ c.in_ok-watched.ensures) c.in_err-seen.ensures.err)
 
 pub explain_keeping-returns-in_err-suited : goal.explain_keeping-returns-in_err-suited
 explain_keeping-returns-in_err-suited t c =
-    let seen = watched_takes c.args.context.now.program.now c.args.observer c.spot-spot.result c.in-Ok.ensures c.in_ok-seen.ensures.ok in
+    let seen = watched_takes c.args.context.now.program.now c.args.form.observer c.spot-spot.result c.in_ok-watched.ensures c.in_ok-seen.ensures.ok in
     told_on _ _ c.from_residual-in_err-suited.ensures.1 (form_tells _ _ _ _ _ c.requires.there _ c.spot-spot.ensures (λ d k. observer_output c.in_ok-value.ensures.ok seen k) c.in_err-suited.ensures.err)
+
+pub explain_keeping-returns-in_err-event : goal.explain_keeping-returns-in_err-event
+explain_keeping-returns-in_err-event t c = unsaid_on _ _ _ c.from_residual-in_err-event.ensures.1
 
 pub explain_keeping-returns : goal.explain_keeping-returns
 explain_keeping-returns t c =
     let p = c.args.context.now.program.now in
     let Γ = context_in c.args.context.now in
-    let seen = watched_takes c.args.context.now.program.now c.args.observer c.spot-spot.result c.in-Ok.ensures c.in_ok-seen.ensures.ok in
-    let event = subst (λ (e : Kind). Takes Γ (tree p c.args.observer) (pair_kind c.args.input.now c.in_ok-value.value) e) (payload_is c.in_ok-seen.seen c.in-Ok-payload.ensures.ok) seen in
+    let seen = watched_takes c.args.context.now.program.now c.args.form.observer c.spot-spot.result c.in_ok-watched.ensures c.in_ok-seen.ensures.ok in
+    let event = subst (λ (e : Kind). Takes Γ (tree p c.args.form.observer) (pair_kind c.args.input.now c.in_ok-value.value) e) (payload_is c.in_ok-seen.seen c.in_ok-event.ensures.ok) seen in
     stops_last p Γ c.args.term _ c.args.input.now c.requires.there _ c.spot-spot.ensures _ _ _ _ _ _ _ (λ d k. keeping_body_differs c.in_ok-value.ensures.ok event k) (λ binds. keeping_body c.in_ok-value.ensures.ok event binds) c.explain_kept.ensures
 
 -- ## Calls
@@ -331,24 +346,33 @@ explain_releasing-members_at_part-requires t c = (omega arith, (c.requires.fits,
 pub explain_releasing-returns-in_err-types : goal.explain_releasing-returns-in_err-types
 explain_releasing-returns-in_err-types t c = told_on _ _ c.from_residual.ensures.1 (members_tell _ _ _ _ _ c.requires.there releasing_members c.in_err-types.ensures.err)
 
+pub explain_releasing-returns-in_err-table : goal.explain_releasing-returns-in_err-table
+explain_releasing-returns-in_err-table t c = unsaid_on _ _ _ c.from_residual-in_err-table.ensures.1
+
+pub explain_releasing-returns-in_err-watched : goal.explain_releasing-returns-in_err-watched
+explain_releasing-returns-in_err-watched t c = unsaid_on _ _ _ c.from_residual-in_err-watched.ensures.1
+
 pub explain_releasing-returns-in_err-seen : goal.explain_releasing-returns-in_err-seen
 explain_releasing-returns-in_err-seen t c =
     told_on _ _ c.from_residual-in_err-seen.ensures.1
-    (part_tells _ _ _ _ _ c.requires.there (their_observer_reached (program_in c.args.context.now) _ c.args.term _ _ c.spot-spot.ensures _ c.requires.there _ _ c.in_ok-types.ensures.ok _ c.in-Ok.ensures _ c.in-Ok-pair_of.ensures) c.in_err-seen.ensures.err)
+    (part_tells _ _ _ _ _ c.requires.there (their_observer_reached (program_in c.args.context.now) _ c.args.term _ _ c.spot-spot.ensures _ c.requires.there _ _ c.in_ok-types.ensures.ok _ c.in_ok-table.ensures _ c.in_ok-watched.ensures) c.in_err-seen.ensures.err)
 
 pub explain_releasing-returns-in_err-suited : goal.explain_releasing-returns-in_err-suited
 explain_releasing-returns-in_err-suited t c =
-    let seen = their_observer_seen (program_in c.args.context.now) _ c.args.term _ _ c.spot-spot.ensures _ c.requires.there _ _ c.in_ok-types.ensures.ok _ c.in-Ok.ensures _ c.in-Ok-pair_of.ensures _ c.in_ok-seen.ensures.ok in
+    let seen = their_observer_seen (program_in c.args.context.now) _ c.args.term _ _ c.spot-spot.ensures _ c.requires.there _ _ c.in_ok-types.ensures.ok _ c.in_ok-table.ensures _ c.in_ok-watched.ensures _ c.in_ok-seen.ensures.ok in
     told_on _ _ c.from_residual-in_err-suited.ensures.1 (form_tells _ _ _ _ _ c.requires.there _ c.spot-spot.ensures (λ d k. their_observer_output c.in_ok-types.ensures.ok seen k) c.in_err-suited.ensures.err)
+
+pub explain_releasing-returns-in_err-event : goal.explain_releasing-returns-in_err-event
+explain_releasing-returns-in_err-event t c = unsaid_on _ _ _ c.from_residual-in_err-event.ensures.1
 
 pub explain_releasing-returns : goal.explain_releasing-returns
 explain_releasing-returns t c =
     let p = program_in c.args.context.now in
     let Γ = context_in c.args.context.now in
     let types = c.in_ok-types.types in
-    let seen = their_observer_seen p _ c.args.term _ _ c.spot-spot.ensures _ c.requires.there _ _ c.in_ok-types.ensures.ok _ c.in-Ok.ensures _ c.in-Ok-pair_of.ensures _ c.in_ok-seen.ensures.ok in
-    let event = subst (λ (e : Kind). Takes Γ (tree p c.args.form.observer) (pair_kind c.args.input.now (table_kind (key_kind_of types.keys) types.output)) e) (payload_is c.in_ok-seen.seen c.in-Ok-payload.ensures.ok) seen in
-    stops_as p Γ c.args.term _ c.args.input.now c.requires.there _ c.spot-spot.ensures _ _ _ _ _ _ _ _ (table_made c.spot-spot.result c.in-Ok.ensures)
+    let seen = their_observer_seen p _ c.args.term _ _ c.spot-spot.ensures _ c.requires.there _ _ c.in_ok-types.ensures.ok _ c.in_ok-table.ensures _ c.in_ok-watched.ensures _ c.in_ok-seen.ensures.ok in
+    let event = subst (λ (e : Kind). Takes Γ (tree p c.args.form.observer) (pair_kind c.args.input.now (table_kind (key_kind_of types.keys) types.output)) e) (payload_is c.in_ok-seen.seen c.in_ok-event.ensures.ok) seen in
+    stops_as p Γ c.args.term _ c.args.input.now c.requires.there _ c.spot-spot.ensures _ _ _ _ _ _ _ _ (table_made c.spot-spot.result c.in_ok-table.ensures)
     (λ d k. released_body_differs c.in_ok-types.ensures.ok event k) (λ binds. releasing_body c.in_ok-types.ensures.ok event binds) c.explain_released.ensures
 
 pub explain_released-returns-in_err-names : goal.explain_released-returns-in_err-names
@@ -362,18 +386,21 @@ explain_released-returns t c =
 -- ## Edits
 
 pub explain_editing-members_at_part-requires : goal.explain_editing-members_at_part-requires
-explain_editing-members_at_part-requires t c = (omega arith, (c.in-Ok.ensures.fits, (c.requires.below.0, (edited_shallow (program_in c.args.context.now) c.args.term c.args.form (sym c.requires.there)).0)))
+explain_editing-members_at_part-requires t c = (omega arith, (c.in_ok-value.ensures.fits, (c.requires.below.0, (edited_shallow (program_in c.args.context.now) c.args.term c.args.form (sym c.requires.there)).0)))
 
 pub explain_editing-explain_edited-requires : goal.explain_editing-explain_edited-requires
-explain_editing-explain_edited-requires t c = (omega arith, (c.in-Ok.ensures.fits, (c.requires.below.1, (edited_shallow (program_in c.args.context.now) c.args.term c.args.form (sym c.requires.there)).1)))
+explain_editing-explain_edited-requires t c = (omega arith, (c.in_ok-value.ensures.fits, (c.requires.below.1, (edited_shallow (program_in c.args.context.now) c.args.term c.args.form (sym c.requires.there)).1)))
 
 pub explain_editing-returns-in_err-suited : goal.explain_editing-returns-in_err-suited
 explain_editing-returns-in_err-suited t c = told_on _ _ c.from_residual.ensures.1 (form_tells _ _ _ _ _ c.requires.there _ c.spot-spot.ensures (λ d k. event_beside_members k) c.in_err-suited.ensures.err)
 
+pub explain_editing-returns-in_err-value : goal.explain_editing-returns-in_err-value
+explain_editing-returns-in_err-value t c = unsaid_on _ _ _ c.from_residual-in_err-value.ensures.1
+
 pub explain_editing-returns-in_err-types : goal.explain_editing-returns-in_err-types
 explain_editing-returns-in_err-types t c =
     told_on _ _ c.from_residual-in_err-types.ensures.1
-    (members_tell _ _ _ _ _ c.requires.there (editing_members_reached (program_in c.args.context.now) _ c.args.term _ _ c.spot-spot.ensures _ c.requires.there _ _ c.in-Ok.ensures.ok) c.in_err-types.ensures.err)
+    (members_tell _ _ _ _ _ c.requires.there (editing_members_reached (program_in c.args.context.now) _ c.args.term _ _ c.spot-spot.ensures _ c.requires.there _ _ c.in_ok-value.ensures.ok) c.in_err-types.ensures.err)
 
 pub explain_editing-returns : goal.explain_editing-returns
 explain_editing-returns t c =
@@ -381,11 +408,11 @@ explain_editing-returns t c =
     let Γ = context_in c.args.context.now in
     let form = c.args.form in
     let k = key_kind_of c.in_ok-types.types.keys in
-    let beside = sym c.in-Ok.ensures.ok in
-    let Θ = inside_pattern (pattern_in p form.pattern) c.in-Ok.payload.now (members_inside p form.name k c.in-Ok.value.now c.in_ok-types.types.output Γ) in
+    let beside = sym c.in_ok-value.ensures.ok in
+    let Θ = inside_pattern (pattern_in p form.pattern) c.in_ok-value.payload.now (members_inside p form.name k c.in_ok-value.value.now c.in_ok-types.types.output Γ) in
     edit_last p Γ c.args.term _ c.args.input.now c.requires.there _ c.spot-spot.ensures _ _ _ _ _ _ _ _
     (λ d l. subst (λ a. FormDiffers p Γ c.spot-spot.result (nodes.Editing form) a d) beside (members_edit_differs c.in_ok-types.ensures.ok l))
-    (λ binds. subst (λ a. ReachesMembers p Γ (nodes.Editing form) a Θ form.edit c.in-Ok.value.now) beside (their_edit c.in_ok-types.ensures.ok binds)) c.explain_edited.ensures
+    (λ binds. subst (λ a. ReachesMembers p Γ (nodes.Editing form) a Θ form.edit c.in_ok-value.value.now) beside (their_edit c.in_ok-types.ensures.ok binds)) c.explain_edited.ensures
 
 pub explain_edited-returns-in_err-names : goal.explain_edited-returns-in_err-names
 explain_edited-returns-in_err-names t c = room_on _ _ c.from_residual.ensures.1

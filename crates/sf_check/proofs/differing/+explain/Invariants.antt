@@ -27,17 +27,8 @@ decreases-explain_fan l = 100 * term_number l.term + 89
 abbrev pub decreases-explain_sided : goal.decreases-explain_sided
 decreases-explain_sided l = 100 * term_number l.term + 89
 
-abbrev pub decreases-explain_loop : goal.decreases-explain_loop
-decreases-explain_loop l = 100 * term_number l.term + 89
-
-abbrev pub decreases-explain_replaced : goal.decreases-explain_replaced
-decreases-explain_replaced l = 100 * term_number l.term + 89
-
-abbrev pub decreases-explain_initial : goal.decreases-explain_initial
-decreases-explain_initial l = 100 * term_number l.term + 89
-
-abbrev pub decreases-explain_followed : goal.decreases-explain_followed
-decreases-explain_followed l = 100 * term_number l.term + 89
+abbrev pub decreases-explain_headed : goal.decreases-explain_headed
+decreases-explain_headed l = 100 * term_number l.term + 89
 
 abbrev pub decreases-explain_transformed : goal.decreases-explain_transformed
 decreases-explain_transformed l = 100 * term_number l.term + 89

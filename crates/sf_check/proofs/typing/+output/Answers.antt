@@ -11,7 +11,7 @@ use Rattle.sf_term.specs.Trees.{arguments_depth, collection_depth}
 use Rattle.sf_term.specs.Arena.{term_number, expressions_of, term_spot_at, arguments_under, arguments_of, collection_under, collection_of, CollectionBelow, ArgumentBelow}
 use Rattle.sf_check.specs.Standing.{inside_names}
 use Rattle.sf_check.specs.Contexts.{context_in}
-use Rattle.sf_check.proofs.Terms.{part_refused, err_answers, memory_answers, named_there, sided_there, headed_there, pair_differs, mismatch_refused, primitive_answers, probe_answers, sequence_answers, fan_answers, left_reached, right_reached, first_reached, second_reached, parallel_answers, first_answers, second_answers, start_answers, output_reached, output_answers, replaced_reached, replaced_answers, replaced_refused, fed_refused, loop_reached, loop_answers, function_answers, transformed_answers, transformed_refused, answers_under, body_under, err_body, pattern_stops, within_stops, body_answered, switch_answers, source_answers, source_wants, input_answers, first_term_reached, input_wants, watched_answers, observer_reached, observer_answers, keeping_answers}
+use Rattle.sf_check.proofs.Terms.{switch_there, part_refused, err_answers, memory_answers, named_there, sided_there, headed_there, pair_differs, mismatch_refused, primitive_answers, probe_answers, sequence_answers, fan_answers, left_reached, right_reached, first_reached, second_reached, parallel_answers, first_answers, second_answers, start_answers, output_reached, output_answers, replaced_reached, replaced_answers, replaced_refused, fed_refused, loop_reached, loop_answers, function_answers, transformed_answers, transformed_refused, answers_under, body_under, err_body, pattern_stops, within_stops, body_answered, switch_answers, source_answers, source_wants, input_answers, first_term_reached, input_wants, watched_answers, observer_reached, observer_answers, keeping_answers}
 use Rattle.sf_term.specs.ParameterView.{kind_of_form}
 use Rattle.sf_check.specs.Contexts.{program_in}
 use Rattle.sf_value.specs.KindView.{key_kind_of}
@@ -192,6 +192,12 @@ output_within-returns t c =
 
 -- ## Switches
 
+pub switching_output-basic_output-requires : goal.switching_output-basic_output-requires
+switching_output-basic_output-requires t c = (omega arith, (c.requires.fits, (switch_there _ _ c.args.form c.in-Basic.is c.requires.there, c.requires.below)))
+
+pub switching_output-recurring_output-requires : goal.switching_output-recurring_output-requires
+switching_output-recurring_output-requires t c = (omega arith, (c.requires.fits, (switch_there _ _ c.args.form c.in-Recurring.is c.requires.there, c.requires.below)))
+
 pub basic_output-returns-in_err-output : goal.basic_output-returns-in_err-output
 basic_output-returns-in_err-output t c =
     err_answers _ _ _ _ _ _ c.from_residual.ensures.1 (part_refused _ _ _ _ _ c.requires.there _ _ _ switch_source c.in_err-output.ensures)
@@ -206,7 +212,7 @@ pub basic_output-returns : goal.basic_output-returns
 basic_output-returns t c =
     let p = c.args.context.now.program.now in
     switch_answers p _ c.args.term _ _ c.spot-spot.ensures _ _ _ _ _ _ _ _ c.requires.there
-    (source_wants p _ c.args.term _ _ c.spot-spot.ensures _ _ c.args.pattern c.args.body _ c.in_ok-output.ensures _ _ c.in_ok-value.ensures.ok)
+    (source_wants p _ c.args.term _ _ c.spot-spot.ensures _ _ c.args.form.pattern c.args.form.body _ c.in_ok-output.ensures _ _ c.in_ok-value.ensures.ok)
     c.requires.fits c.body_output.ensures
 
 pub recurring_output-returns-in_err-value : goal.recurring_output-returns-in_err-value
@@ -224,7 +230,7 @@ pub recurring_output-returns : goal.recurring_output-returns
 recurring_output-returns t c =
     let p = c.args.context.now.program.now in
     switch_answers p _ c.args.term _ _ c.spot-spot.ensures _ _ _ _ _ _ _ _ c.requires.there
-    (input_wants p _ c.args.term _ _ c.spot-spot.ensures _ _ c.args.pattern c.args.body _ _ c.in_ok-value.ensures.ok _ c.in_ok-output.ensures)
+    (input_wants p _ c.args.term _ _ c.spot-spot.ensures _ _ c.args.form.pattern c.args.form.body _ _ c.in_ok-value.ensures.ok _ c.in_ok-output.ensures)
     c.requires.fits c.body_output.ensures
 
 -- ## Processes

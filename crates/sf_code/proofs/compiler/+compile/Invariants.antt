@@ -17,10 +17,10 @@ abbrev pub decreases-conditional : goal.decreases-conditional
 decreases-conditional l = 4 * max l.condition.0 (max l.first.0 l.second.0) + 3
 
 abbrev pub decreases-mapped : goal.decreases-mapped
-decreases-mapped l = 4 * max l.part.0 l.body.0 + 3
+decreases-mapped l = 4 * max l.node.part.0 l.node.body.0 + 3
 
 abbrev pub decreases-folded : goal.decreases-folded
-decreases-folded l = 4 * max l.first.0 (max l.second.0 l.body.0) + 3
+decreases-folded l = 4 * max l.node.first.0 (max l.node.second.0 l.node.body.0) + 3
 
 abbrev pub decreases-called : goal.decreases-called
 decreases-called l = 4 * l.part.0 + 3

@@ -4,7 +4,7 @@ use Rattle.sf_expr.specs.Arena.{expression, pattern_at, body_at}
 use Rattle.sf_expr.specs.Patterns.{PlacedPattern, pattern_of}
 use Rattle.sf_code.specs.CodeView.{code_of}
 use Rattle.sf_code.specs.Compiling.{is_closed, code_under}
-use Rattle.sf_code.specs.PlaceView.{around_pattern}
+use Rattle.sf_code.specs.Around.{patterns_around}
 use Rattle.sf_code.proofs.Worth.{is_code_of_function}
 use Rattle.sf_code.proofs.function.function_code.Goals as goal
 
@@ -15,10 +15,10 @@ returns-clause-code c =
     let own = pattern_of (pattern_at x c.args.id) in
     let whole = expression x (body_at x c.args.id) in
     let is : c.in_ok-frame.frame.pattern.now ≡ pattern_at x c.args.id = c.in_ok-frame.ensures ∙ c.pattern-pattern.ensures in
-    let closed : is_closed (own ∷ around_pattern around) whole ≡ true =
-    subst (λ (p : PlacedPattern). is_closed (pattern_of p ∷ around_pattern around) whole ≡ true) is
-    (subst (λ (i : ExprId). is_closed (pattern_of c.in_ok-frame.frame.pattern.now ∷ around_pattern around) (expression x i) ≡ true) c.body-body.ensures.value c.in_ok-around.ensures.closed) in
-    let made : code_of c.in_ok-code.code ≡ code_under (own ∷ around_pattern around) whole = c.in_ok-code.ensures
-    ∙ ap (λ (p : PlacedPattern). code_under (pattern_of p ∷ around_pattern around) (expression x c.body-body.result)) is
-    ∙ ap (λ (i : ExprId). code_under (own ∷ around_pattern around) (expression x i)) c.body-body.ensures.value in
-    is_code_of_function own whole _ (own ∷ around_pattern around) refl closed made
+    let closed : is_closed (own ∷ patterns_around x around) whole ≡ true =
+    subst (λ (p : PlacedPattern). is_closed (pattern_of p ∷ patterns_around x around) whole ≡ true) is
+    (subst (λ (i : ExprId). is_closed (pattern_of c.in_ok-frame.frame.pattern.now ∷ patterns_around x around) (expression x i) ≡ true) c.body-body.ensures.value c.in_ok-around.ensures.closed) in
+    let made : code_of c.in_ok-code.code ≡ code_under (own ∷ patterns_around x around) whole = c.in_ok-code.ensures
+    ∙ ap (λ (p : PlacedPattern). code_under (pattern_of p ∷ patterns_around x around) (expression x c.body-body.result)) is
+    ∙ ap (λ (i : ExprId). code_under (own ∷ patterns_around x around) (expression x i)) c.body-body.ensures.value in
+    is_code_of_function x own whole _ (own ∷ patterns_around x around) refl closed made

@@ -11,7 +11,7 @@ use Rattle.sf_differ.specs.declared.difference.Wanted.TheVariants.{Exactly}
 use Rattle.sf_differ.specs.Differences.{tells_nothing, lacks_room}
 use Rattle.sf_differ.specs.Wanting.{IsMade}
 use Rattle.sf_differ.specs.Differing.{types_under, bound_pattern, bound_body, operand_differs, left_differs, right_differs, condition_differs, other_differs, mapping_differs, mapped_pattern_differs, mapped_differs, folding_differs, folded_pattern_differs, second_differs, folded_differs, called_differs, pair_first, pair_second, operand_part, left_part, right_part, condition_part, one_part, other_part, mapped_part, mapped_body, folded_first, folded_second, folded_body, called_part}
-use Rattle.sf_differ.proofs.Told.{told_as, told_on, room_on, ok_as, suited_can, function_behind, part_told, suited_told, suited_last, bound_told}
+use Rattle.sf_differ.proofs.Told.{told_as, told_on, room_on, unsaid_on, ok_as, suited_can, function_behind, part_told, suited_told, suited_last, bound_told}
 use Rattle.sf_differ.proofs.Placed.{made_by, operand_any, left_any, right_any, condition_wants, other_wants, called_wants, mapping_any, mapped_any, folding_any, second_any, folded_any}
 use Rattle.sf_differ.proofs.expression.+explain.Goals as goal
 
@@ -111,22 +111,25 @@ pub explain_mapped-returns-in_err-suited : goal.explain_mapped-returns-in_err-su
 explain_mapped-returns-in_err-suited t c =
     told_on _ _ c.from_residual-in_err-suited.ensures.1
     (suited_told c.args.exprs.now (types_under c.args.names.now c.args.functions.now) c.args.id _ c.requires.there
-    (λ a. IsMade (mapped_argument c.args.mapping a)) _ _ (mapping_any c.args.mapping) c.mapping_wanted.ensures _ c.spot-spot.ensures _ (λ d h. mapping_differs c.in_ok-given.ensures.ok h) c.in_err-suited.ensures.err)
+    (λ a. IsMade (mapped_argument c.args.node.mapping a)) _ _ (mapping_any c.args.node.mapping) c.mapping_wanted.ensures _ c.spot-spot.ensures _ (λ d h. mapping_differs c.in_ok-given.ensures.ok h) c.in_err-suited.ensures.err)
+
+pub explain_mapped-returns-in_err-argument : goal.explain_mapped-returns-in_err-argument
+explain_mapped-returns-in_err-argument t c = unsaid_on _ _ _ c.from_residual-in_err-argument.ensures.1
 
 pub explain_mapped-returns-in_err-made : goal.explain_mapped-returns-in_err-made
 explain_mapped-returns-in_err-made t c =
-    let argument = c.in-Ok.ensures in
+    let argument = c.in_ok-argument.ensures in
     told_on _ _ c.from_residual-in_err-made.ensures.1
     (bound_told c.args.exprs.now (types_under c.args.names.now c.args.functions.now) c.args.id _ c.requires.there _ c.spot-spot.ensures _ _ c.placed-pattern.ensures _ _
     (λ d h. mapped_pattern_differs c.in_ok-given.ensures.ok argument.0 argument.1 h) (λ S binds. mapped_body c.in_ok-given.ensures.ok argument.0 argument.1 binds) c.in_err-made.ensures.err)
 
 pub explain_mapped-returns : goal.explain_mapped-returns
 explain_mapped-returns t c =
-    let argument = c.in-Ok.ensures in
+    let argument = c.in_ok-argument.ensures in
     let R = types_under c.args.names.now c.args.functions.now in
     let made = function_behind c.placed-pattern.ensures c.in_ok-made.ensures.ok in
     suited_last c.args.exprs.now R c.args.id _ c.requires.there
-    (λ b. IsMade (mapped_kind c.args.mapping c.in_ok-given.given b)) _ _ (mapped_any c.args.mapping c.in_ok-given.given) c.mapped_wanted.ensures _ c.spot-spot.ensures _
+    (λ b. IsMade (mapped_kind c.args.node.mapping c.in_ok-given.given b)) _ _ (mapped_any c.args.node.mapping c.in_ok-given.given) c.mapped_wanted.ensures _ c.spot-spot.ensures _
     (λ d h. mapped_differs c.in_ok-given.ensures.ok argument.0 argument.1 made.1 made.2 h) _ c.suited-2.ensures.err
 
 pub explain_folded-returns-in_err-one : goal.explain_folded-returns-in_err-one
@@ -139,11 +142,14 @@ pub explain_folded-returns-in_err-suited : goal.explain_folded-returns-in_err-su
 explain_folded-returns-in_err-suited t c =
     told_on _ _ c.from_residual-in_err-suited.ensures.1
     (suited_told c.args.exprs.now (types_under c.args.names.now c.args.functions.now) c.args.id _ c.requires.there
-    (λ a. (b : Kind) × IsMade (folded_argument c.args.folding a b)) _ _ (folding_any c.args.folding) c.folding_wanted.ensures _ c.spot-spot.ensures _ (λ d h. folding_differs c.in_ok-one.ensures.ok c.in_ok-other.ensures.ok h) c.in_err-suited.ensures.err)
+    (λ a. (b : Kind) × IsMade (folded_argument c.args.node.folding a b)) _ _ (folding_any c.args.node.folding) c.folding_wanted.ensures _ c.spot-spot.ensures _ (λ d h. folding_differs c.in_ok-one.ensures.ok c.in_ok-other.ensures.ok h) c.in_err-suited.ensures.err)
+
+pub explain_folded-returns-in_err-argument : goal.explain_folded-returns-in_err-argument
+explain_folded-returns-in_err-argument t c = unsaid_on _ _ _ c.from_residual-in_err-argument.ensures.1
 
 pub explain_folded-returns-in_err-made : goal.explain_folded-returns-in_err-made
 explain_folded-returns-in_err-made t c =
-    let argument = c.in-Ok.ensures in
+    let argument = c.in_ok-argument.ensures in
     told_on _ _ c.from_residual-in_err-made.ensures.1
     (bound_told c.args.exprs.now (types_under c.args.names.now c.args.functions.now) c.args.id _ c.requires.there _ c.spot-spot.ensures _ _ c.placed-pattern.ensures _ _
     (λ d h. folded_pattern_differs c.in_ok-one.ensures.ok c.in_ok-other.ensures.ok argument.0 argument.1 h) (λ S binds. folded_body c.in_ok-one.ensures.ok c.in_ok-other.ensures.ok argument.0 argument.1 binds) c.in_err-made.ensures.err)
@@ -153,11 +159,11 @@ explain_folded-returns-in_err-wanted t c = room_on _ _ c.from_residual-in_err-wa
 
 pub explain_folded-returns-in_err-suited-2 : goal.explain_folded-returns-in_err-suited-2
 explain_folded-returns-in_err-suited-2 t c =
-    let argument = c.in-Ok.ensures in
+    let argument = c.in_ok-argument.ensures in
     let made = function_behind c.placed-pattern.ensures c.in_ok-made.ensures.ok in
     told_on _ _ c.from_residual-in_err-suited-2.ensures.1
     (suited_told c.args.exprs.now (types_under c.args.names.now c.args.functions.now) c.args.id _ c.requires.there
-    (λ b. (e : Kind) × IsMade (folded_kind c.args.folding c.in_ok-one.one b e)) _ _ (second_any c.args.folding c.in_ok-one.one c.in_ok-other.other (made_by argument.0)) c.in_ok-wanted.ensures _ c.spot-spot.ensures _
+    (λ b. (e : Kind) × IsMade (folded_kind c.args.node.folding c.in_ok-one.one b e)) _ _ (second_any c.args.node.folding c.in_ok-one.one c.in_ok-other.other (made_by argument.0)) c.in_ok-wanted.ensures _ c.spot-spot.ensures _
     (λ d h. second_differs c.in_ok-one.ensures.ok c.in_ok-other.ensures.ok argument.0 argument.1 made.1 made.2 h) c.in_err-suited-2.ensures.err)
 
 pub explain_folded-returns-in_err-wanted-2 : goal.explain_folded-returns-in_err-wanted-2
@@ -165,9 +171,9 @@ explain_folded-returns-in_err-wanted-2 t c = room_on _ _ c.from_residual-in_err-
 
 pub explain_folded-returns : goal.explain_folded-returns
 explain_folded-returns t c =
-    let argument = c.in-Ok.ensures in
+    let argument = c.in_ok-argument.ensures in
     let made = function_behind c.placed-pattern.ensures c.in_ok-made.ensures.ok in
-    let o = c.args.folding in
+    let o = c.args.node.folding in
     let can = suited_can (λ b. (e : Kind) × IsMade (folded_kind o c.in_ok-one.one b e)) _ _ c.in_ok-other.other (second_any o c.in_ok-one.one c.in_ok-other.other (made_by argument.0)) c.in_ok-wanted.ensures c.in_ok-suited-2.ensures.ok in
     suited_last c.args.exprs.now (types_under c.args.names.now c.args.functions.now) c.args.id _ c.requires.there
     (λ e. IsMade (folded_kind o c.in_ok-one.one c.in_ok-other.other e)) _ _ (folded_any o c.in_ok-one.one c.in_ok-other.other can.0 can.1) c.in_ok-wanted-2.ensures _ c.spot-spot.ensures _

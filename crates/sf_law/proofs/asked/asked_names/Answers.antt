@@ -8,7 +8,7 @@ use Rattle.sf_law.proofs.asked.asked_names.Goals as goal
 
 pub loop-init : goal.loop-init
 loop-init c = record {
-  only = none_only c.args.plan.now c.nothing-asked.result c.nothing-asked.ensures;
+  only = none_only c.args.plan.now c.nothing-asked.result (c.nothing-asked.ensures (plan_expressions c.args.plan.now));
   some = λ h. absurd (omega (arith, h));
 }
 
@@ -17,9 +17,8 @@ loop-preserved c =
     let p = c.args.plan.now in
     let x = plan_expressions p in
     let lack = subst (λ o. IsLack x (IsEnough p) c.loop.asked o) c.in-Some.is c.lack.ensures in
-    let y = ap (λ x. name_at x c.in-Some.name) c.expressions.ensures in
-    let added = subst (λ y. AddsOnly c.loop.asked y c.add_text.new.self) (c.name_of.ensures ∙ y) c.in_ok-add_text-in-Some.ensures.only in
-    let next = next_only p c.loop.asked c.add_text.new.self c.in-Some.name c.loop.invariant.only lack added in
+    let added = c.in_ok-add-in-Some.ensures.only in
+    let next = next_only p c.loop.asked c.add.new.self c.in-Some.name c.loop.invariant.only lack added in
     record { only = next.0; some = λ h. next.1 }
 
 pub returns-in-None : goal.returns-in-None

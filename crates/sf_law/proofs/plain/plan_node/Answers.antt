@@ -20,10 +20,10 @@ pub returns-in_ok-head-in-Transformed-clause-same : goal.returns-in_ok-head-in-T
 returns-in_ok-head-in-Transformed-clause-same c = rw (c.in-Transformed.is, c.id-in-Transformed.ensures) copies_transformed
 
 pub returns-in-Switching-clause-same : goal.returns-in-Switching-clause-same
-returns-in-Switching-clause-same c = rw (c.in-Switching.is, c.id-source.ensures, c.id-in-Switching.ensures) copies_switching
+returns-in-Switching-clause-same c = rw (c.in-Switching.is, c.plan_switch.ensures) copies_switching
 
 pub returns-in-Keeping-clause-same : goal.returns-in-Keeping-clause-same
-returns-in-Keeping-clause-same c = rw (c.in-Keeping.is, c.id-source-in-Keeping.ensures, c.id-observer.ensures, c.id-body.ensures) copies_keeping
+returns-in-Keeping-clause-same c = rw (c.in-Keeping.is, c.plan_keeping.ensures) copies_keeping
 
 pub returns-in_ok-named-in-Named-clause-coded : goal.returns-in_ok-named-in-Named-clause-coded
 returns-in_ok-named-in-Named-clause-coded c = c.in_ok-named-in-Named.ensures.coded _

@@ -15,7 +15,10 @@ of_its_form-requires-clause-keeps c = elim c.in-Primitive.is [
 pub of_its_form-requires-in-Transformed-clause-keeps : goal.of_its_form-requires-in-Transformed-clause-keeps
 of_its_form-requires-in-Transformed-clause-keeps c = elim c.in-Transformed.is [
   | inl k ↦ rw k.2 refl
-  | inr k ↦ rw k.4 refl
+  | inr j ↦ elim j [
+    | inl k ↦ rw k.1 refl
+    | inr k ↦ rw k.1 refl
+  ]
 ]
 
 pub of_its_form-requires-in-Gathered-clause-keeps : goal.of_its_form-requires-in-Gathered-clause-keeps

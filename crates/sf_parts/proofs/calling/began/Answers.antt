@@ -10,12 +10,12 @@ use Rattle.sf_parts.proofs.calling.began.Goals as goal
 pub returns-in-Some : goal.returns-in-Some
 returns-in-Some c = when_ok c.kept.result (λ process shared φ e N under asked.
     let p = c.args.plan.now in
-    let found = subst (λ x. IsFound φ p x (option_map (λ r. r.now) c.running.result) (process_of x e)) (rw c.expressions.ensures at c.name_of.ensures) (c.running.ensures φ e N) in
+    let found = c.running.ensures φ e N in
     let k = name_at (plan_expressions p) c.args.name in
     shared φ _ under ((subst (λ r. IsFound φ p k (option_map (λ r. r.now) r) (process_of k e)) c.in-Some.is found).1 asked)) c.kept.ensures
 
 pub returns-in-None : goal.returns-in-None
 returns-in-None c = λ φ e N under asked.
     let p = c.args.plan.now in
-    let found = subst (λ x. IsFound φ p x (option_map (λ r. r.now) c.running.result) (process_of x e)) (rw c.expressions.ensures at c.name_of.ensures) (c.running.ensures φ e N) in
+    let found = c.running.ensures φ e N in
     passing_base φ p (name_at (plan_expressions p) c.args.name) _ _ _ (ap (option_map (λ r. r.now)) c.in-None.is) c.passing.ensures found

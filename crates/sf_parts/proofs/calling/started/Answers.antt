@@ -13,12 +13,12 @@ returns-in_ok-began-in-Fresh c = λ φ e N. let asked = rw c.in-Fresh.is at c.re
 pub returns-in-Some : goal.returns-in-Some
 returns-in-Some c = when_ok c.share.result (λ process shared φ e N.
     let p = c.args.plan.now in
-    let found = subst (λ x. IsFound φ p x (option_map (λ r. r.now) c.running.result) (process_of x e)) (rw c.expressions.ensures at c.name_of.ensures) (c.running.ensures φ e N) in
+    let found = c.running.ensures φ e N in
     let k = name_at (plan_expressions p) c.args.name in
     rw c.in-Run.is (shared φ p _ [] (subst (λ r. IsFound φ p k (option_map (λ r. r.now) r) (process_of k e)) c.in-Some.is found).0)) c.share.ensures
 
 pub returns-in-None : goal.returns-in-None
 returns-in-None c = λ φ e N.
     let p = c.args.plan.now in
-    let found = subst (λ x. IsFound φ p x (option_map (λ r. r.now) c.running.result) (process_of x e)) (rw c.expressions.ensures at c.name_of.ensures) (c.running.ensures φ e N) in
+    let found = c.running.ensures φ e N in
     rw c.in-Run.is (passing_process φ p (name_at (plan_expressions p) c.args.name) _ _ _ _ (ap (option_map (λ r. r.now)) c.in-None.is) c.passing.ensures (c.unborn.ensures φ p) found)

@@ -1,6 +1,6 @@
 use Rattle.std.proofs.Common.{◌≡◌, [], ◌∷◌, ◌++◌, map, Ok, sym, ap, ◌∙◌, subst, refl, inl, inr, Vec}
 use Rattle.std.specs.declared.alloc.Global.{Global}
-use Rattle.sf_value.specs.Keys.{key_of, AreDifferentKeys}
+use Rattle.sf_value.specs.Keys.{key_of, key_index, AreDifferentKeys}
 use Rattle.sf_value.specs.declared.value.Key.{Key}
 use Rattle.sf_value.specs.declared.fault.Fault.TheVariants.{Memory}
 use Rattle.sf_operator.specs.FunctionForms.{value_of_key}
@@ -9,9 +9,10 @@ use Rattle.sf_mean.specs.Lives.{scope_around}
 use Rattle.sf_mean.specs.Formulas.{is_high}
 use Rattle.sf_state.specs.declared.state.State.{State}
 use Rattle.sf_state.specs.declared.state.Gathered.{Gathered}
+use Rattle.sf_law.specs.Arena.{plan_expressions}
 use Rattle.sf_code.specs.Worth.{frame_around}
 use Rattle.sf_state.proofs.Scopes.{functions_around, scope_is}
-use Rattle.sf_state.proofs.Sought.{left_out, placeless_before}
+use Rattle.sf_parts.proofs.Sought.{left_out, placeless_before, put_behind}
 use Rattle.sf_parts.specs.Beginning.{Makes, makes_nothing}
 use Rattle.sf_parts.proofs.Arguments.{made_failure}
 use Rattle.sf_parts.proofs.Collected.{start_sifted, sifted_kept, sifted_out, not_sifted, all_sifted, different_kept, coded_over}
@@ -37,22 +38,20 @@ loop-key-init g c =
           start_sifted φ p c.args.members (λ x. apply f x (scope_around φ e)) ms _ _ _ _ under c.in_ok-own.own.items states (c.in_ok-own.ensures φ p) c.new-under.ensures c.new-kept.ensures.items G;
     }
 
-pub push-requires : goal.push-requires
-push-requires g c =
-    let steps = c.in-Some.ensures.steps in
-    let different = subst (λ (ks : _). AreDifferentKeys (c.loop-key.under ++ map key_of ks)) steps.0 c.loop-key.invariant.different in
-    rw (sym c.in_ok-same.ensures) at (placeless_before c.loop-key.under (key_of c.in-Some.key.now) _ different)
-
 pub loop-key-preserved-in-Continue-branch-6 : goal.loop-key-preserved-in-Continue-branch-6
 loop-key-preserved-in-Continue-branch-6 g c =
     let steps = c.in-Some.ensures.steps in
+    let own = key_of c.in_ok-same.same in
+    let different = subst (λ (ks : _). AreDifferentKeys (c.loop-key.under ++ map key_of ks)) steps.0 c.loop-key.invariant.different in
+    let none = ap (λ k. key_index k c.loop-key.under) c.in_ok-same.ensures ∙ placeless_before c.loop-key.under (key_of c.in-Some.key.now) _ different in
+    let put = put_behind own c.loop-key.under c.push.new.self c.in_ok-push.field-0 none c.in_ok-push.ensures.added c.in_ok-push.ensures.keys in
     record {
-      different = different_kept c.loop-key.under _ (key_of c.in-Some.key.now) _ _ _ (ap (map key_of) steps.0) c.in_ok-same.ensures c.in_ok-push.ensures c.loop-key.invariant.different;
+      different = different_kept c.loop-key.under _ (key_of c.in-Some.key.now) _ _ _ (ap (map key_of) steps.0) c.in_ok-same.ensures put c.loop-key.invariant.different;
       sifted = λ f e ms C N G.
           let φ = g.R.Holds.answers c.args.context.now.functions.now in
           let p = c.args.context.now.plan.now in
-          let told = subst (λ b. Makes (λ b v. b ≡ is_high v) (apply f (value_of_key (key_of c.in-Some.key.now)) (scope_around φ e)) (Ok b)) c.if-stays.true (c.in_ok-stays.ensures f (scope_around φ e) (functions_around φ e) (coded_over C (scope_around φ e) _ (c.in_ok-around.ensures φ ∙ ap (frame_around c.args.code.now.around) (scope_is φ p c.args.names.now e N)))) in
-          sifted_kept φ p c.args.members.wait (λ x. apply f x (scope_around φ e)) ms _ _ _ _ _ _ c.in-Some.key.now c.in-Some.state steps.0 steps.1.0 (c.loop-key.invariant.sifted f e ms C N G) c.in_ok-same.same _ _ told c.in_ok-same.ensures c.in_ok-push.ensures c.in_ok-push-2.ensures.items;
+          let told = subst (λ b. Makes (λ b v. b ≡ is_high v) (apply f (value_of_key (key_of c.in-Some.key.now)) (scope_around φ e)) (Ok b)) c.if-stays.true (c.in_ok-stays.ensures f (scope_around φ e) (functions_around φ e) (coded_over C (scope_around φ e) _ (c.in_ok-around.ensures φ ∙ ap (frame_around (plan_expressions p) c.args.code.now.around) (scope_is φ p c.args.names.now e N)))) in
+          sifted_kept φ p c.args.members.wait (λ x. apply f x (scope_around φ e)) ms _ _ _ _ _ _ c.in-Some.key.now c.in-Some.state steps.0 steps.1.0 (c.loop-key.invariant.sifted f e ms C N G) c.in_ok-same.same _ _ told c.in_ok-same.ensures put c.in_ok-push-2.ensures.items;
     }
 
 pub loop-key-preserved : goal.loop-key-preserved
@@ -63,7 +62,7 @@ loop-key-preserved g c =
       sifted = λ f e ms C N G.
           let φ = g.R.Holds.answers c.args.context.now.functions.now in
           let p = c.args.context.now.plan.now in
-          let told = subst (λ b. Makes (λ b v. b ≡ is_high v) (apply f (value_of_key (key_of c.in-Some.key.now)) (scope_around φ e)) (Ok b)) c.if-stays.false (c.in_ok-stays.ensures f (scope_around φ e) (functions_around φ e) (coded_over C (scope_around φ e) _ (c.in_ok-around.ensures φ ∙ ap (frame_around c.args.code.now.around) (scope_is φ p c.args.names.now e N)))) in
+          let told = subst (λ b. Makes (λ b v. b ≡ is_high v) (apply f (value_of_key (key_of c.in-Some.key.now)) (scope_around φ e)) (Ok b)) c.if-stays.false (c.in_ok-stays.ensures f (scope_around φ e) (functions_around φ e) (coded_over C (scope_around φ e) _ (c.in_ok-around.ensures φ ∙ ap (frame_around (plan_expressions p) c.args.code.now.around) (scope_is φ p c.args.names.now e N)))) in
           sifted_out φ p c.args.members.wait (λ x. apply f x (scope_around φ e)) ms _ _ _ _ _ _ c.in-Some.key.now c.in-Some.state steps.0 steps.1.0 (c.loop-key.invariant.sifted f e ms C N G) told;
     }
 
@@ -74,7 +73,7 @@ returns-in_err-stays g c = λ f e ms C N G.
     let steps = c.in-Some.ensures.steps in
     let x = c.in_err-stays.field-0.0 in
     made_failure _ _ _ x c.from_residual-in_err-stays.ensures.1
-    (not_sifted φ p c.args.members.wait (λ x. apply f x (scope_around φ e)) ms _ _ _ _ _ _ c.in-Some.key.now c.in-Some.state steps.0 steps.1.0 (c.loop-key.invariant.sifted f e ms C N G) x (c.in_err-stays.ensures f (scope_around φ e) (functions_around φ e) (coded_over C (scope_around φ e) _ (c.in_ok-around.ensures φ ∙ ap (frame_around c.args.code.now.around) (scope_is φ p c.args.names.now e N)))))
+    (not_sifted φ p c.args.members.wait (λ x. apply f x (scope_around φ e)) ms _ _ _ _ _ _ c.in-Some.key.now c.in-Some.state steps.0 steps.1.0 (c.loop-key.invariant.sifted f e ms C N G) x (c.in_err-stays.ensures f (scope_around φ e) (functions_around φ e) (coded_over C (scope_around φ e) _ (c.in_ok-around.ensures φ ∙ ap (frame_around (plan_expressions p) c.args.code.now.around) (scope_is φ p c.args.names.now e N)))))
 
 pub returns-in_err-same : goal.returns-in_err-same
 returns-in_err-same g c = λ f e ms C N G. made_failure _ _ _ Memory c.from_residual-in_err-same.ensures.1 makes_nothing

@@ -13,14 +13,14 @@ use Rattle.sf_parts.proofs.collecting.of_name.Goals as goal
 pub returns-in-Some : goal.returns-in-Some
 returns-in-Some c = when_ok c.share.result (λ same shared φ e N.
     let p = c.args.plan.now in
-    let found = subst (λ x. AreFound φ p (option_map (λ l. held_in l.now) c.members.result) (members_of x e)) (rw c.expressions.ensures at c.name_of.ensures) (c.members.ensures φ e N) in
+    let found = c.members.ensures φ e N in
     let x = name_at (plan_expressions p) c.args.name in
     same_held φ p _ _ shared (members_of x e) [] (subst (λ r. AreFound φ p (option_map (λ l. held_in l.now) r) (members_of x e)) c.in-Some.is found)) c.share.ensures
 
 pub returns-in-None : goal.returns-in-None
 returns-in-None c = when_ok c.none.result (λ none nothing φ e N.
     let p = c.args.plan.now in
-    let found = subst (λ x. AreFound φ p (option_map (λ l. held_in l.now) c.members.result) (members_of x e)) (rw c.expressions.ensures at c.name_of.ensures) (c.members.ensures φ e N) in
+    let found = c.members.ensures φ e N in
     let x = name_at (plan_expressions p) c.args.name in
     let is : members_of x e ≡ no_members = subst (λ r. AreFound φ p (option_map (λ l. held_in l.now) r) (members_of x e)) c.in-None.is found in
     subst (λ ms. HasMembers φ p none ms) (sym is) (nothing φ p [])) c.none.ensures

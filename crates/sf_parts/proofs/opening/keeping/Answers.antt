@@ -13,4 +13,5 @@ returns-in_err-node c = λ φ x e N. open_exit φ c.args.plan.now _ e _ c.from_r
 pub returns : goal.returns
 returns c = λ φ.
     let p = c.args.plan.now in
-    open_keeping φ p c.args.shown c.args.source c.args.observer c.args.body c.args.name c.args.pattern c.args.names.now c.in_ok-around.around c.in_ok-running.running _ c.in_ok-node.node c.in_ok-node.ensures.ok (c.in_ok-running.ensures φ) (c.in_ok-around.ensures φ p)
+    let s = c.args.form.now in
+    open_keeping φ p s.shown s.source s.observer s.body s.name s.pattern c.args.names.now c.in_ok-around.around c.in_ok-running.running _ c.in_ok-node.node c.in_ok-node.ensures.ok (c.in_ok-running.ensures φ) (c.in_ok-around.ensures φ p)

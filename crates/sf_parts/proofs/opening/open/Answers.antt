@@ -26,7 +26,7 @@ pub returns-in-Switching : goal.returns-in-Switching
 returns-in-Switching g c =
     let φ = g.R.Holds.answers c.args.context.now.functions.now in
     let p = c.args.context.now.plan.now in
-    open_builds_switch φ p c.in-Switching.form c.in-Switching.first c.in-Switching.body c.in-Switching.pattern _ c.args.names.now _ (rw c.in-Switching.is at c.node.ensures.builds) (c.switching.ensures φ p c.args.input.now)
+    open_builds_switch φ p c.in-Switching.form _ c.args.names.now _ (rw c.in-Switching.is at c.node.ensures.builds) (c.switching.ensures φ p c.args.input.now)
 
 pub returns-in-Pipeline : goal.returns-in-Pipeline
 returns-in-Pipeline g c =
@@ -37,7 +37,7 @@ pub returns-in-Keeping : goal.returns-in-Keeping
 returns-in-Keeping g c =
     let φ = g.R.Holds.answers c.args.context.now.functions.now in
     let p = c.args.context.now.plan.now in
-    open_builds_keeping φ p c.in-Keeping.shown c.in-Keeping.source c.in-Keeping.observer c.in-Keeping.body c.in-Keeping.name c.in-Keeping.pattern _ c.args.names.now _ (rw c.in-Keeping.is at c.node.ensures.builds) (c.keeping.ensures φ c.args.input.now)
+    open_builds_keeping φ p c.in-Keeping.form _ c.args.names.now _ (rw c.in-Keeping.is at c.node.ensures.builds) (c.keeping.ensures φ c.args.input.now)
 
 pub returns-in-Gathered : goal.returns-in-Gathered
 returns-in-Gathered g c =

@@ -8,4 +8,4 @@ pub returns-in_err-node : goal.returns-in_err-node
 returns-in_err-node c = λ φ p x e N. open_exit φ p _ e _ c.from_residual-in_err-node.ensures.1
 
 pub returns : goal.returns
-returns c = λ φ p. open_switch φ p c.args.form c.args.first c.args.body c.args.pattern c.args.names.now c.in_ok-shared.shared c.in_ok-node.node c.in_ok-node.ensures.ok (c.in_ok-shared.ensures φ p)
+returns c = λ φ p. let s = c.args.form.now in open_switch φ p s.form s.source s.body s.pattern c.args.names.now c.in_ok-shared.shared c.in_ok-node.node c.in_ok-node.ensures.ok (c.in_ok-shared.ensures φ p)

@@ -1,14 +1,8 @@
 use Rattle.std.proofs.Common.{◌≡◌, Some, None, refl, sym, ap, ◌∙◌, subst}
 use Rattle.std.proofs.lemmas.Result.{IfOk-weaker}
 use Rattle.sf_value.specs.Keys.{key_of, key_index}
-use Rattle.sf_value.proofs.Indexes.{some_place}
 use Rattle.sf_parts.proofs.Places.{member_missing}
 use Rattle.sf_parts.proofs.placing.without_member.Goals as goal
-
-pub without_place-requires : goal.without_place-requires
-without_place-requires c =
-    let k = key_of c.args.key.now in
-    some_place k c.args.members.keys.value c.in-Some.at (ap (key_index k) (sym c.deref.ensures) ∙ sym c.place.ensures ∙ c.in-Some.is)
 
 pub returns-in-Some : goal.returns-in-Some
 returns-in-Some c = IfOk-weaker c.without_place.result _ _ (λ left h φ p ms G.

@@ -27,10 +27,10 @@ abbrev pub decreases-write_let : goal.decreases-write_let
 decreases-write_let l = 4 * max l.part.0 l.body.0 + 2
 
 abbrev pub decreases-write_mapped : goal.decreases-write_mapped
-decreases-write_mapped l = 4 * max l.part.0 l.body.0 + 3
+decreases-write_mapped l = 4 * max l.node.part.0 l.node.body.0 + 3
 
 abbrev pub decreases-write_folded : goal.decreases-write_folded
-decreases-write_folded l = 4 * max l.first.0 (max l.second.0 l.body.0) + 2
+decreases-write_folded l = 4 * max l.node.first.0 (max l.node.second.0 l.node.body.0) + 2
 
 abbrev pub decreases-write_called : goal.decreases-write_called
 decreases-write_called l = 4 * l.part.0 + 2

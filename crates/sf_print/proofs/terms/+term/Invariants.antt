@@ -63,10 +63,10 @@ abbrev pub decreases-write_body : goal.decreases-write_body
 decreases-write_body l = 200 * term_number l.body + 196
 
 abbrev pub decreases-write_switching : goal.decreases-write_switching
-decreases-write_switching l = 200 * max (term_number l.source) (term_number l.body) + 197
+decreases-write_switching l = 200 * max (term_number l.switch.source) (term_number l.switch.body) + 197
 
 abbrev pub decreases-write_keeping : goal.decreases-write_keeping
-decreases-write_keeping l = 200 * max (term_number l.source) (max (term_number l.observer) (term_number l.body)) + 197
+decreases-write_keeping l = 200 * max (term_number l.form.source) (max (term_number l.form.observer) (term_number l.form.body)) + 197
 
 abbrev pub invariant-write_further-loop-argument : goal.invariant-write_further-loop-argument
 invariant-write_further-loop-argument l = l.draft ≡ append_tokens l.initial.draft (separated (map (spell_argument l.version l.program) (take l.argument-index l.arguments)))

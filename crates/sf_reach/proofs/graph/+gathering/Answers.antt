@@ -47,10 +47,19 @@ gather-returns-in_ok-gather-in-Joined t c =
     let old = c.args.calls.now.items in
     let f = c.in-Joined.first in
     let g = c.in-Joined.second in
-    on_ok_weaker c.gather-in-Joined-2.result (λ h. elim c.in-Joined.is [
-      | inl k ↦ adds_two p c.args.term (nodes.Joined k.0 f g) (sym k.1 ∙ c.node.ensures.value) old _ _ f g (λ cs ds l r. in_joined l r) c.in_ok-gather-in-Joined.ensures h
-      | inr k ↦ adds_two p c.args.term (nodes.Keeping k.0 f g k.1 k.2 k.3 k.4) (sym k.5 ∙ c.node.ensures.value) old _ _ f g (λ cs ds l r. in_keeping l r) c.in_ok-gather-in-Joined.ensures h
-    ]) c.gather-in-Joined-2.ensures
+    on_ok_weaker c.gather-in-Joined.result (λ h. adds_two p c.args.term _ (sym c.in-Joined.is ∙ c.node.ensures.value) old _ _ f g (λ cs ds l r. in_joined l r) c.in_ok-gather-in-Joined.ensures h) c.gather-in-Joined.ensures
+
+pub gather-returns-in-Switching : goal.gather-returns-in-Switching
+gather-returns-in-Switching t c =
+    let n = c.in-Switching.form in
+    on_ok_weaker c.gather-in-Switching.result (λ h. adds_one c.args.program.now c.args.term (nodes.Switching n) (sym c.in-Switching.is ∙ c.node.ensures.value) c.args.calls.now.items _ n.source (λ cs l. in_switching l) h) c.gather-in-Switching.ensures
+
+pub gather-returns-in_ok-gather-in-Keeping : goal.gather-returns-in_ok-gather-in-Keeping
+gather-returns-in_ok-gather-in-Keeping t c =
+    let n = c.in-Keeping.form in
+    on_ok_weaker c.gather-in-Keeping-2.result
+    (λ h. adds_two c.args.program.now c.args.term (nodes.Keeping n) (sym c.in-Keeping.is ∙ c.node.ensures.value) c.args.calls.now.items _ _ n.source n.observer (λ cs ds l r. in_keeping l r) c.in_ok-gather-in-Keeping.ensures h)
+    c.gather-in-Keeping-2.ensures
 
 pub gather-returns-in-Sided : goal.gather-returns-in-Sided
 gather-returns-in-Sided t c =
@@ -61,10 +70,7 @@ gather-returns-in-Sided t c =
       | inl k ↦ adds_one p c.args.term (nodes.Sided k.0 f) (sym k.1 ∙ c.node.ensures.value) old _ f (λ cs l. in_sided l) h
       | inr j ↦ elim j [
         | inl k ↦ adds_one p c.args.term (nodes.Headed k.0 k.1 f) (sym k.2 ∙ c.node.ensures.value) old _ f (λ cs l. in_headed l) h
-        | inr i ↦ elim i [
-          | inl k ↦ adds_one p c.args.term (nodes.Transformed k.0 f) (sym k.1 ∙ c.node.ensures.value) old _ f (λ cs l. in_transformed l) h
-          | inr k ↦ adds_one p c.args.term (nodes.Switching k.0 f k.1 k.2) (sym k.3 ∙ c.node.ensures.value) old _ f (λ cs l. in_switching l) h
-        ]
+        | inr k ↦ adds_one p c.args.term (nodes.Transformed k.0 f) (sym k.1 ∙ c.node.ensures.value) old _ f (λ cs l. in_transformed l) h
       ]
     ]) c.gather-in-Sided.ensures
 
@@ -106,9 +112,9 @@ gather-returns-in-Editing t c =
 pub gather-returns-in_ok-gather_at-in-Releasing : goal.gather-returns-in_ok-gather_at-in-Releasing
 gather-returns-in_ok-gather_at-in-Releasing t c =
     let n = c.in-Releasing.form in
-    on_ok_weaker c.gather.result
+    on_ok_weaker c.gather-in-Releasing.result
     (λ h. adds_members_and c.args.program.now c.args.term (nodes.Releasing n) (sym c.in-Releasing.is ∙ c.node.ensures.value) c.args.calls.now.items _ _ n.members n.observer (λ cs ds l r. in_releasing l r) c.in_ok-gather_at-in-Releasing.ensures h)
-    c.gather.ensures
+    c.gather-in-Releasing.ensures
 
 -- ## A collection
 

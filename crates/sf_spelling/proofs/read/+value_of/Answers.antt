@@ -1,38 +1,40 @@
-use Rattle.std.proofs.Common.{[], refl, sym, subst, rules}
-use Rattle.sf_spelling.specs.Scan.{rows_at, value_at}
-use Rattle.sf_spelling.specs.Gives.{Fails, GivesRead}
+use Rattle.std.proofs.Common.{[], refl, sym, subst}
+use Rattle.sf_spelling.specs.Scan.{value_at}
+use Rattle.sf_spelling.specs.Gives.{GivesRead}
+use Rattle.sf_spelling.specs.Steps.{spellings}
 use Rattle.sf_value.specs.KindView.{key_kind_of}
-use Rattle.sf_spelling.proofs.Failing.{fails_then, goes_then, fails_so}
+use Rattle.sf_spelling.proofs.Failing.{fails_then, goes_then, fails_so, fails_on}
 use Rattle.sf_spelling.proofs.PairSteps.{first_fails, second_fails, bracket_left}
-use Rattle.sf_spelling.proofs.Loops.{kept_none, kept_some, fails, ends, closes, breaks, shorter, goes_on}
+use Rattle.sf_spelling.proofs.Loops.{value_fails, row_read, kept_none, kept_some, fails, ends, closes, as_many_closed, breaks, shorter, goes_on}
 use Rattle.sf_spelling.proofs.read.+value_of.Goals.{rows_in-in_default, rows_in-in-len1-up+else-c-eq125}
 use Rattle.sf_spelling.proofs.read.+value_of.Goals as goal
 
 pub rows_in-loop-table-init : goal.rows_in-loop-table-init
 rows_in-loop-table-init t c = elim c.if-bytes-lt1.branch [
-  | rows_in-in_default w ↦ kept_none (key_kind_of c.args.keys) c.args.values.now c.args.bytes.now c.new.result.items c.new-2.result c.new.ensures.items c.new-2.ensures w.in_default.len_below
-  | rows_in-in-len1-up+else-c-eq125 w ↦ kept_some (key_kind_of c.args.keys) c.args.values.now c.args.bytes.now c.new.result.items c.new-2.result c.new.ensures.items c.new-2.ensures w.in-len1-up.len_at_least w.if-c-eq125.false
+  | rows_in-in_default w ↦ kept_none (key_kind_of c.args.keys) c.args.values.now c.args.bytes.now c.new.result c.new-2.result.items c.new.ensures c.new-2.ensures.items w.in_default.len_below
+  | rows_in-in-len1-up+else-c-eq125 w ↦ kept_some (key_kind_of c.args.keys) c.args.values.now c.args.bytes.now c.new.result c.new-2.result.items c.new.ensures c.new-2.ensures.items w.in-len1-up.len_at_least w.if-c-eq125.false
 ]
 
-pub rows_in-returns-in_err-key-clause-rows : goal.rows_in-returns-in_err-key-clause-rows
-rows_in-returns-in_err-key-clause-rows t c =
-    let h : Fails c.in_err-key.field-0.0 (rows_at (key_kind_of c.args.keys) (value_at c.args.values.now) c.args.bytes.now) = fails (key_kind_of c.args.keys) c.args.values.now c.args.bytes.now _ _ c.loop-table.left.now c.loop-table.invariant c.in_err-key.field-0.0 c.in_err-key.ensures.row in
-    search rules
+pub rows_in-returns-in_err-rest-clause-rows : goal.rows_in-returns-in_err-rest-clause-rows
+rows_in-returns-in_err-rest-clause-rows t c = fails_so _ _ _ _ c.from_residual.ensures.1 (fails (key_kind_of c.args.keys) c.args.values.now c.args.bytes.now _ _ c.loop-table.left.now c.loop-table.invariant _ c.in_err-rest.ensures.fails)
 
 pub rows_in-returns-in-empty-clause-rows : goal.rows_in-returns-in-empty-clause-rows
-rows_in-returns-in-empty-clause-rows t c = ([], ends (key_kind_of c.args.keys) c.args.values.now c.args.bytes.now _ _ c.loop-table.left.now c.loop-table.invariant (c.in_ok-key.key, c.in_ok-key.value) c.in_ok-key.rest.now c.in_ok-key.ensures.row c.in-empty.len_below, refl)
+rows_in-returns-in-empty-clause-rows t c = ([], ends (key_kind_of c.args.keys) c.args.values.now c.args.bytes.now _ _ c.loop-table.left.now c.loop-table.invariant c.in_ok-rest.ensures.row.0 c.in_ok-rest.rest.now c.in_ok-rest.ensures.row.3 c.in-empty.len_below, refl)
 
 pub rows_in-returns-then-c-eq125-2-clause-rows : goal.rows_in-returns-then-c-eq125-2-clause-rows
-rows_in-returns-then-c-eq125-2-clause-rows t c = rw c.in_ok-put_row.ensures.ok (closes (key_kind_of c.args.keys) c.args.values.now c.args.bytes.now _ _ c.loop-table.left.now c.loop-table.invariant (c.in_ok-key.key, c.in_ok-key.value) c.in_ok-key.rest.now c.in_ok-key.ensures.row c.in-len1-up-rest.len_at_least c.if-c-eq125-2.true)
+rows_in-returns-then-c-eq125-2-clause-rows t c = closes (key_kind_of c.args.keys) c.args.values.now c.args.bytes.now _ _ c.loop-table.left.now c.loop-table.invariant c.in_ok-rest.ensures.row.0 c.in_ok-rest.rest.now c.in_ok-rest.ensures.row.3 c.in-len1-up-rest.len_at_least _ _ c.in_ok-rest.ensures.row.1 c.in_ok-rest.ensures.row.2 c.if-c-eq125-2.true
+
+pub rows_in-returns-then-c-eq125-2-clause-as_many : goal.rows_in-returns-then-c-eq125-2-clause-as_many
+rows_in-returns-then-c-eq125-2-clause-as_many t c = as_many_closed (key_kind_of c.args.keys) c.args.values.now c.args.bytes.now _ _ c.loop-table.left.now c.loop-table.invariant c.in_ok-rest.ensures.row.0 c.in_ok-rest.rest.now c.in_ok-rest.ensures.row.3 c.in-len1-up-rest.len_at_least _ _ c.in_ok-rest.ensures.row.1 c.in_ok-rest.ensures.row.2
 
 pub rows_in-returns-then-c-ne44-clause-rows : goal.rows_in-returns-then-c-ne44-clause-rows
-rows_in-returns-then-c-ne44-clause-rows t c = (c.in_ok-key.rest.now, breaks (key_kind_of c.args.keys) c.args.values.now c.args.bytes.now _ _ c.loop-table.left.now c.loop-table.invariant (c.in_ok-key.key, c.in_ok-key.value) c.in_ok-key.rest.now c.in_ok-key.ensures.row c.in-len1-up-rest.len_at_least c.if-c-eq125-2.false c.if-c-ne44.true, refl)
+rows_in-returns-then-c-ne44-clause-rows t c = (c.in_ok-rest.rest.now, breaks (key_kind_of c.args.keys) c.args.values.now c.args.bytes.now _ _ c.loop-table.left.now c.loop-table.invariant c.in_ok-rest.ensures.row.0 c.in_ok-rest.rest.now c.in_ok-rest.ensures.row.3 c.in-len1-up-rest.len_at_least c.if-c-eq125-2.false c.if-c-ne44.true, refl)
 
 pub rows_in-loop-table-smaller : goal.rows_in-loop-table-smaller
-rows_in-loop-table-smaller t c = shorter (key_kind_of c.args.keys) c.args.values.now c.args.bytes.now _ _ c.loop-table.left.now c.loop-table.invariant (c.in_ok-key.key, c.in_ok-key.value) c.in_ok-key.rest.now c.in_ok-key.ensures.row c.in-len1-up-rest.len_at_least
+rows_in-loop-table-smaller t c = shorter (key_kind_of c.args.keys) c.args.values.now c.args.bytes.now _ _ c.loop-table.left.now c.loop-table.invariant c.in_ok-rest.ensures.row.0 c.in_ok-rest.rest.now c.in_ok-rest.ensures.row.3 c.in-len1-up-rest.len_at_least
 
 pub rows_in-loop-table-preserved : goal.rows_in-loop-table-preserved
-rows_in-loop-table-preserved t c = rw c.in_ok-put_row.ensures.ok (goes_on (key_kind_of c.args.keys) c.args.values.now c.args.bytes.now _ _ c.loop-table.left.now c.loop-table.invariant (c.in_ok-key.key, c.in_ok-key.value) c.in_ok-key.rest.now c.in_ok-key.ensures.row c.in-len1-up-rest.len_at_least c.if-c-eq125-2.false c.if-c-ne44.false c.row_in.new.seen c.in_ok-key.ensures.seen)
+rows_in-loop-table-preserved t c = goes_on (key_kind_of c.args.keys) c.args.values.now c.args.bytes.now _ _ c.loop-table.left.now c.loop-table.invariant c.in_ok-rest.ensures.row.0 c.in_ok-rest.rest.now c.in_ok-rest.ensures.row.3 c.in-len1-up-rest.len_at_least _ _ c.in_ok-rest.ensures.row.1 c.in_ok-rest.ensures.row.2 c.if-c-eq125-2.false c.if-c-ne44.false
 
 pub table_of-returns-in_err-rest : goal.table_of-returns-in_err-rest
 unfolding value_at
@@ -42,8 +44,20 @@ pub table_of-returns-in_err-table : goal.table_of-returns-in_err-table
 unfolding value_at
 table_of-returns-in_err-table t c = fails_so _ _ _ _ c.from_residual-in_err-table.ensures.1 (goes_then _ _ _ _ c.in_ok-rest.ensures (fails_then _ _ _ c.in_err-table.ensures.rows))
 
-pub row_in-returns-in_err-key-clause-row : goal.row_in-returns-in_err-key-clause-row
-row_in-returns-in_err-key-clause-row t c = fails_so _ _ _ _ c.from_residual.ensures.1 (fails_then _ _ _ c.in_err-key.ensures.key)
+pub row_in-returns-in_err-rest-clause-fails : goal.row_in-returns-in_err-rest-clause-fails
+row_in-returns-in_err-rest-clause-fails t c = fails_on _ _ _ c.from_residual.ensures.1 (fails_then _ _ _ c.in_err-rest.ensures.fails)
+
+pub row_in-returns-in_err-value-clause-fails : goal.row_in-returns-in_err-value-clause-fails
+row_in-returns-in_err-value-clause-fails t c = fails_on _ _ _ c.from_residual-in_err-value.ensures.1
+    (value_fails (key_kind_of c.args.keys) (value_at c.args.values.now) (spellings c.args.rows.now.keys) c.args.bytes.now c.in_ok-rest.ensures.key.0 c.in_ok-rest.rest.now c.in_ok-rest.ensures.key.2 _ c.in_err-value.ensures)
+
+pub row_in-returns-clause-row : goal.row_in-returns-clause-row
+row_in-returns-clause-row t c = (
+  (c.in_ok-rest.ensures.key.0, c.in_ok-value.value),
+  c.in_ok-rest.ensures.key.1,
+  c.in_ok-put_value.ensures.ok,
+  row_read (key_kind_of c.args.keys) (value_at c.args.values.now) (spellings c.args.rows.now.keys) c.args.bytes.now c.in_ok-rest.ensures.key.0 c.in_ok-rest.rest.now c.in_ok-rest.ensures.key.2 c.in_ok-value.value c.in_ok-value.rest.now c.in_ok-value.ensures,
+)
 
 pub pair_of-returns-in_err-x : goal.pair_of-returns-in_err-x
 pair_of-returns-in_err-x t c = fails_so _ _ _ _ c.from_residual.ensures.1 (first_fails c.args.first.now c.args.second.now c.args.bytes.now _ c.in_err-x.ensures)

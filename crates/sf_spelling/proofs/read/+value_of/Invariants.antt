@@ -1,7 +1,6 @@
-use Rattle.std.proofs.Common.{◌≡◌, ◌+◌, ◌*◌, length, map}
+use Rattle.std.proofs.Common.{◌+◌, ◌*◌, length}
 use Rattle.sf_value.specs.Values.{nodes}
 use Rattle.sf_value.specs.KindView.{key_kind_of}
-use Rattle.sf_value.specs.View.{key_of}
 use Rattle.sf_spelling.specs.Scan.{value_at}
 use Rattle.sf_spelling.proofs.Loops.{Follows}
 use Rattle.sf_spelling.proofs.read.+value_of.Given as goal
@@ -29,7 +28,7 @@ decreases-row_in l = 5 * nodes l.values.now + 2
 
 abbrev pub invariant-rows_in-loop-table : goal.invariant-rows_in-loop-table
 invariant-rows_in-loop-table l =
-    Follows (key_kind_of l.keys) (value_at l.values) l.bytes l.table.rows.items l.table.keys l.left × (l.table.keys ≡ map (λ e. key_of e.0) l.table.rows.items)
+    Follows (key_kind_of l.keys) (value_at l.values) l.bytes l.table.keys l.table.values.items l.left
 
 abbrev pub decreases-rows_in-loop-table : goal.decreases-rows_in-loop-table
 decreases-rows_in-loop-table l = length l.left

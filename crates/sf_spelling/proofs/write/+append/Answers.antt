@@ -1,5 +1,5 @@
-use Rattle.std.proofs.Common.{◌≡◌, ◌∷◌, [], ◌++◌, sym, ap, ◌∙◌, append_assoc}
-use Rattle.sf_value.specs.View.{rows_of}
+use Rattle.std.proofs.Common.{◌≡◌, ◌∷◌, [], ◌++◌, map, sym, ap, ◌∙◌, append_assoc}
+use Rattle.sf_value.specs.View.{key_of, rows_under}
 use Rattle.sf_spelling.specs.Spelling.{spelling, rows_spelling}
 use Rattle.sf_spelling.proofs.Fronts.{front_kept, same_kept, on_err, kept_on_err, behind}
 use Rattle.sf_spelling.proofs.write.+append.Goals as goal
@@ -12,13 +12,13 @@ append_pair-returns-in_err-append-2-clause-err t c =
     let middle = front_kept _ _ _ new c.in_ok-append.ensures.ok last in
     on_err c.from_residual-in_err-append-2.result _ (front_kept _ _ _ new bracket middle)
 
-pub append_more-returns-in_ok-append-in-len1-up-clause-err : goal.append_more-returns-in_ok-append-in-len1-up-clause-err
-append_more-returns-in_ok-append-in-len1-up-clause-err t c =
+pub append_more-returns-in_ok-append-in-len1-up-values-clause-err : goal.append_more-returns-in_ok-append-in-len1-up-values-clause-err
+append_more-returns-in_ok-append-in-len1-up-values-clause-err t c =
     let r = c.append_more.result in
     let new = c.append_more.new.out.items in
-    let comma : c.push.new.self.items ≡ c.args.out.now.items ++ (44 ∷ []) = c.in_ok-push-in-len1-up.ensures.items in
-    let last = kept_on_err r _ _ _ new c.in_ok-append-in-len1-up.ensures.ok c.append_more.ensures.err in
-    let middle = kept_on_err r _ _ _ new c.in_ok-append_key-in-len1-up.ensures.ok last in
+    let comma : c.push.new.self.items ≡ c.args.out.now.items ++ (44 ∷ []) = c.in_ok-push-in-len1-up-values.ensures.items in
+    let last = kept_on_err r _ _ _ new c.in_ok-append-in-len1-up-values.ensures.ok c.append_more.ensures.err in
+    let middle = kept_on_err r _ _ _ new c.in_ok-append_key-in-len1-up-values.ensures.ok last in
     kept_on_err r _ _ _ new comma middle
 
 pub append_pair-returns-in_err-append-clause-err : goal.append_pair-returns-in_err-append-clause-err
@@ -72,29 +72,29 @@ pub append_table-returns-clause-ok : goal.append_table-returns-clause-ok
 append_table-returns-clause-ok t c =
     let bracket : c.push.new.self.items ≡ c.args.out.now.items ++ (123 ∷ []) = c.in_ok-push.ensures.items in
     let end : c.push-2.new.self.items ≡ c.append_rows.new.out.items ++ (125 ∷ []) = c.in_ok-push-2.ensures.items in
-    let rows = rows_spelling (rows_of c.args.rows.now) in
+    let rows = rows_spelling (rows_under (map key_of c.args.rows.keys.now) c.args.rows.values.now) in
     let new = c.push-2.new.self.items in
     behind c.args.out.now.items (123 ∷ []) c.push.new.self.items (rows ++ 125 ∷ []) new bracket
     (behind c.push.new.self.items rows c.append_rows.new.out.items (125 ∷ []) new c.in_ok-append_rows.ensures.ok end)
 
-pub append_rows-returns-in_err-append-in-len1-up-clause-err : goal.append_rows-returns-in_err-append-in-len1-up-clause-err
-append_rows-returns-in_err-append-in-len1-up-clause-err t c =
-    on_err c.from_residual-in_err-append-in-len1-up.result _ (front_kept _ _ _ c.append.new.out.items c.in_ok-append_key-in-len1-up.ensures.ok c.in_err-append-in-len1-up.ensures.err)
+pub append_rows-returns-in_err-append-in-len1-up-values-clause-err : goal.append_rows-returns-in_err-append-in-len1-up-values-clause-err
+append_rows-returns-in_err-append-in-len1-up-values-clause-err t c =
+    on_err c.from_residual-in_err-append-in-len1-up-values.result _ (front_kept _ _ _ c.append.new.out.items c.in_ok-append_key-in-len1-up-values.ensures.ok c.in_err-append-in-len1-up-values.ensures.err)
 
-pub append_rows-returns-in_ok-append-in-len1-up-clause-err : goal.append_rows-returns-in_ok-append-in-len1-up-clause-err
-append_rows-returns-in_ok-append-in-len1-up-clause-err t c =
+pub append_rows-returns-in_ok-append-in-len1-up-values-clause-err : goal.append_rows-returns-in_ok-append-in-len1-up-values-clause-err
+append_rows-returns-in_ok-append-in-len1-up-values-clause-err t c =
     let r = c.append_more.result in
     let new = c.append_more.new.out.items in
-    kept_on_err r _ _ _ new c.in_ok-append_key-in-len1-up.ensures.ok (kept_on_err r _ _ _ new c.in_ok-append-in-len1-up.ensures.ok c.append_more.ensures.err)
+    kept_on_err r _ _ _ new c.in_ok-append_key-in-len1-up-values.ensures.ok (kept_on_err r _ _ _ new c.in_ok-append-in-len1-up-values.ensures.ok c.append_more.ensures.err)
 
-pub append_more-returns-in_err-append_key-in-len1-up-clause-err : goal.append_more-returns-in_err-append_key-in-len1-up-clause-err
-append_more-returns-in_err-append_key-in-len1-up-clause-err t c =
-    let comma : c.push.new.self.items ≡ c.args.out.now.items ++ (44 ∷ []) = c.in_ok-push-in-len1-up.ensures.items in
-    on_err c.from_residual-in_err-append_key-in-len1-up.result _ (front_kept _ _ _ c.append_key.new.out.items comma c.in_err-append_key-in-len1-up.ensures.err)
+pub append_more-returns-in_err-append_key-in-len1-up-values-clause-err : goal.append_more-returns-in_err-append_key-in-len1-up-values-clause-err
+append_more-returns-in_err-append_key-in-len1-up-values-clause-err t c =
+    let comma : c.push.new.self.items ≡ c.args.out.now.items ++ (44 ∷ []) = c.in_ok-push-in-len1-up-values.ensures.items in
+    on_err c.from_residual-in_err-append_key-in-len1-up-values.result _ (front_kept _ _ _ c.append_key.new.out.items comma c.in_err-append_key-in-len1-up-values.ensures.err)
 
-pub append_more-returns-in_err-append-in-len1-up-clause-err : goal.append_more-returns-in_err-append-in-len1-up-clause-err
-append_more-returns-in_err-append-in-len1-up-clause-err t c =
+pub append_more-returns-in_err-append-in-len1-up-values-clause-err : goal.append_more-returns-in_err-append-in-len1-up-values-clause-err
+append_more-returns-in_err-append-in-len1-up-values-clause-err t c =
     let new = c.append.new.out.items in
-    let comma : c.push.new.self.items ≡ c.args.out.now.items ++ (44 ∷ []) = c.in_ok-push-in-len1-up.ensures.items in
-    let middle = front_kept _ _ _ new c.in_ok-append_key-in-len1-up.ensures.ok c.in_err-append-in-len1-up.ensures.err in
-    on_err c.from_residual-in_err-append-in-len1-up.result _ (front_kept _ _ _ new comma middle)
+    let comma : c.push.new.self.items ≡ c.args.out.now.items ++ (44 ∷ []) = c.in_ok-push-in-len1-up-values.ensures.items in
+    let middle = front_kept _ _ _ new c.in_ok-append_key-in-len1-up-values.ensures.ok c.in_err-append-in-len1-up-values.ensures.err in
+    on_err c.from_residual-in_err-append-in-len1-up-values.result _ (front_kept _ _ _ new comma middle)

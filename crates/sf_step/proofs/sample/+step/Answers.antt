@@ -1,7 +1,7 @@
-use Rattle.std.proofs.Common.{◌≡◌, [], ◌+◌, set, ◌∷◌, ◌++◌, take, drop, length, None, Ok, Err, refl, sym, ap, ◌∙◌, subst, arith, Vec}
+use Rattle.std.proofs.Common.{◌≡◌, [], ◌+◌, set, ◌∷◌, ◌++◌, take, drop, length, length-set, None, Ok, Err, refl, sym, ap, ◌∙◌, subst, arith, Vec}
 use Rattle.std.specs.declared.alloc.Global.{Global}
-use Rattle.sf_value.specs.Values.{table}
-use Rattle.sf_parts.specs.Tables.{rows_under}
+use Rattle.sf_value.specs.Values.{Data, table}
+use Rattle.sf_value.specs.View.{rows_under}
 use Rattle.std.specs.Vec.{with_items}
 use Rattle.std.proofs.lemmas.List.{with_items_is}
 use Rattle.sf_state.specs.declared.state.Wrap.TheVariants.{First, Second, Loop, Initialized, Replaced, Followed}
@@ -27,7 +27,7 @@ use Rattle.sf_step.proofs.Switches.{source_fails, switch_memory, switch_waits_on
 use Rattle.sf_step.proofs.Keeping.{runs_alike, kept_fails, kept_memory, observer_fails, observer_memory, keeps_on, kept_body_fails, kept_body_takes_over, some_occurs, none_occurs}
 use Rattle.sf_step.proofs.Turning.{frozen_steps, pass_beside, watching_turns, watching_fails, keeping_turns, keeping_fails, gathering_turns, gathering_fails}
 use Rattle.sf_step.specs.Sampling.{EachSteps}
-use Rattle.sf_step.proofs.Members.{memory_now, stopped_at, each_first, each_next, each_fails, each_memory, each_last, list_alike, awake_lived, asleep_fresh, runs_among, begins_among, goes_on_among, members_step, members_fail, members_end, gathered_so, pass_with, Continues as EachContinues}
+use Rattle.sf_step.proofs.Members.{memory_now, stopped_at, each_first, each_next, each_fails, each_memory, each_last, list_alike, awake_lived, asleep_fresh, runs_among, begins_among, goes_on_among, members_step, members_unseen, members_fail, members_end, gathered_so, at_once, pass_with, pass_each, Continues as EachContinues}
 use Rattle.sf_step.proofs.Releasing.{run_alike, members_stop, members_memory, sight_fails, sight_memory, members_go_on, released_body_fails, released_body_takes_over}
 use Rattle.sf_step.proofs.Editing.{stopped, members_alone, old_fail, old_memory, edit_stops_it, new_stops, new_run}
 use Rattle.sf_step.proofs.sample.+step.Goals as goal
@@ -601,27 +601,48 @@ step_editing-returns-in-None g t c =
     c.step_members.result c.step_members.new.members c.step_members.new.value (fault_of c.step_members.new.meter) (none_occurs _ c.in-Ok.occurring (second_of c.args.value.now) c.in-Ok.ensures.1 c.in-None.is)
     _ refl c.step_members.ensures
 
-pub step_editing-returns-in_err-step_members-in-Some : goal.step_editing-returns-in_err-step_members-in-Some
-step_editing-returns-in_err-step_members-in-Some g t c = λ m depth t T e L N W.
-    pass_exit _ _ c.from_residual.ensures.0 (old_fail (g.R.Holds.answers c.args.context.now.functions.now) c.args.context.now.plan.now c.args.names.now c.args.editing.now c.args.context.now.dt c.args.value.now c.in-Ok.input c.in-Ok.ensures.0 c.args.meter.now c.step_members-in-Some.new.meter c.args.inside
-    _ c.in_err-step_members-in-Some.ensures m depth t T e L N W)
+pub step_editing-returns-in_err-step_old-in-Some : goal.step_editing-returns-in_err-step_old-in-Some
+step_editing-returns-in_err-step_old-in-Some g t c = λ m depth t T e L N W.
+    pass_exit _ _ c.from_residual.ensures.0 (old_fail (g.R.Holds.answers c.args.context.now.functions.now) c.args.context.now.plan.now c.args.names.now c.args.editing.now c.args.context.now.dt c.args.value.now c.in-Ok.input c.in-Ok.ensures.0 c.args.meter.now c.step_old.new.meter c.args.inside
+    _ c.in_err-step_old-in-Some.ensures.steps m depth t T e L N W)
 
 pub step_editing-returns-in-Err : goal.step_editing-returns-in-Err
 step_editing-returns-in-Err g t c = λ m depth t T e L N W.
-    stopped c.stop-in-Err.ensures.fault (edit_stops_it (g.R.Holds.answers c.args.context.now.functions.now) c.args.context.now.plan.now c.args.names.now c.args.editing.now c.args.context.now.dt c.args.value.now c.in-Ok.input c.in-Ok.ensures.0 c.args.meter.now c.step_members-in-Some.new.meter c.args.inside
-    c.step_members-in-Some.new.members c.step_members-in-Some.new.value c.in_ok-step_members-in-Some.ensures c.in-Some.payload.value (some_occurs _ c.in-Ok.occurring c.in-Some.payload (second_of c.args.value.now) c.in-Ok.ensures.1 c.in-Some.is) c.in-Err.fault (λ e qs K N G. rw c.deref.ensures at (c.in-Err.ensures _ (c.in-Ok-inside.ensures (g.R.Holds.answers c.args.context.now.functions.now) e qs K N G))) _ c.stop-in-Err.ensures.entered c.stop-in-Err.ensures.height m depth t T e L N W)
+    let old = c.in_ok-step_old-in-Some.ensures in
+    stopped c.stop-in-Err.ensures.fault (edit_stops_it (g.R.Holds.answers c.args.context.now.functions.now) c.args.context.now.plan.now c.args.names.now c.args.editing.now c.args.context.now.dt c.args.value.now c.in-Ok.input c.in-Ok.ensures.0 c.args.meter.now c.step_old.new.meter c.args.inside
+    c.step_old.new.members old.given old.steps c.in-Some.payload.value (some_occurs _ c.in-Ok.occurring c.in-Some.payload (second_of c.args.value.now) c.in-Ok.ensures.1 c.in-Some.is) c.in-Err.fault (λ e qs K N G. rw c.deref.ensures at (c.in-Err.ensures _ (c.in-Ok-inside.ensures (g.R.Holds.answers c.args.context.now.functions.now) e qs K N G))) _ c.stop-in-Err.ensures.entered c.stop-in-Err.ensures.height m depth t T e L N W)
 
-pub step_editing-returns-in_err-step_members-in-Ok-collect : goal.step_editing-returns-in_err-step_members-in-Ok-collect
-step_editing-returns-in_err-step_members-in-Ok-collect g t c = λ m depth t T e L N W.
-    pass_exit _ _ c.from_residual-in_err-step_members-in-Ok-collect.ensures.0 (new_stops (g.R.Holds.answers c.args.context.now.functions.now) c.args.context.now.plan.now c.args.names.now c.args.editing.now c.args.context.now.dt c.args.value.now c.in-Ok.input c.in-Ok.ensures.0 c.args.meter.now c.step_members-in-Some.new.meter c.args.inside
-    c.step_members-in-Some.new.members c.step_members-in-Some.new.value c.in_ok-step_members-in-Some.ensures c.in-Some.payload.value (some_occurs _ c.in-Ok.occurring c.in-Some.payload (second_of c.args.value.now) c.in-Ok.ensures.1 c.in-Some.is) c.in-Ok-collect.fresh (λ e qs K N G. rw c.deref.ensures at (c.in-Ok-collect.ensures _ (c.in-Ok-inside.ensures (g.R.Holds.answers c.args.context.now.functions.now) e qs K N G))) c.in-Ok-clone_in.begun c.in-Ok-clone_in.ensures c.step_members-in-Ok-collect.new.meter
-    _ c.in_err-step_members-in-Ok-collect.ensures m depth t T e L N W)
+pub step_editing-returns-in_err-step_members-in-Ok-made : goal.step_editing-returns-in_err-step_members-in-Ok-made
+step_editing-returns-in_err-step_members-in-Ok-made g t c = λ m depth t T e L N W.
+    let old = c.in_ok-step_old-in-Some.ensures in
+    pass_exit _ _ c.from_residual-in_err-step_members-in-Ok-made.ensures.0 (new_stops (g.R.Holds.answers c.args.context.now.functions.now) c.args.context.now.plan.now c.args.names.now c.args.editing.now c.args.context.now.dt c.args.value.now c.in-Ok.input c.in-Ok.ensures.0 c.args.meter.now c.step_old.new.meter c.args.inside
+    c.step_old.new.members old.given old.steps c.in-Some.payload.value (some_occurs _ c.in-Ok.occurring c.in-Some.payload (second_of c.args.value.now) c.in-Ok.ensures.1 c.in-Some.is) c.in-Ok-made.fresh (λ e qs K N G. rw c.deref.ensures at (c.in-Ok-made.ensures _ (c.in-Ok-inside.ensures (g.R.Holds.answers c.args.context.now.functions.now) e qs K N G))) c.in-Ok-clone_in.begun c.in-Ok-clone_in.ensures c.step_members-in-Ok-made.new.meter
+    _ c.in_err-step_members-in-Ok-made.ensures m depth t T e L N W)
 
-pub step_editing-returns-in_ok-step_members-in-Ok-collect : goal.step_editing-returns-in_ok-step_members-in-Ok-collect
-step_editing-returns-in_ok-step_members-in-Ok-collect g t c =
-    new_run (g.R.Holds.answers c.args.context.now.functions.now) c.args.context.now.plan.now c.args.names.now c.args.editing.now c.args.context.now.dt c.args.value.now c.in-Ok.input c.in-Ok.ensures.0 c.args.meter.now c.step_members-in-Some.new.meter c.args.inside
-    c.step_members-in-Some.new.members c.step_members-in-Some.new.value c.in_ok-step_members-in-Some.ensures c.in-Some.payload.value (some_occurs _ c.in-Ok.occurring c.in-Some.payload (second_of c.args.value.now) c.in-Ok.ensures.1 c.in-Some.is) c.in-Ok-collect.fresh (λ e qs K N G. rw c.deref.ensures at (c.in-Ok-collect.ensures _ (c.in-Ok-inside.ensures (g.R.Holds.answers c.args.context.now.functions.now) e qs K N G))) c.in-Ok-clone_in.begun c.in-Ok-clone_in.ensures c.step_members-in-Ok-collect.new.meter
-    c.step_members-in-Ok-collect.new.members c.step_members-in-Ok-collect.new.value _ c.show.ensures _ refl c.in_ok-step_members-in-Ok-collect.ensures
+pub step_editing-returns-in_ok-step_members-in-Ok-made : goal.step_editing-returns-in_ok-step_members-in-Ok-made
+step_editing-returns-in_ok-step_members-in-Ok-made g t c =
+    let old = c.in_ok-step_old-in-Some.ensures in
+    let z = c.step_members-in-Ok-made.new.value in
+    new_run (g.R.Holds.answers c.args.context.now.functions.now) c.args.context.now.plan.now c.args.names.now c.args.editing.now c.args.context.now.dt c.args.value.now c.in-Ok.input c.in-Ok.ensures.0 c.args.meter.now c.step_old.new.meter c.args.inside
+    c.step_old.new.members old.given old.steps c.in-Some.payload.value (some_occurs _ c.in-Ok.occurring c.in-Some.payload (second_of c.args.value.now) c.in-Ok.ensures.1 c.in-Some.is) c.in-Ok-made.fresh (λ e qs K N G. rw c.deref.ensures at (c.in-Ok-made.ensures _ (c.in-Ok-inside.ensures (g.R.Holds.answers c.args.context.now.functions.now) e qs K N G))) c.in-Ok-clone_in.begun c.in-Ok-clone_in.ensures c.step_members-in-Ok-made.new.meter
+    c.step_members-in-Ok-made.new.members z _ (c.show.ensures ∙ old.shown z) _ refl c.in_ok-step_members-in-Ok-made.ensures
+
+-- ## step_old
+
+pub step_old-returns-in-Delayed : goal.step_old-returns-in-Delayed
+step_old-returns-in-Delayed g t c = record { given = c.step_members.new.value; shown = λ z. refl; steps = c.step_members.ensures }
+
+pub step_old-returns-in-Immediate : goal.step_old-returns-in-Immediate
+step_old-returns-in-Immediate g t c =
+    let φ = g.R.Holds.answers c.args.context.now.functions.now in
+    let p = c.args.context.now.plan.now in
+    let ys = c.step_unseen.ensures.0 in
+    let h : Gathered = record { keys = c.args.members.now.keys; states = c.step_unseen.new.list; wait = None } in
+    record {
+      given = table (rows_under c.args.members.now.keys.value ys);
+      shown = λ z. at_once c.args.value.now _ z c.in-Immediate.is;
+      steps = members_unseen φ p c.step_unseen.result c.args.members.now h c.args.context.now.dt c.args.value.now c.args.meter.now c.step_unseen.new.meter c.args.inside ys (fault_of c.step_unseen.new.meter) refl refl c.step_unseen.ensures.1;
+    }
 
 -- ## step_members
 
@@ -639,7 +660,7 @@ step_members-returns-in-Ok g t c =
     let ys = c.in_ok-outputs.outputs.items in
     let h : Gathered = record { keys = c.args.members.now.keys; states = c.step_list.new.list; wait = None } in
     members_step φ p c.args.members.now h c.args.context.now.dt c.args.value.now c.args.meter.now c.step_list.new.meter c.args.inside ys c.in-Ok.rows
-    (c.in-Ok.ensures ∙ ap (λ ks. table (rows_under ks ys)) c.deref.ensures) refl refl c.in_ok-outputs.ensures
+    c.in-Ok.ensures refl refl c.in_ok-outputs.ensures
 
 pub step_members-returns-in-Err : goal.step_members-returns-in-Err
 step_members-returns-in-Err g t c =
@@ -689,6 +710,8 @@ step_each-loop-state-init g t c =
     let bs = c.deref_mut-state-items.result.now in
     record {
       goes_on = subst (λ ys. EachContinues φ p c.args.wait bs d x m [] ys bs m c.args.inside) (sym c.in-Ok.ensures.items) (each_first φ p c.args.wait bs d x m c.args.inside);
+      as_many = c.in-Ok.ensures.len;
+      room = omega (arith, c.in-Ok.ensures.capacity, c.len.ensures, ap length c.deref_mut-state-items.ensures.value);
     }
 
 pub step_each-returns-in_default-clone_in : goal.step_each-returns-in_default-clone_in
@@ -714,20 +737,10 @@ step_each-returns-in_err-step_member g t c =
     f n (rw c.in-Ok-clone_in.ensures at c.in_err-step_member.ensures) in
     pass_with _ _ c.from_residual.ensures.0 (subst (λ bs. EachSteps φ p c.args.wait bs (step d x) (Err f) m n c.args.inside) c.deref_mut-state-items.ensures.value failed)
 
-pub step_each-returns-in_default-push : goal.step_each-returns-in_default-push
-step_each-returns-in_default-push g t c =
-    let φ = g.R.Holds.answers c.args.context.now.functions.now in
-    let p = c.args.context.now.plan.now in
-    let d = c.args.context.now.dt in
-    let x = c.args.value.now in
-    let m = c.args.meter.now in
+pub step_each-push_reserved-requires : goal.step_each-push_reserved-requires
+step_each-push_reserved-requires g t c =
     let l = c.loop-state in
-    let n = c.stop-in_default-push.new.self in
-    let bs = set l.state-items l.state-index c.step_member.new.state in
-    let here = each_next φ p c.args.wait c.deref_mut-state-items.result.now d x m l.state-items l.state-index l.outputs.items l.meter c.args.inside c.state-item.result (omega (arith, c.loop-state-test.true, l.auto.state-items)) l.invariant.goes_on
-    c.step_member.new.state c.step_member.new.value c.step_member.new.meter (rw c.in-Ok-clone_in.ensures at c.in_ok-step_member.ensures) in
-    stopped_at φ p c.args.wait c.deref_mut-state-items.ensures.value c.stop-in_default-push.ensures.fault
-    (each_memory φ p c.args.wait c.deref_mut-state-items.result.now d x m (take (l.state-index + 1) bs) (l.outputs.items ++ c.step_member.new.value ∷ []) (drop (l.state-index + 1) bs) c.step_member.new.meter n c.args.inside here c.stop-in_default-push.ensures.entered c.stop-in_default-push.ensures.height)
+    omega (arith, l.invariant.as_many, l.invariant.room, c.loop-state-test.true, l.auto.state-items)
 
 pub step_each-loop-state-preserved : goal.step_each-loop-state-preserved
 step_each-loop-state-preserved g t c =
@@ -740,9 +753,11 @@ step_each-loop-state-preserved g t c =
     let n = c.step_member.new.meter in
     let bs = set l.state-items l.state-index c.step_member.new.state in
     record {
-      goes_on = subst (λ ys. EachContinues φ p c.args.wait c.deref_mut-state-items.result.now d x m (take (l.state-index + 1) bs) ys (drop (l.state-index + 1) bs) n c.args.inside) (sym c.in-Ok-push.ensures.items)
+      goes_on = subst (λ ys. EachContinues φ p c.args.wait c.deref_mut-state-items.result.now d x m (take (l.state-index + 1) bs) ys (drop (l.state-index + 1) bs) n c.args.inside) (sym c.push_reserved.ensures.items)
           (each_next φ p c.args.wait c.deref_mut-state-items.result.now d x m l.state-items l.state-index l.outputs.items l.meter c.args.inside c.state-item.result (omega (arith, c.loop-state-test.true, l.auto.state-items)) l.invariant.goes_on
           c.step_member.new.state c.step_member.new.value n (rw c.in-Ok-clone_in.ensures at c.in_ok-step_member.ensures));
+      as_many = c.push_reserved.ensures.len ∙ ap (λ k. k + 1) l.invariant.as_many;
+      room = omega (arith, length-set l.state-items l.state-index c.step_member.new.state, l.invariant.room, c.push_reserved.ensures.capacity);
     }
 
 pub step_each-returns : goal.step_each-returns
@@ -758,6 +773,92 @@ step_each-returns g t c =
     let whole : w.items ≡ l.state-items = with_items_is c.args.states.now l.state-items (omega (arith, l.auto.state-items, ap length c.deref_mut-state-items.ensures.value)) in
     let all = each_last φ p c.args.wait _ d x m l.state-items l.state-index l.outputs.items l.meter c.args.inside last l.invariant.goes_on in
     rw whole (subst (λ bs. EachSteps φ p c.args.wait bs (step d x) (Ok (l.state-items, l.outputs.items)) m l.meter c.args.inside) c.deref_mut-state-items.ensures.value all)
+
+-- ## step_unseen, step_each_unseen
+
+pub step_unseen-returns-in_default : goal.step_unseen-returns-in_default
+step_unseen-returns-in_default g t c =
+    let φ = g.R.Holds.answers c.args.context.now.functions.now in
+    let p = c.args.context.now.plan.now in
+    ([], stopped_at φ p c.args.wait refl c.stop.ensures.fault (memory_now φ p c.args.wait c.args.list.now.value.items c.args.context.now.dt c.args.value.now c.args.meter.now c.stop.new.self c.args.inside c.stop.ensures.entered c.stop.ensures.height))
+
+pub step_unseen-returns-in-Some : goal.step_unseen-returns-in-Some
+step_unseen-returns-in-Some g t c =
+    let φ = g.R.Holds.answers c.args.context.now.functions.now in
+    let p = c.args.context.now.plan.now in
+    let own = subst (λ (v : Vec State Global). AllFollow φ p c.args.list.now.value.items v.items) (sym c.in-Some.ensures.value) (c.unshare_states.ensures φ p) in
+    (c.step_each_unseen.ensures.0, list_alike φ p own c.step_each_unseen.ensures.1)
+
+pub step_unseen-returns-in-None : goal.step_unseen-returns-in-None
+step_unseen-returns-in-None g t c =
+    let φ = g.R.Holds.answers c.args.context.now.functions.now in
+    let p = c.args.context.now.plan.now in
+    ([], stopped_at φ p c.args.wait refl c.stop-in-None.ensures.fault (memory_now φ p c.args.wait c.args.list.now.value.items c.args.context.now.dt c.args.value.now c.args.meter.now c.stop-in-None.new.self c.args.inside c.stop-in-None.ensures.entered c.stop-in-None.ensures.height))
+
+pub step_each_unseen-loop-member-init : goal.step_each_unseen-loop-member-init
+step_each_unseen-loop-member-init g t c =
+    let φ = g.R.Holds.answers c.args.context.now.functions.now in
+    let p = c.args.context.now.plan.now in
+    record {
+      goes_on = ([], each_first φ p c.args.wait c.deref_mut-member-items.result.now c.args.context.now.dt c.args.value.now c.args.meter.now c.args.inside);
+    }
+
+pub step_each_unseen-returns-in_default : goal.step_each_unseen-returns-in_default
+step_each_unseen-returns-in_default g t c =
+    let φ = g.R.Holds.answers c.args.context.now.functions.now in
+    let p = c.args.context.now.plan.now in
+    let l = c.loop-member in
+    let now = l.invariant.goes_on in
+    let n = c.stop.new.self in (
+      [],
+      stopped_at φ p c.args.wait c.deref_mut-member-items.ensures.value c.stop.ensures.fault
+          (each_memory φ p c.args.wait c.deref_mut-member-items.result.now c.args.context.now.dt c.args.value.now c.args.meter.now (take l.member-index l.member-items) now.0 (drop l.member-index l.member-items) l.meter n c.args.inside now.1 c.stop.ensures.entered c.stop.ensures.height),
+    )
+
+pub step_each_unseen-returns-in_err-step_member : goal.step_each_unseen-returns-in_err-step_member
+step_each_unseen-returns-in_err-step_member g t c =
+    let φ = g.R.Holds.answers c.args.context.now.functions.now in
+    let p = c.args.context.now.plan.now in
+    let d = c.args.context.now.dt in
+    let x = c.args.value.now in
+    let m = c.args.meter.now in
+    let l = c.loop-member in
+    let now = l.invariant.goes_on in
+    let f = fault_of c.step_member.new.meter in
+    let n = c.step_member.new.meter in
+    let failed = each_fails φ p c.args.wait _ d x m l.member-items l.member-index now.0 l.meter c.args.inside c.member-item.result (omega (arith, c.loop-member-test.true, l.auto.member-items)) now.1
+    f n (rw c.in-Ok.ensures at c.in_err-step_member.ensures) in
+    ([], pass_each _ _ c.from_residual.ensures.0 (subst (λ bs. EachSteps φ p c.args.wait bs (step d x) (Err f) m n c.args.inside) c.deref_mut-member-items.ensures.value failed))
+
+pub step_each_unseen-loop-member-preserved : goal.step_each_unseen-loop-member-preserved
+step_each_unseen-loop-member-preserved g t c =
+    let φ = g.R.Holds.answers c.args.context.now.functions.now in
+    let p = c.args.context.now.plan.now in
+    let l = c.loop-member in
+    let now = l.invariant.goes_on in
+    let y = c.step_member.new.value in
+    record {
+      goes_on = (
+        now.0 ++ y ∷ [],
+        each_next φ p c.args.wait c.deref_mut-member-items.result.now c.args.context.now.dt c.args.value.now c.args.meter.now l.member-items l.member-index now.0 l.meter c.args.inside c.member-item.result (omega (arith, c.loop-member-test.true, l.auto.member-items)) now.1
+            c.step_member.new.state y c.step_member.new.meter (rw c.in-Ok.ensures at c.in_ok-step_member.ensures),
+      );
+    }
+
+pub step_each_unseen-returns : goal.step_each_unseen-returns
+step_each_unseen-returns g t c =
+    let φ = g.R.Holds.answers c.args.context.now.functions.now in
+    let p = c.args.context.now.plan.now in
+    let d = c.args.context.now.dt in
+    let x = c.args.value.now in
+    let m = c.args.meter.now in
+    let l = c.loop-member in
+    let now = l.invariant.goes_on in
+    let last : l.member-index ≡ length l.member-items = omega (arith, l.auto.member-items, l.auto.member-index-end, c.loop-member-test.false) in
+    let w = with_items c.args.states.now l.member-items in
+    let whole : w.items ≡ l.member-items = with_items_is c.args.states.now l.member-items (omega (arith, l.auto.member-items, ap length c.deref_mut-member-items.ensures.value)) in
+    let all = each_last φ p c.args.wait _ d x m l.member-items l.member-index now.0 l.meter c.args.inside last now.1 in
+    (now.0, rw whole (subst (λ bs. EachSteps φ p c.args.wait bs (step d x) (Ok (l.member-items, now.0)) m l.meter c.args.inside) c.deref_mut-member-items.ensures.value all))
 
 -- ## step_member, step_waiting
 

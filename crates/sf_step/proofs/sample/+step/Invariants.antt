@@ -1,4 +1,6 @@
-use Rattle.std.proofs.Common.{◌+◌, ◌-◌, ◌*◌, if◌then◌else◌, take, drop}
+use Rattle.std.proofs.Common.{◌≡◌, ◌≤◌, ◌+◌, ◌-◌, ◌*◌, if◌then◌else◌, List, length, take, drop}
+use Rattle.std.specs.Prelude.{vec_len, vec_capacity}
+use Rattle.sf_value.specs.Values.{Data}
 use Rattle.sf_state.specs.Standing.{is_frozen}
 use Rattle.sf_step.proofs.Stages.{Continues}
 use Rattle.sf_step.proofs.Members.{Continues as EachContinues}
@@ -77,10 +79,10 @@ invariant-step_pipeline-loop-stage g l = record {
 }
 
 abbrev pub decreases-step_gathering : goal.decreases-step_gathering
-decreases-step_gathering g l = 20 * (1600 - l.inside) + 13
+decreases-step_gathering g l = 20 * (1600 - l.inside) + 14
 
 abbrev pub decreases-step_members_waiting : goal.decreases-step_members_waiting
-decreases-step_members_waiting g l = 20 * (1600 - l.inside) + 12
+decreases-step_members_waiting g l = 20 * (1600 - l.inside) + 13
 
 abbrev pub decreases-step_releasing : goal.decreases-step_releasing
 decreases-step_releasing g l = 20 * (1600 - l.inside) + 10
@@ -92,7 +94,7 @@ abbrev pub decreases-step_gathered : goal.decreases-step_gathered
 decreases-step_gathered g l = 20 * (1600 - l.inside) + 10
 
 abbrev pub decreases-step_edited : goal.decreases-step_edited
-decreases-step_edited g l = 20 * (1600 - l.inside) + 11
+decreases-step_edited g l = 20 * (1600 - l.inside) + 12
 
 abbrev pub decreases-step_list : goal.decreases-step_list
 decreases-step_list g l = 20 * (1600 - l.inside) + 8
@@ -103,6 +105,8 @@ decreases-step_each g l = 20 * (1600 - l.inside) + 7
 abbrev pub invariant-step_each-loop-state : goal.invariant-step_each-loop-state
 invariant-step_each-loop-state g l = record {
   goes_on : EachContinues (g.R.Holds.answers l.context.functions.now) l.context.plan.now l.wait l.initial.state-items l.context.dt l.value l.initial.meter (take l.state-index l.state-items) l.outputs.items (drop l.state-index l.state-items) l.meter l.inside;
+  as_many : vec_len l.outputs ≡ l.state-index;
+  room : length l.state-items ≤ vec_capacity l.outputs;
 }
 
 abbrev pub decreases-step_member : goal.decreases-step_member
@@ -112,4 +116,18 @@ abbrev pub decreases-step_waiting : goal.decreases-step_waiting
 decreases-step_waiting g l = 20 * (1600 - l.inside) + 5
 
 abbrev pub decreases-step_editing : goal.decreases-step_editing
-decreases-step_editing g l = 20 * (1600 - l.inside) + 10
+decreases-step_editing g l = 20 * (1600 - l.inside) + 11
+
+abbrev pub decreases-step_old : goal.decreases-step_old
+decreases-step_old g l = 20 * (1600 - l.inside) + 10
+
+abbrev pub decreases-step_unseen : goal.decreases-step_unseen
+decreases-step_unseen g l = 20 * (1600 - l.inside) + 8
+
+abbrev pub decreases-step_each_unseen : goal.decreases-step_each_unseen
+decreases-step_each_unseen g l = 20 * (1600 - l.inside) + 7
+
+abbrev pub invariant-step_each_unseen-loop-member : goal.invariant-step_each_unseen-loop-member
+invariant-step_each_unseen-loop-member g l = record {
+  goes_on : (ys : List Data) × EachContinues (g.R.Holds.answers l.context.functions.now) l.context.plan.now l.wait l.initial.member-items l.context.dt l.value l.initial.meter (take l.member-index l.member-items) ys (drop l.member-index l.member-items) l.meter l.inside;
+}

@@ -12,4 +12,5 @@ is_none (Some d) h = cc
 pub returns-clause-bare : goal.returns-clause-bare
 returns-clause-bare g c = λ h.
     let s = scope_with (g.N.Names.values c.args.names.now) (λ x d. None) in
-    is_none _ (c.in_ok-around.ensures (λ x d. None) ∙ ap (λ o. frame_around o.around s) c.deref.ensures ∙ ap (λ o. frame_around o s) h)
+    let x = g.N.Names.expressions c.args.names.now in
+    is_none _ (c.in_ok-around.ensures (λ x d. None) ∙ ap (λ o. frame_around x o.around s) c.deref.ensures ∙ ap (λ o. frame_around x o s) h)

@@ -9,7 +9,7 @@ use Rattle.sf_law.proofs.mentioned.Mentioned.add_arguments.Given as goal
 abbrev pub invariant-loop-rest : goal.invariant-loop-rest
 invariant-loop-rest l = record {
   coded : All (IsCodedArgument (plan_expressions l.plan)) l.initial.rest → All (IsCodedArgument (plan_expressions l.plan)) l.rest;
-  mentioned : All (IsCodedArgument (plan_expressions l.plan)) l.initial.rest → (x : Name) → ArgumentsMention (plan_arguments l.plan l.initial.rest) x → IsTrue (is_mentioned l.self x) ⊎ ArgumentsMention (plan_arguments l.plan l.rest) x;
+  mentioned : All (IsCodedArgument (plan_expressions l.plan)) l.initial.rest → (x : Name) → ArgumentsMention (plan_arguments l.plan l.initial.rest) x → IsTrue (is_mentioned (plan_expressions l.plan) l.self x) ⊎ ArgumentsMention (plan_arguments l.plan l.rest) x;
 }
 
 abbrev pub decreases-loop-rest : goal.decreases-loop-rest

@@ -13,11 +13,9 @@ pub returns : goal.returns
 returns c = λ t B.
     let p = c.args.plan.now in
     let s = c.args.editing.now in
-    let placed = c.placed.ensures ∙ ap (λ (x : Exprs). placed_at x s.pattern) c.expressions-exprs.ensures in
-    let name = c.name_of-name.ensures ∙ ap (λ (x : Exprs). name_at x s.name) c.expressions-exprs.ensures in
     let members = rw c.deref.ensures at c.in_ok-add_collection.ensures.added in
     let edit = rw c.deref-2.ensures at c.in_ok-add_collection-2.ensures.added in
     ok_both c.add_all.result
     (λ kept added. covers_editing p c.add_all.new.self B (λ k x h. kept x (members k x h))
-    (λ k x h free. added x (c.in_ok-left.ensures x (edit k x h) (subst (λ (n : Name). n ≢ x) (sym name) free.0, subst (λ (q : PlacedPattern). BindsOthers (pattern_of q) x) (sym placed) free.1))))
+    (λ k x h free. added x (c.in_ok-left.ensures x (edit k x h) free)))
     c.add_all.ensures.kept c.add_all.ensures.added

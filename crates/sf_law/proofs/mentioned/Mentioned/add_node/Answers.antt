@@ -28,15 +28,12 @@ returns-in_ok-add_code-in-Transformed c = λ t B.
 pub returns-in_ok-add_part-in-Keeping-2 : goal.returns-in_ok-add_part-in-Keeping-2
 returns-in_ok-add_part-in-Keeping-2 c = λ t B.
     let p = c.args.plan.now in
-    let k = c.in-Keeping in
-    let exprs = c.expressions-exprs.ensures in
-    let placed = c.placed-in-Keeping.ensures ∙ ap (λ (x : Exprs). placed_at x k.pattern) exprs in
-    let name = c.name_of-in-Keeping.ensures ∙ ap (λ (x : Exprs). name_at x k.name) exprs in
+    let k = c.in-Keeping.form in
     let first = c.in_ok-add_part-in-Keeping.ensures in
     let second = c.in_ok-add_part-in-Keeping-2.ensures in
     ok_both c.add_body-in-Keeping.result
-    (λ kept added. covers_keeping p c.add_body-in-Keeping.new.self (rw k.is at B) (λ x h. kept x (second.kept x (first.added x (c.requires k.first x h)))) (λ x h. kept x (second.added x (c.requires k.observer x h)))
-    (λ x h free. added x (c.requires k.body x h) (subst (λ (n : Name). n ≢ x) (sym name) free.0, subst (λ (q : PlacedPattern). BindsOthers (pattern_of q) x) (sym placed) free.1)))
+    (λ kept added. covers_keeping p c.add_body-in-Keeping.new.self (rw c.in-Keeping.is at B) (λ x h. kept x (second.kept x (first.added x (c.requires k.source x h)))) (λ x h. kept x (second.added x (c.requires k.observer x h)))
+    (λ x h free. added x (c.requires k.body x h) free))
     c.add_body-in-Keeping.ensures.kept c.add_body-in-Keeping.ensures.added
 
 pub returns-in-Gathered : goal.returns-in-Gathered

@@ -13,11 +13,9 @@ pub returns : goal.returns
 returns c = λ t B.
     let p = c.args.plan.now in
     let s = c.args.releasing.now in
-    let placed = c.placed.ensures ∙ ap (λ (x : Exprs). placed_at x s.pattern) c.expressions-exprs.ensures in
-    let name = c.name_of-name.ensures ∙ ap (λ (x : Exprs). name_at x s.name) c.expressions-exprs.ensures in
     let members = rw c.deref.ensures at c.in_ok-add_collection.ensures.added in
     let observer = c.in_ok-add_part.ensures in
     ok_both c.add_body.result
     (λ kept added. covers_releasing p c.add_body.new.self B (λ k x h. kept x (observer.kept x (members k x h))) (λ x h. kept x (observer.added x (c.requires s.observer x h)))
-    (λ x h free. added x (c.requires s.body x h) (subst (λ (n : Name). n ≢ x) (sym name) free.0, subst (λ (q : PlacedPattern). BindsOthers (pattern_of q) x) (sym placed) free.1)))
+    (λ x h free. added x (c.requires s.body x h) free))
     c.add_body.ensures.kept c.add_body.ensures.added

@@ -16,7 +16,7 @@ loop-number-preserved c =
     let x = plan_expressions p in
     let hs = plan_headers p in
     let here = no_lack x m (λ asks. IsTrue (is_asked x hs asks c.node.result.now)) c.lack_of_node-lack.result (sym c.is_some.ensures ∙ c.if-is_some.false) c.lack_of_node-lack.ensures in
-    next_enough p m c.loop-number.number c.loop-number.invariant (subst (λ n. IsTrue (is_asked x hs (is_mentioned m) n)) c.node.ensures.value here)
+    next_enough p m c.loop-number.number c.loop-number.invariant (subst (λ n. IsTrue (is_asked x hs (is_mentioned x m) n)) c.node.ensures.value here)
 
 pub returns-then-is_some : goal.returns-then-is_some
 returns-then-is_some c =

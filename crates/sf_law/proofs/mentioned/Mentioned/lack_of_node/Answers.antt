@@ -16,9 +16,8 @@ returns-in-Started c =
     let x = plan_expressions p in
     let k = c.in-Started.name in
     let w = c.in-Started.start in
-    let given = c.lack_of_start.ensures ∙ ap (λ (x : Exprs). cond (start_asked false (is_mentioned m (name_at x k)) w) None (Some k)) c.expressions-exprs.ensures in
     let found = start_lack x m w k (λ asks. false) false refl (λ asks among h. h) in
-    subst (λ n. IsLack x (λ asks. IsTrue (is_asked x (plan_headers p) asks n)) m c.lack_of_start.result) (sym c.in-Started.is) (subst (λ o. IsLack x (λ asks. IsTrue (start_asked false (asks (name_at x k)) w)) m o) (sym given) found)
+    subst (λ n. IsLack x (λ asks. IsTrue (is_asked x (plan_headers p) asks n)) m c.lack_of_start.result) (sym c.in-Started.is) (subst (λ o. IsLack x (λ asks. IsTrue (start_asked false (asks (name_at x k)) w)) m o) (sym c.lack_of_start.ensures) found)
 
 pub returns-in-Call : goal.returns-in-Call
 returns-in-Call c =
@@ -26,8 +25,8 @@ returns-in-Call c =
     let m = c.args.self.now in
     let parameters = c.parameters.ensures ∙ ap (λ (h : PlanHeader). h.parameters) c.template.ensures.value in
     let r = c.lack_of_arguments.result in
-    let found = subst (λ (x : Exprs). IsLack x (λ asks. IsTrue (arguments_asked x asks c.parameters.result.now c.deref.result.now)) m r) c.expressions-exprs.ensures c.lack_of_arguments.ensures in
     let x = plan_expressions p in
+    let found = c.lack_of_arguments.ensures in
     let over = subst (λ qs. IsLack x (λ asks. IsTrue (arguments_asked x asks qs c.deref.result.now)) m r) parameters found in
     let all = subst (λ vs. IsLack x (λ asks. IsTrue (arguments_asked x asks (slice_index_or (plan_headers p) c.in-Call.template.0 no_header).parameters vs)) m r) c.deref.ensures.value over in
     subst (λ n. IsLack x (λ asks. IsTrue (is_asked x (plan_headers p) asks n)) m r) (sym c.in-Call.is) all

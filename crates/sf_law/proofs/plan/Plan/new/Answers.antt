@@ -9,6 +9,7 @@ use Rattle.sf_law.proofs.plan.Plan.new.Goals as goal
 
 pub invariant_of-result : goal.invariant_of-result
 invariant_of-result c = record {
+  told = c.in_ok-numbering.ensures;
   arena = subst (λ ns. ArePlanNodes c.args.expressions c.args.templates.items ns) (sym c.new.ensures.items) (arena_empty c.args.expressions c.args.templates.items);
   enough = λ i. any_asked c.args.expressions c.args.templates.items (node_among c.new.result.items i);
   few = subst (λ ms. length ms ≤ length c.new.result.items) (sym c.new-2.ensures.items) (omega arith);

@@ -15,6 +15,7 @@ invariant_of-plan c =
     let n = c.len.result in
     let same = sym c.put_bodies.ensures in
     record {
+      told = p.told;
       arena = subst (λ (hs : List PlanHeader). ArePlanNodes p.expressions hs p.nodes.items) same (arena_kept ids n p.expressions p.templates.items p.nodes.items p.arena);
       enough = subst (λ (hs : List PlanHeader). AreAsked p.expressions hs p.asked p.nodes.items) same (enough_kept ids n p.expressions p.templates.items p.asked p.nodes.items p.enough);
       few = p.few;

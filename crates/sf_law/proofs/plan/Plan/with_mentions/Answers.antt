@@ -7,6 +7,7 @@ pub invariant_of-plan : goal.invariant_of-plan
 invariant_of-plan c =
     let p = c.args.self in
     record {
+      told = p.told;
       arena = p.arena;
       enough = enough_all p c.in_ok-asked.asked c.in_ok-asked.ensures.enough;
       few = c.in_ok-mentions.ensures.count;

@@ -2,7 +2,8 @@ use Rattle.std.proofs.Common.{sym, ap, subst, ◌∙◌}
 use Rattle.std.specs.Prelude.{IfSome, ◌≢◌}
 use Rattle.std.proofs.lemmas.Result.{IfOk-weaker}
 use Rattle.sf_value.specs.Values.{Name}
-use Rattle.sf_expr.specs.Patterns.{PlacedPattern, pattern_of}
+use Rattle.sf_expr.specs.Expressions.{Pattern}
+use Rattle.sf_expr.specs.Patterns.{pattern_of}
 use Rattle.sf_expr.specs.Arena.{name_at, placed_at}
 use Rattle.sf_coincidence.specs.Mentions.{BindsOthers}
 use Rattle.sf_law.specs.Arena.{plan_expressions}
@@ -15,17 +16,17 @@ use Rattle.sf_state.proofs.Fewer.{emptied_kept, inside_pattern, inside_process, 
 use Rattle.sf_state.proofs.env.Env.+fewer.Goals as goal
 
 pub returns-then-is_empty : goal.returns-then-is_empty
-returns-then-is_empty t c = λ φ e N. emptied_kept φ c.args.plan.now c.args.mentioned.now e c.emptied.result (c.is_empty.ensures c.if-is_empty.true) c.emptied.ensures
+returns-then-is_empty t c = λ φ e N. emptied_kept φ c.args.plan.now c.args.mentioned.now e c.emptied.result (c.is_empty.ensures c.if-is_empty.true (plan_expressions c.args.plan.now)) c.emptied.ensures
 
 pub returns-in_ok-around-in-Bound : goal.returns-in_ok-around-in-Bound
 returns-in_ok-around-in-Bound t c =
     let p = c.args.plan.now in
     let m = c.args.mentioned.now in
     let b = c.in-Bound.binding.value in
-    let pattern = c.placed-pattern.ensures ∙ ap (λ a. placed_at c.expressions.result.now a.pattern) c.deref.ensures ∙ ap (λ x. placed_at x b.pattern) c.expressions.ensures in
+    let pattern = ap (λ (a : Binding). pattern_of (placed_at (plan_expressions p) a.pattern)) c.deref.ensures in
     IfOk-weaker c.over.result _ _
     (λ r over φ e N. inside_pattern φ p b (λ d. IfSome r (λ names. HasMentioned φ p m names d))
-    (λ d M. over φ p m c.in_ok-left-in-Bound.left d (λ x w free. c.in_ok-left-in-Bound.ensures x w (subst (λ (q : PlacedPattern). BindsOthers (pattern_of q) x) (sym pattern) free))
+    (λ d M. over φ p m c.in_ok-left-in-Bound.left d (λ x w free. c.in_ok-left-in-Bound.ensures x w (subst (λ (q : Pattern). BindsOthers q x) (sym pattern) free))
     (c.in_ok-around-in-Bound.ensures φ d (subst (λ (a : Binding). IsNames φ p a.around d) (sym c.deref-then-is_bound_by.ensures) M))) e (rw c.in-Bound.is at N))
     (rw c.deref-then-is_bound_by-2.ensures at c.over.ensures)
 
@@ -35,10 +36,10 @@ returns-in_ok-around-in-Bound-2 t c =
     let m = c.args.mentioned.now in
     let b = c.in-Bound.binding.value in
     let q = pattern_of (placed_at (plan_expressions p) b.pattern) in
-    let pattern = c.placed-pattern.ensures ∙ ap (λ a. placed_at c.expressions.result.now a.pattern) c.deref.ensures ∙ ap (λ x. placed_at x b.pattern) c.expressions.ensures in
+    let pattern = ap (λ (a : Binding). pattern_of (placed_at (plan_expressions p) a.pattern)) c.deref.ensures in
     IfOk-weaker c.or_shared.result _ _
     (λ r shared φ e N. inside_pattern φ p b (λ d. IfSome r (λ names. HasMentioned φ p m names d))
-    (λ d M. pattern_fell φ p m d q b.value.value r (λ x w. subst (λ (q : PlacedPattern). BindsOthers (pattern_of q) x) pattern (c.is_bound_by.ensures c.if-is_bound_by.false x w))
+    (λ d M. pattern_fell φ p m d q b.value.value r (λ x w. subst (λ (q : Pattern). BindsOthers q x) pattern (c.is_bound_by.ensures c.if-is_bound_by.false x w))
     (shared φ p m d (subst (λ (a : Binding). IsNames φ p a.around d) (sym c.deref-else-is_bound_by-2.ensures) M)
     (c.in_ok-around-in-Bound-2.ensures φ d (subst (λ (a : Binding). IsNames φ p a.around d) (sym c.deref-else-is_bound_by.ensures) M)))) e (rw c.in-Bound.is at N))
     c.or_shared.ensures
@@ -48,7 +49,7 @@ returns-in_ok-around-in-Running t c =
     let p = c.args.plan.now in
     let m = c.args.mentioned.now in
     let b = c.in-Running.running.value in
-    let name = c.name_of-name.ensures ∙ ap (λ a. name_at c.expressions-in-Running.result.now a.name) c.deref-in-Running.ensures ∙ ap (λ x. name_at x b.name) c.expressions-in-Running.ensures in
+    let name = ap (λ (a : Running). name_at (plan_expressions p) a.name) c.deref-in-Running.ensures in
     IfOk-weaker c.over-then-is_bound_by-2.result _ _
     (λ r over φ e N. inside_process φ p b (λ d. IfSome r (λ names. HasMentioned φ p m names d))
     (λ d P H M. over φ p m c.in_ok-left-in-Running.left d P (λ x w free. c.in_ok-left-in-Running.ensures x w (subst (λ (n : Name). n ≢ x) (sym name) free)) H
@@ -60,7 +61,7 @@ returns-in_ok-around-in-Running-2 t c =
     let p = c.args.plan.now in
     let m = c.args.mentioned.now in
     let b = c.in-Running.running.value in
-    let name = c.name_of-name.ensures ∙ ap (λ a. name_at c.expressions-in-Running.result.now a.name) c.deref-in-Running.ensures ∙ ap (λ x. name_at x b.name) c.expressions-in-Running.ensures in
+    let name = ap (λ (a : Running). name_at (plan_expressions p) a.name) c.deref-in-Running.ensures in
     IfOk-weaker c.or_shared-else-is_bound_by-2.result _ _
     (λ r shared φ e N. inside_process φ p b (λ d. IfSome r (λ names. HasMentioned φ p m names d))
     (λ d P H M. process_fell φ p m d (name_at (plan_expressions p) b.name) P r (λ x w. subst (λ (n : Name). n ≢ x) name (c.is_bound_by-in-Running.ensures c.if-is_bound_by-2.false x w))
@@ -73,7 +74,7 @@ returns-in_ok-around-in-Collected t c =
     let p = c.args.plan.now in
     let m = c.args.mentioned.now in
     let b = c.in-Collected.collected.value in
-    let name = c.name_of-name-in-Collected.ensures ∙ ap (λ a. name_at c.expressions-in-Collected.result.now a.name) c.deref-in-Collected.ensures ∙ ap (λ x. name_at x b.name) c.expressions-in-Collected.ensures in
+    let name = ap (λ (a : Collected). name_at (plan_expressions p) a.name) c.deref-in-Collected.ensures in
     IfOk-weaker c.over-then-is_bound_by-3.result _ _
     (λ r over φ e N. collected_holds φ p c.in-Collected.collected (λ d. IfSome r (λ names. HasMentioned φ p m names d))
     (λ d ms G M. over φ p m c.in_ok-left-in-Collected.left d ms (λ x w free. c.in_ok-left-in-Collected.ensures x w (subst (λ (n : Name). n ≢ x) (sym name) free)) G
@@ -85,7 +86,7 @@ returns-in_ok-around-in-Collected-2 t c =
     let p = c.args.plan.now in
     let m = c.args.mentioned.now in
     let b = c.in-Collected.collected.value in
-    let name = c.name_of-name-in-Collected.ensures ∙ ap (λ a. name_at c.expressions-in-Collected.result.now a.name) c.deref-in-Collected.ensures ∙ ap (λ x. name_at x b.name) c.expressions-in-Collected.ensures in
+    let name = ap (λ (a : Collected). name_at (plan_expressions p) a.name) c.deref-in-Collected.ensures in
     IfOk-weaker c.or_shared-else-is_bound_by-3.result _ _
     (λ r shared φ e N. collected_holds φ p c.in-Collected.collected (λ d. IfSome r (λ names. HasMentioned φ p m names d))
     (λ d ms G M. members_fell φ p m d (name_at (plan_expressions p) b.name) ms r (λ x w. subst (λ (n : Name). n ≢ x) name (c.is_bound_by-in-Collected.ensures c.if-is_bound_by-3.false x w))

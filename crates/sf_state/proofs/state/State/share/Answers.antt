@@ -1,34 +1,6 @@
-use Rattle.sf_state.proofs.Copies.{same_follows, unborn_follows, primitive_follows, alive_follows, same_waits, watching_follows, same_keeps, keeping_follows, same_gathers, gathering_follows, frozen_follows}
+use Rattle.sf_state.proofs.Copies.{primitive_follows}
 use Rattle.sf_state.proofs.state.State.share.Goals as goal
-
-pub returns-in_ok-same-in-Unborn : goal.returns-in_ok-same-in-Unborn
-returns-in_ok-same-in-Unborn c = λ φ p P L A.
-    unborn_follows φ p c.in-Unborn.process c.in_ok-same-in-Unborn.same (c.in_ok-same-in-Unborn.ensures φ p) P L (rw c.in-Unborn.is at A)
 
 pub returns-in_ok-copy-in-Primitive : goal.returns-in_ok-copy-in-Primitive
 returns-in_ok-copy-in-Primitive c = λ φ p P L A.
     primitive_follows φ p c.in-Primitive.primitive c.in_ok-copy-in-Primitive.copy c.in_ok-copy-in-Primitive.ensures P L (rw c.in-Primitive.is at A)
-
-pub returns-in_ok-shared-in-Live : goal.returns-in_ok-shared-in-Live
-returns-in_ok-shared-in-Live c = λ φ p P L A.
-    alive_follows φ p c.in-Live.names c.in_ok-around-in-Live.around c.in-Live.node.value c.in_ok-shared-in-Live.shared.value
-    (c.in_ok-around-in-Live.ensures φ p) (same_follows φ p _ _ c.in_ok-shared-in-Live.ensures.cases) P L (rw c.in-Live.is at A)
-
-pub returns-in_ok-watching-in-Switch : goal.returns-in_ok-watching-in-Switch
-returns-in_ok-watching-in-Switch c = λ φ p P L A.
-    watching_follows φ p c.in-Switch.names c.in_ok-kept-in-Switch.kept c.in-Switch.node.value c.in_ok-watching-in-Switch.watching.value
-    (c.in_ok-kept-in-Switch.ensures φ p) (same_waits φ p _ _ c.in_ok-watching-in-Switch.ensures.cases) P L (rw c.in-Switch.is at A)
-
-pub returns-in_ok-keeping-in-Keeping : goal.returns-in_ok-keeping-in-Keeping
-returns-in_ok-keeping-in-Keeping c = λ φ p P L A.
-    keeping_follows φ p c.in-Keeping.names c.in_ok-outer-in-Keeping.outer c.in-Keeping.node.value c.in_ok-keeping-in-Keeping.keeping.value
-    (c.in_ok-outer-in-Keeping.ensures φ p) (same_keeps φ p _ _ c.in_ok-keeping-in-Keeping.ensures.cases) P L (rw c.in-Keeping.is at A)
-
-pub returns-in_ok-rest-in-Frozen : goal.returns-in_ok-rest-in-Frozen
-returns-in_ok-rest-in-Frozen c = λ φ p P L A.
-    frozen_follows φ p c.in-Frozen.frozen.value c.in_ok-rest-in-Frozen.rest.value c.in_ok-rest-in-Frozen.ensures.cases P L (rw c.in-Frozen.is at A)
-
-pub returns-in_ok-gathering-in-Gathering : goal.returns-in_ok-gathering-in-Gathering
-returns-in_ok-gathering-in-Gathering c = λ φ p P L A.
-    gathering_follows φ p c.in-Gathering.names c.in_ok-beside-in-Gathering.beside c.in-Gathering.node.value c.in_ok-gathering-in-Gathering.gathering.value
-    (c.in_ok-beside-in-Gathering.ensures φ p) (same_gathers φ p _ _ c.in_ok-gathering-in-Gathering.ensures.cases) P L (rw c.in-Gathering.is at A)

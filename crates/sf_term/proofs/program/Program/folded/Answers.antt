@@ -16,7 +16,7 @@ pub returns-in-Ok-clause-ok : goal.returns-in-Ok-clause-ok
 unfolding expressions_of expression_under
 returns-in-Ok-clause-ok c =
     let same = c.in-Ok.ensures.same in
-    adds_with c.args.self.now c.place.new.self _ c.add_expression.result c.in-Ok.id _ (λ (q : PatternId). expressions.Folded c.args.first c.args.folding c.args.second q c.args.body) _ c.args.spot c.in-Ok.ensures.ok.next same
+    adds_with c.args.self.now c.place.new.self _ c.add_expression.result c.in-Ok.pattern _ (λ (q : PatternId). expressions.Folded (record { first = c.args.first; folding = c.args.folding; second = c.args.second; pattern = q; body = c.args.body })) _ c.args.spot c.in-Ok.ensures.ok.next same
     (rw (same.values c.args.first, same.values c.args.second, same.values c.args.body, c.in-Ok.ensures.ok.is) refl)
     c.add_expression.ensures.ok
 

@@ -1,6 +1,0 @@
-use Rattle.std.proofs.Common.{◌≡◌, map, take}
-use Rattle.sf_value.specs.View.{key_of}
-use Rattle.sf_state.proofs.keys.copied.Given as goal
-
-abbrev pub invariant-loop-key : goal.invariant-loop-key
-invariant-loop-key l = map key_of l.all.items ≡ map key_of (take l.key-index l.keys)
