@@ -25,7 +25,7 @@ use Rattle.sf_check.specs.Names.{program_names, parameter_names, Repeats, AreDif
 use Rattle.sf_check.specs.Breaking.{AreTyped, IsFirstBreak}
 use Rattle.sf_check.specs.Refusing.{RefusesNetwork, name_refused, type_refused, endless_refused, main_missing}
 use Rattle.sf_check.proofs.Templates.{template_at}
-use Rattle.sf_check.proofs.Broken.{template_untyped}
+use Rattle.sf_check.proofs.Judged.{template_untyped}
 use Rattle.sf_check.proofs.Settled.{⊥-prop, settled_typed}
 use Rattle.std.proofs.Math.Logic.{∥∥₁_elim, ∥∥₁_map}
 

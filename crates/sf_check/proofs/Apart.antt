@@ -1,21 +1,17 @@
 -- What is said to differ in a term, and that it is refused there.
-use Rattle.std.proofs.Common.{◌≡◌, ◌≢◌, List, ◌∷◌, Bool, true, false, IsTrue, Option, Some, None, Result, Ok, Err, IfErr, inl, inr, refl, sym, ap, ◌∙◌, subst}
+use Rattle.std.proofs.Common.{◌≡◌, ◌≢◌, List, ◌∷◌, IsTrue, Option, Some, None, Result, Ok, Err, IfErr, inl, inr, refl, sym, ap, ◌∙◌, subst}
 use Rattle.std.proofs.lemmas.Option.{same_Some}
 use Rattle.sf_value.specs.Values.{Name, KeyKind, Kind, bool_kind, int_kind, pair_kind, event_kind, table_kind}
 use Rattle.sf_refusal.specs.declared.spot.Spot.{Spot}
-use Rattle.sf_refusal.specs.declared.rule.Rule.TheVariants.{Mismatch}
-use Rattle.sf_refusal.specs.declared.refusal.Breach.{Breach}
-use Rattle.sf_refusal.specs.Refusals.{breach_of}
 use Rattle.sf_func.specs.Registries.{TypesByName}
 use Rattle.sf_operator.specs.Kinds.{found_then, only, same_kind, payload_of}
-use Rattle.sf_operator.specs.Breaches.{KindRefused, AnswersKind}
+use Rattle.sf_operator.specs.Breaches.{AnswersKind}
 use Rattle.sf_expr.specs.Arena.{expression}
 use Rattle.sf_expr.specs.Typing.{Fits, HasType}
 use Rattle.sf_operator.proofs.SameKinds.{same_is, is_same, only_is, found_is, payload_is}
 use Rattle.sf_expr.specs.declared.exprs.ExprId.{ExprId}
 use Rattle.sf_expr.specs.declared.exprs.NameId.{NameId}
 use Rattle.sf_expr.specs.declared.exprs.PatternId.{PatternId}
-use Rattle.sf_expr.specs.declared.exprs.Exprs.{Exprs}
 use Rattle.sf_term.specs.declared.form.Bare.{Bare}
 use Rattle.sf_term.specs.declared.form.Bare.TheVariants as bare
 use Rattle.sf_term.specs.declared.form.WithValue.{WithValue}
@@ -25,21 +21,18 @@ use Rattle.sf_term.specs.declared.form.Timing.TheVariants as timing
 use Rattle.sf_term.specs.declared.form.Accumulation.{Accumulation}
 use Rattle.sf_term.specs.declared.form.Accumulation.TheVariants as accumulation
 use Rattle.sf_term.specs.declared.form.Heading.{Heading}
-use Rattle.sf_term.specs.declared.form.Heading.TheVariants.{LoopPre, Initialized, Replaced, Followed}
 use Rattle.sf_term.specs.declared.node.TermId.{TermId}
-use Rattle.sf_term.specs.declared.node.Primitive.{Primitive}
 use Rattle.sf_term.specs.declared.node.ArgumentsId.{ArgumentsId}
 use Rattle.sf_term.specs.declared.node.Argument.{Argument}
 use Rattle.sf_term.specs.declared.node.Node.{Node}
 use Rattle.sf_term.specs.declared.node.Node.TheVariants as nodes
 use Rattle.sf_term.specs.declared.collection.CollectionId.{CollectionId}
-use Rattle.sf_term.specs.declared.collection.CollExpr.{CollExpr}
 use Rattle.sf_term.specs.declared.program.Program.{Program}
 use Rattle.sf_term.specs.Headers.{Header}
 use Rattle.sf_term.specs.Parameters.{parameters_of}
 use Rattle.sf_term.specs.Arena.{tree, term_node_at, term_spot_at, expressions_of, arguments_under, collection_under, templates_of}
 use Rattle.sf_mean.specs.Contexts.{NameKind, Bindings, Signature, signature_named, Context, names_of_values, context_of, inside_pattern}
-use Rattle.sf_mean.specs.Typing.{bare_kind, value_kind, takes_input, selected_kind, accumulated_argument, accumulated_kind, Takes}
+use Rattle.sf_mean.specs.Typing.{bare_kind, value_kind, takes_input, accumulated_argument, accumulated_kind, Takes}
 use Rattle.sf_differ.specs.declared.difference.Wanted.{Wanted}
 use Rattle.sf_differ.specs.declared.difference.Wanted.TheVariants.{Exactly, Event}
 use Rattle.sf_differ.specs.declared.difference.Difference.{Difference}
@@ -48,13 +41,9 @@ use Rattle.sf_differ.specs.Differences.{AreWanted, WantsAny, IsOther, DiffersAt,
 use Rattle.sf_differ.specs.Wanting.{IsMade}
 use Rattle.sf_differ.proofs.Told.{told_as, differs_from}
 use Rattle.sf_differ.proofs.Placed.{made_by, only_same, only_self, wants_as, exactly_first, event_wants}
-use Rattle.sf_differ.proofs.Refused.{none_stands, expression_refused, function_refused as refused_function}
-use Rattle.sf_check.specs.Breaking as breaking
-use Rattle.sf_check.specs.Breaking.{pattern_in, name_in, BindsInside, BareRefused, PrimitiveBreaks, BodyBreaks, EditBreaks, ArgumentsLeft, CallBreaks, FormBreaks, Reaches, call_argument, ReachesMembers, argument_members, TermBreaks, CollectionBreaks, TemplateBreaks}
-use Rattle.sf_check.specs.Refusing.{RefusesNetwork, type_refused}
+use Rattle.sf_check.specs.Breaking.{pattern_in, name_in, BindsInside, ArgumentsLeft, Reaches, call_argument, ReachesMembers, argument_members}
 use Rattle.sf_check.proofs.Terms.{IsAmongOutputs}
-use Rattle.sf_check.proofs.Unlike.{other_than, call_apart}
-use Rattle.sf_check.specs.Differing.{bare_wants, value_wants, input_wants, timed_wants, start_wants, accumulated_wants, made_wants, PrimitiveDiffers, bare_differs, value_differs_within, value_differs, input_differs, timed_differs_within, timed_differs, selected_differs, start_differs_within, accumulated_differs, accumulator_differs, start_differs, made_differs, function_differs, BodyDiffers, body_pattern, body_output, BodyStops, EditDiffers, edit_pattern, edit_tables, EditUnfit, CallDiffers, argument_within, FormDiffers, primitive_differs, process_input, call_itself, both_inputs, side_inputs, head_within, fed_output, initial_output, followed_output, replaced_input, transform_within, transformed_input, source_output, event_beside, switch_body_differs, observer_output, keeping_body_differs, their_observer_output, released_body_differs, event_beside_members, members_edit_differs, TermDiffers, term_itself, term_within, term_members, CollectionDiffers, used_inputs, added_members, added_key_within, member_within, added_key, member_output, dropped_members, dropped_key_within, dropped_key, kept_members, kept_within, kept_truth, choice_within, one_members, other_members, choice_truth, choice_tables, ArgumentDiffersWithin, within_value, within_process, within_members, TemplateDiffers, template_within, header_output, NetworkDiffers}
+use Rattle.sf_check.specs.Differing.{bare_wants, value_wants, input_wants, timed_wants, start_wants, accumulated_wants, made_wants, BodyDiffers, BodyStops, EditDiffers, EditUnfit, CallDiffers, argument_within, FormDiffers, call_itself, initial_output, followed_output, TermDiffers, term_itself, term_within, term_members, CollectionDiffers, ArgumentDiffersWithin, within_value, within_process, within_members, TemplateDiffers, template_within, header_output}
 
 -- ## What primitives want
 
@@ -251,116 +240,3 @@ module _ (fs : TypesByName) (p : Program) (h : Header) {Γ : Context} {t : TermI
       let E = context_of fs (parameters_of h.parameters) (templates_of p) in
       header_output (subst (λ (a : Kind). Takes E (tree p h.body) a b) from (subst (λ (t : TermId). Takes E (tree p t) a b) is (subst (λ (Γ : Context). Takes Γ (tree p t) a b) under T)))
       (subst (λ (s : Spot). IsOther (Some (Exactly h.output)) s b d) (at ∙ ap (term_spot_at p) is) k)
-
--- ## What differs is refused
-
-kind_apart : (o : Option Kind) {s q : Spot} → (IsMade o → ⊥) → q ≡ s → KindRefused o s (breach_of Mismatch q)
-kind_apart None none at = ap (breach_of Mismatch) at
-kind_apart (Some t) none at = absurd (none (made_by refl))
-
-not_true : (b : Bool) → (IsTrue b → ⊥) → b ≡ false
-not_true true h = absurd (h refl)
-not_true false h = refl
-
-bare_apart : (k : Bare) (a : Kind) (s : Spot) (r : Breach) → k ≢ bare.Pre → KindRefused (bare_kind k a) s r → BareRefused k a s r
-bare_apart bare.Identity a s r other h = h
-bare_apart bare.LocalTime a s r other h = h
-bare_apart bare.Integral a s r other h = h
-bare_apart bare.Edge a s r other h = h
-bare_apart bare.NotYet a s r other h = h
-bare_apart bare.Once a s r other h = h
-bare_apart bare.Count a s r other h = h
-bare_apart bare.Pre a s r other h = absurd (other refl)
-
-primitive_apart : {x : Exprs} {Γ : Context} {s : Spot} {q : Primitive} {a : Kind} {d : Difference} → PrimitiveDiffers x Γ s q a d → PrimitiveBreaks x Γ s q a (breach_of Mismatch d.spot)
-primitive_apart {s = s} {a = a} (bare_differs {k = k} other h) = breaking.bare_refused (bare_apart k a s _ other (kind_apart (bare_kind k a) (λ m. none_stands h m) h.at))
-primitive_apart {x = x} (value_differs_within h) = breaking.value_refused (expression_refused x h)
-primitive_apart {a = a} (value_differs {k = k} {t = t} typed h) = breaking.given_refused typed (kind_apart (value_kind k t a) (λ m. none_stands h (a, m)) h.at)
-primitive_apart {a = a} (input_differs {k = k} {t = t} typed h) = breaking.given_refused typed (kind_apart (value_kind k t a) (λ m. none_stands h m) h.at)
-primitive_apart {x = x} (timed_differs_within h) = breaking.timed_value_refused (expression_refused x h)
-primitive_apart {x = x} {Γ = Γ} {s = s} {q = q} {a = a} (timed_differs {k = k} {t = t} typed h) =
-    subst (λ r. PrimitiveBreaks x Γ s q a (breach_of Mismatch r)) (sym h.at) (breaking.input_differs typed (not_true (takes_input k t a) (λ m. none_stands h m)))
-primitive_apart {a = a} (selected_differs h) = breaking.selected_refused (kind_apart (selected_kind a) (λ m. none_stands h m) h.at)
-primitive_apart {x = x} (start_differs_within h) = breaking.start_value_refused (expression_refused x h)
-primitive_apart {a = a} (accumulated_differs {k = k} {t = t} typed h) = breaking.accumulation_breaks typed (breaking.argument_refused (kind_apart (accumulated_argument k t a) (λ m. none_stands h m) h.at))
-primitive_apart {x = x} (accumulator_differs typed e f h) = breaking.accumulation_breaks typed (breaking.accumulator_refused e f (refused_function x h))
-primitive_apart {a = a} (start_differs {k = k} {t = t} {u = u} typed e F h) = breaking.accumulation_breaks typed (breaking.made_refused e F (kind_apart (accumulated_kind k t a u) (λ m. none_stands h (u, m)) h.at))
-primitive_apart {a = a} (made_differs {k = k} {t = t} {u = u} typed e F h) = breaking.accumulation_breaks typed (breaking.made_refused e F (kind_apart (accumulated_kind k t a u) (λ m. none_stands h m) h.at))
-primitive_apart {x = x} (function_differs h) = breaking.function_refused (refused_function x h)
-
-module _ {p : Program} where
-  body_apart : {Δ : Context} {s : Spot} {q : PatternId} {u : TermId} {a b c : Kind} {d : Difference} → BodyDiffers p Δ s q u a b c d → BodyBreaks p Δ s q u a b c (breach_of Mismatch d.spot)
-  body_apart (body_pattern h) = breaking.pattern_refused h.refused
-  body_apart {Δ} {s} {q} {u} {a} {b} {c} (body_output binds T h) = subst (λ r. BodyBreaks p Δ s q u a b c (breach_of Mismatch r)) (sym h.at) (breaking.body_differs binds T (other_than h))
-
-  edit_apart : {Δ : Context} {s : Spot} {q : PatternId} {u : CollectionId} {k : KeyKind} {a b c : Kind} {d : Difference} → EditDiffers p Δ s q u k a b c d → EditBreaks p Δ s q u k a b c (breach_of Mismatch d.spot)
-  edit_apart (edit_pattern h) = breaking.edit_pattern_refused h.refused
-  edit_apart {Δ} {s} {q} {u} {k} {a} {b} {c} (edit_tables binds C h) = subst (λ r. EditBreaks p Δ s q u k a b c (breach_of Mismatch r)) (sym h.at) (breaking.edit_differs binds C (other_than h))
-
-  module _ {Γ : Context} {s : Spot} where
-    form_apart : {n : Node} {a : Kind} {d : Difference} → FormDiffers p Γ s n a d → FormBreaks p Γ s n a (breach_of Mismatch d.spot)
-    form_apart h = each h
-      where
-        at_spot : {m : Node} {b : Kind} {q : Spot} → q ≡ s → FormBreaks p Γ s m b (breach_of Mismatch s) → FormBreaks p Γ s m b (breach_of Mismatch q)
-        at_spot {m} {b} at k = subst (λ r. FormBreaks p Γ s m b (breach_of Mismatch r)) (sym at) k
-
-        each : {n : Node} {a : Kind} {d : Difference} → FormDiffers p Γ s n a d → FormBreaks p Γ s n a (breach_of Mismatch d.spot)
-        each (primitive_differs h) = breaking.primitive_breaks (primitive_apart h)
-        each (process_input named h) = at_spot h.at (breaking.process_differs named (other_than h))
-        each {d = d} (call_itself {vs = vs} {a = a} named h) = breaking.call_breaks (subst (λ o. CallBreaks p Γ s (arguments_under p vs) a o (breach_of Mismatch d.spot)) (sym named) (call_apart h))
-        each (both_inputs h) = at_spot h.at (breaking.parallel_input (λ b c e. other_than h (b, c, e)))
-        each (side_inputs h) = at_spot h.at (breaking.side_input (λ b c e. other_than h (b, c, e)))
-        each (head_within h) = breaking.start_refused (expression_refused (expressions_of p) h)
-        each (fed_output {a = a} typed T h) = at_spot h.at (breaking.head_differs {h = LoopPre} {a = a} typed T (λ t e. other_than h (t, e)))
-        each (initial_output {a = a} typed T h) = at_spot h.at (breaking.head_differs {h = Initialized} {a = a} typed T (other_than h))
-        each (followed_output {a = a} typed T h) = at_spot h.at (breaking.head_differs {h = Followed} {a = a} typed T (other_than h))
-        each (replaced_input {a = a} typed T h) = at_spot h.at (breaking.head_differs {h = Replaced} {a = a} typed T (other_than h))
-        each (transform_within h) = breaking.transform_refused (refused_function (expressions_of p) h)
-        each (transformed_input F T h) = at_spot h.at (breaking.transform_differs F T (other_than h))
-        each (source_output T h) = at_spot h.at (breaking.source_differs T (λ b c e. other_than h (b, c, e)))
-        each (event_beside h) = at_spot h.at (breaking.recurring_input (λ b c e. other_than h (b, c, e)))
-        each (switch_body_differs w h) = breaking.switch_body_breaks w (body_apart h)
-        each (observer_output F O h) = at_spot h.at (breaking.observer_differs F O (λ c e. other_than h (c, e)))
-        each (keeping_body_differs F O h) = breaking.keeping_body_breaks F O (body_apart h)
-        each (their_observer_output C O h) = at_spot h.at (breaking.their_observer_differs C O (λ c e. other_than h (c, e)))
-        each (released_body_differs C O h) = breaking.releasing_body_breaks C O (body_apart h)
-        each (event_beside_members h) = at_spot h.at (breaking.editing_input (λ b c e. other_than h (b, c, e)))
-        each (members_edit_differs C h) = breaking.edit_breaks C (edit_apart h)
-
-of_collection : {p : Program} {Γ : Context} {c : CollExpr} {a : Kind} {q s : Spot} → q ≡ s → CollectionBreaks p Γ c a (breach_of Mismatch s) → CollectionBreaks p Γ c a (breach_of Mismatch q)
-of_collection {p} {Γ} {c} {a} at k = subst (λ r. CollectionBreaks p Γ c a (breach_of Mismatch r)) (sym at) k
-
-mutual
-  term_apart : {p : Program} {Γ : Context} {i : TermId} {a : Kind} {d : Difference} → TermDiffers p Γ i a d → TermBreaks p Γ i a (breach_of Mismatch d.spot)
-  term_apart (term_itself h) = breaking.itself (form_apart h)
-  term_apart (term_within reached h) = breaking.within reached (term_apart h)
-  term_apart (term_members reached h) = breaking.in_members reached (collection_apart h)
-
-  collection_apart : {p : Program} {Γ : Context} {c : CollExpr} {a : Kind} {d : Difference} → CollectionDiffers p Γ c a d → CollectionBreaks p Γ c a (breach_of Mismatch d.spot)
-  collection_apart (used_inputs named h) = of_collection h.at (breaking.collection_differs named (other_than h))
-  collection_apart (added_members h) = breaking.before_added (collection_apart h)
-  collection_apart {p} (added_key_within C h) = breaking.added_key_refused C (expression_refused (expressions_of p) h)
-  collection_apart (member_within C I h) = breaking.member_breaks C I (term_apart h)
-  collection_apart (added_key C I T h) = of_collection h.at (breaking.member_differs C I T (λ same. absurd (other_than h same)))
-  collection_apart (member_output C I T h) = of_collection h.at (breaking.member_differs C I T (λ same. other_than h))
-  collection_apart (dropped_members h) = breaking.before_dropped (collection_apart h)
-  collection_apart {p} (dropped_key_within C h) = breaking.dropped_key_refused C (expression_refused (expressions_of p) h)
-  collection_apart (dropped_key C I h) = of_collection h.at (breaking.dropped_key_differs C I (other_than h))
-  collection_apart (kept_members h) = breaking.before_kept (collection_apart h)
-  collection_apart {p} (kept_within C h) = breaking.kept_refused C (refused_function (expressions_of p) h)
-  collection_apart (kept_truth C F h) = of_collection h.at (breaking.kept_differs C F (other_than h))
-  collection_apart {p} (choice_within h) = breaking.condition_refused (expression_refused (expressions_of p) h)
-  collection_apart (one_members I h) = breaking.one_breaks I (collection_apart h)
-  collection_apart (other_members I C h) = breaking.other_breaks I C (collection_apart h)
-  collection_apart (choice_truth I C D h) = of_collection h.at (breaking.chosen_differs I C D (λ same. absurd (other_than h same)))
-  collection_apart (choice_tables I C D h) = of_collection h.at (breaking.chosen_differs I C D (λ same. other_than h))
-
-module _ {p : Program} where
-  module _ {fs : TypesByName} where
-    template_apart : {h : Header} {d : Difference} → TemplateDiffers fs p h d → TemplateBreaks fs p h (breach_of Mismatch d.spot)
-    template_apart (template_within k) = breaking.breaks_within (term_apart k)
-    template_apart {h} (header_output T k) = subst (λ r. TemplateBreaks fs p h (breach_of Mismatch r)) (sym k.at) (breaking.breaks_header T (other_than k))
-
-    -- the network is refused there
-    pub network_apart : {d : Difference} → NetworkDiffers fs p d → RefusesNetwork fs p (breach_of Mismatch d.spot)
-    network_apart h = type_refused h.names (record { place = h.place; header = h.header; at = h.at; typed = h.typed; broken = template_apart h.differs })

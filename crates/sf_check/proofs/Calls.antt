@@ -1,109 +1,36 @@
--- What is answered for calls.
-use Rattle.std.proofs.Common.{◌≡◌, ◌≢◌, ◌↔◌, ◌⊎◌, inl, inr, List, [], ◌∷◌, length, Bool, true, false, ◌&&◌, IsTrue, Option, Some, None, IfNone, refl, sym, subst, ap, ◌∙◌, Result, Ok, Err, arith, IsErrAnd}
+-- The arguments of calls, one after another.
+use Rattle.std.proofs.Common.{◌≡◌, ◌≢◌, ℕ, arith, IfNone, ◌⊎◌, inl, inr, Bool, true, false, ◌&&◌, [], ◌∷◌, List, Option, None, Some, length, Result, Ok, Err, refl, sym, ap, subst, ◌∙◌}
+use Rattle.std.specs.Prelude.{nat_eq}
+use Rattle.std.proofs.lemmas.Bool.Decides.{nat_tests}
 use Rattle.std.proofs.lemmas.List.{length-map}
 use mathlib.Core.Path.{subst₂}
-use Rattle.sf_value.specs.Values.{Name, KeyKind, Kind, table_kind}
+use Rattle.sf_value.specs.Values.{Name, Kind}
 use Rattle.sf_refusal.specs.declared.spot.Spot.{Spot}
 use Rattle.sf_refusal.specs.declared.rule.Rule.TheVariants.{UnknownName, Arity, Mismatch}
 use Rattle.sf_refusal.specs.declared.refusal.Breach.{Breach}
 use Rattle.sf_refusal.specs.declared.refusal.Refusal.{Refusal}
-use Rattle.sf_refusal.specs.Refusals.{breach_of, broken, OrMemory}
-use Rattle.sf_refusal.proofs.Explained.{or_memory, breaks_at}
-use Rattle.sf_expr.specs.declared.exprs.ExprId.{ExprId}
+use Rattle.sf_refusal.specs.declared.refusal.Refusal.TheVariants.{Broken, Memory}
+use Rattle.sf_refusal.specs.Refusals.{broken}
+use Rattle.sf_operator.specs.Kinds.{same_kind}
 use Rattle.sf_expr.specs.declared.exprs.NameId.{NameId}
-use Rattle.sf_expr.specs.Arena.{expression}
-use Rattle.sf_expr.specs.Refusals.{Refused}
-use Rattle.sf_expr.specs.Typing.{Fits, HasType}
-use Rattle.sf_term.specs.declared.node.TermId.{TermId}
+use Rattle.sf_expr.specs.Judging.{◌>>=◌, Stops}
+use Rattle.sf_expr.proofs.Judged.{stops_then, goes_then, stops_broken, fits_at}
 use Rattle.sf_term.specs.declared.node.ArgumentsId.{ArgumentsId}
+use Rattle.sf_term.specs.declared.node.TermId.{TermId}
+use Rattle.sf_term.specs.declared.node.Node.TheVariants as nodes
+use Rattle.sf_term.specs.Parameters.{PlacedParameter, binding_of, parameters_of}
+use Rattle.sf_expr.specs.Typing.{Fits, HasType}
 use Rattle.sf_term.specs.declared.node.Argument.{Argument}
 use Rattle.sf_term.specs.declared.node.Argument.TheVariants as arguments
-use Rattle.sf_term.specs.declared.node.Node.TheVariants as nodes
-use Rattle.sf_term.specs.declared.collection.CollectionId.{CollectionId}
 use Rattle.sf_term.specs.declared.program.Program.{Program}
-use Rattle.sf_term.specs.Parameters.{PlacedParameter, binding_of, parameters_of}
-use Rattle.sf_term.specs.Arena.{tree, term_node_at, term_spot_at, expressions_of, arguments_under, arguments_of, collection_under, collection_at}
+use Rattle.sf_term.specs.Arena.{arguments_of, arguments_under, term_spot_at}
 use Rattle.sf_term.proofs.Kept.{expression_in}
 use Rattle.sf_mean.specs.Contexts.{NameKind, value, process, collection, Bindings, Signature, signature_named, Context, names_of_values}
-use Rattle.sf_mean.specs.Typing.{Takes, FormTakes, Collects, call_takes, ArgumentsFit, no_argument_fits, value_fits, process_fits, collection_fits}
-use Rattle.sf_check.specs.Breaking.{name_in, ArgumentKeeps, value_keeps, process_keeps, collection_keeps, ArgumentsLeft, all_left, ArgumentBreaks, argument_refused, process_for_value, process_for_collection, collection_for_value, collection_for_process, CallBreaks, no_template, other_number, argument_breaks, call_differs, call_breaks, Reaches, call_argument, ReachesMembers, argument_members, TermBreaks, within, in_members, CollectionBreaks}
-use Rattle.sf_check.specs.Answering.{ArgumentFits, ArgumentStops, stops_itself, stops_within, stops_in_members, AnswersArgument}
-use Rattle.sf_check.proofs.Made.{made}
-use Rattle.sf_check.proofs.Types.{expression_one, takes_one, members_one, keys_of_table, values_of_table}
-use Rattle.sf_check.proofs.Arguments.{left_fits, rest_length, one_less}
-use Rattle.sf_check.proofs.Terms.{itself_refused, breaks_itself, form_ok}
-
--- what isn't there is absent
-pub none_absent : {X : Type 0} {P : Type 0} {o : Option X} → ((x : X) → o ≢ Some x) → IfNone o P → P
-none_absent {o = o} away absent = each o away absent
-  where
-    each : {X : Type 0} {P : Type 0} (o : Option X) → ((x : X) → o ≢ Some x) → IfNone o P → P
-    each None away absent = absent
-    each (Some x) away absent = absurd (away x refl)
-
--- ## One argument
-
-module _ (p : Program) (Γ : Context) (s : Spot) (v : Argument) (k : NameKind) where
-  -- what a `?` returns
-  pub err_argument : (r : Result Bool Refusal) (e : Refusal) → IsErrAnd r (λ y. y ≡ e) → OrMemory (ArgumentStops p Γ s v k) e → AnswersArgument p Γ s v k r
-  err_argument (Ok b) e h stops = absurd h
-  err_argument (Err y) e h stops = subst (OrMemory (ArgumentStops p Γ s v k)) (sym h) stops
-
-  pub value_refused : (i : ExprId) → v ≡ arguments.Value i → (e : Refusal) → OrMemory (Refused (expressions_of p) (names_of_values Γ) i) e → OrMemory (ArgumentStops p Γ s v k) e
-  value_refused i is e h = or_memory (λ r h. stops_itself (subst (λ v. ArgumentBreaks p Γ s v k r) (sym is) (argument_refused h))) h
-
-  pub value_answers : (i : ExprId) → v ≡ arguments.Value i → (t : Kind) (fits : Bool) → HasType (names_of_values Γ) (expression (expressions_of p) i) t → IsTrue fits ↔ (k ≡ value t) → AnswersArgument p Γ s v k (Ok fits)
-  value_answers i is t fits h same = subst (λ v. AnswersArgument p Γ s v k (Ok fits)) (sym is) (value_keeps h, each k same)
-    where
-      each : (k : NameKind) → IsTrue fits ↔ (k ≡ value t) → IsTrue fits ↔ ArgumentFits p Γ (arguments.Value i) k
-      each (value u) same = (λ z. subst (ArgumentFits p Γ (arguments.Value i)) (sym (same.0 z)) h, λ other. same.1 (ap value (expression_one other h)))
-      each (process a b) same = (λ z. let e = same.0 z in absurd cc, λ none. absurd none)
-      each (collection c a b) same = (λ z. let e = same.0 z in absurd cc, λ none. absurd none)
-
-  module _ (t : TermId) (is : v ≡ arguments.Process t) where
-    pub misplaced : (u : Kind) → k ≡ value u → (e : Refusal) → e ≡ broken Mismatch s → OrMemory (ArgumentStops p Γ s v k) e
-    misplaced u for e wrong = breaks_at Mismatch wrong refl (stops_itself (subst₂ (λ v k. ArgumentBreaks p Γ s v k (breach_of Mismatch s)) (sym is) (sym for) process_for_value))
-
-    pub misplaced_process : (l : KeyKind) (a b : Kind) → k ≡ collection l a b → (e : Refusal) → e ≡ broken Mismatch s → OrMemory (ArgumentStops p Γ s v k) e
-    misplaced_process l a b for e wrong = breaks_at Mismatch wrong refl (stops_itself (subst₂ (λ v k. ArgumentBreaks p Γ s v k (breach_of Mismatch s)) (sym is) (sym for) process_for_collection))
-
-    module _ (a b : Kind) (for : k ≡ process a b) where
-      pub term_stops : (e : Refusal) → OrMemory (TermBreaks p Γ t a) e → OrMemory (ArgumentStops p Γ s v k) e
-      term_stops e h = or_memory (λ r h. subst₂ (λ v k. ArgumentStops p Γ s v k r) (sym is) (sym for) (stops_within h)) h
-
-      pub process_answers : (c : Kind) (fits : Bool) → Takes Γ (tree p t) a c → IsTrue fits ↔ (c ≡ b) → AnswersArgument p Γ s v k (Ok fits)
-      process_answers c fits h same =
-          let answer : AnswersArgument p Γ s (arguments.Process t) (process a b) (Ok fits) =
-          (process_keeps h, (λ z. subst (Takes Γ (tree p t) a) (same.0 z) h, λ other. same.1 (takes_one h other))) in
-          subst₂ (λ v k. AnswersArgument p Γ s v k (Ok fits)) (sym is) (sym for) answer
-
-  module _ (i : CollectionId) (is : v ≡ arguments.Collection i) where
-    pub misplaced_members : (u : Kind) → k ≡ value u → (e : Refusal) → e ≡ broken Mismatch s → OrMemory (ArgumentStops p Γ s v k) e
-    misplaced_members u for e wrong = breaks_at Mismatch wrong refl (stops_itself (subst₂ (λ v k. ArgumentBreaks p Γ s v k (breach_of Mismatch s)) (sym is) (sym for) collection_for_value))
-
-    pub members_for_process : (a b : Kind) → k ≡ process a b → (e : Refusal) → e ≡ broken Mismatch s → OrMemory (ArgumentStops p Γ s v k) e
-    members_for_process a b for e wrong = breaks_at Mismatch wrong refl (stops_itself (subst₂ (λ v k. ArgumentBreaks p Γ s v k (breach_of Mismatch s)) (sym is) (sym for) collection_for_process))
-
-    module _ (l : KeyKind) (a b : Kind) (for : k ≡ collection l a b) where
-      pub members_stop : (e : Refusal) → OrMemory (CollectionBreaks p Γ (collection_under p i) a) e → OrMemory (ArgumentStops p Γ s v k) e
-      members_stop e h = or_memory (λ r h. subst₂ (λ v k. ArgumentStops p Γ s v k r) (sym is) (sym for) (stops_in_members h)) h
-
-      pub members_answer : (m : KeyKind) (c : Kind) (fits : Bool) → Collects Γ (collection_at p i) m a c → IsTrue fits ↔ (table_kind m c ≡ table_kind l b) → AnswersArgument p Γ s v k (Ok fits)
-      members_answer m c fits h same =
-          let to : IsTrue fits → Collects Γ (collection_at p i) l a b = λ z. subst₂ (λ l b. Collects Γ (collection_at p i) l a b) (keys_of_table (same.0 z)) (values_of_table (same.0 z)) h in
-          let answer : AnswersArgument p Γ s (arguments.Collection i) (collection l a b) (Ok fits) = (collection_keeps h, (to, λ other. same.1 (members_one h other))) in
-          subst₂ (λ v k. AnswersArgument p Γ s v k (Ok fits)) (sym is) (sym for) answer
-
-pub answer_for : (p : Program) (Γ : Context) (s : Spot) (v : Argument) {k l : NameKind} (r : Result Bool Refusal) → k ≡ l → AnswersArgument p Γ s v k r → AnswersArgument p Γ s v l r
-answer_for p Γ s v r same h = subst (λ k. AnswersArgument p Γ s v k r) same h
-
--- ## All arguments
-
--- Of arguments, these are left, and it is known whether those before them fit.
-pub record ArgumentsSo (p : Program) (Γ : Context) (vs : List Argument) (qs : Bindings) (ws : List Argument) (rs : Bindings) (fit : Bool) : Type 0 where
-  pub left : ArgumentsLeft p Γ vs qs ws rs
-  pub fits : fit ≡ true → ArgumentsFit Γ (arguments_of p ws) rs → ArgumentsFit Γ (arguments_of p vs) qs
-  pub differ : fit ≡ false → ArgumentsFit Γ (arguments_of p vs) qs → ⊥
+use Rattle.sf_mean.specs.Typing.{ArgumentsFit, value_fits, process_fits, collection_fits}
+use Rattle.sf_check.specs.Standing.{name_in}
+use Rattle.sf_check.specs.Judging.{found_at, argument_judged, arguments_judged, term_judged, judged_as}
+use Rattle.sf_check.specs.Answering.{ArgumentFits}
+use Rattle.sf_check.proofs.Judging.{go, holds, fails}
 
 module _ (p : Program) {Γ : Context} where
   pub fits_before : (v : Argument) (x : Name) (k : NameKind) (ws : List Argument) {rs : Bindings} → ArgumentFits p Γ v k → ArgumentsFit Γ (arguments_of p ws) rs → ArgumentsFit Γ (arguments_of p (v ∷ ws)) ((x, k) ∷ rs)
@@ -128,64 +55,94 @@ module _ (p : Program) {Γ : Context} where
   first_fits (arguments.Collection i) x (process a b) ws fit = elim fit [ ]
   first_fits (arguments.Collection i) x (collection k a b) ws (collection_fits h rest) = h
 
-module _ {p : Program} {Γ : Context} where
-  pub first_so : {vs : List Argument} {qs : Bindings} → length vs ≡ length qs → ArgumentsSo p Γ vs qs vs qs true
-  first_so many = record { left = all_left many; fits = λ h fit. fit; differ = λ h. absurd cc }
+pub rest_fits : (p : Program) {Γ : Context} (v : Argument) (vs : List Argument) {x : Name} {k : NameKind} {qs : Bindings} → ArgumentsFit Γ (arguments_of p (v ∷ vs)) ((x, k) ∷ qs) → ArgumentsFit Γ (arguments_of p vs) qs
+rest_fits p (arguments.Value e) vs (value_fits h rest) = rest
+rest_fits p (arguments.Process t) vs (process_fits h rest) = rest
+rest_fits p (arguments.Collection i) vs (collection_fits h rest) = rest
 
-  pub all_so : {vs ws : List Argument} {ps us : List PlacedParameter} → ws ≡ vs → us ≡ ps → length vs ≡ length ps → ArgumentsSo p Γ vs (parameters_of ps) ws (parameters_of us) true
-  all_so {vs = vs} {ps = ps} e f many =
-      let count = length-map ps binding_of in
-      subst₂ (λ ws us. ArgumentsSo p Γ vs (parameters_of ps) ws (parameters_of us) true) (sym e) (sym f) (first_so (many ∙ sym count))
+-- ## One after another
 
-  pub so_end : {vs ws : List Argument} {qs : Bindings} {us : List PlacedParameter} {fit : Bool} → ArgumentsSo p Γ vs qs ws (parameters_of us) fit → (ws ≡ []) ⊎ (us ≡ []) → ArgumentsSo p Γ vs qs [] [] fit
-  so_end {ws = []} {us = []} so e = so
-  so_end {ws = []} {us = u ∷ us} so e = absurd (omega (arith, rest_length so.left))
-  so_end {ws = v ∷ ws} {us = []} so e = absurd (omega (arith, rest_length so.left))
+-- Of arguments, these are left with their parameters, and whether those before them fit is known.
+pub record SoFar (p : Program) (s : Spot) (Γ : Context) (vs : List Argument) (qs : Bindings) (ws : List Argument) (rs : Bindings) (fit : Bool) : Type 0 where
+  pub all : arguments_judged p (term_judged p) s Γ vs qs ≡ (arguments_judged p (term_judged p) s Γ ws rs >>= λ b. Ok (fit && b))
+
+again : (r : Result Bool Breach) → r ≡ (r >>= λ b. Ok (true && b))
+again (Ok b) = refl
+again (Err e) = refl
+
+later : (fit b : Bool) (r : Result Bool Breach) → ((r >>= λ c. Ok (b && c)) >>= λ c. Ok (fit && c)) ≡ (r >>= λ c. Ok ((fit && b) && c))
+later true b (Ok c) = refl
+later false b (Ok c) = refl
+later fit b (Err e) = refl
+
+last : (fit : Bool) → fit && true ≡ fit
+last true = refl
+last false = refl
+
+module _ {p : Program} {s : Spot} {Γ : Context} where
+  pub so_first : {vs ws : List Argument} {ps us : List PlacedParameter} → ws ≡ vs → us ≡ ps → SoFar p s Γ vs (parameters_of ps) ws (parameters_of us) true
+  so_first {vs} {ps = ps} e f = subst₂ (λ ws us. SoFar p s Γ vs (parameters_of ps) ws (parameters_of us) true) (sym e) (sym f) (record { all = again (arguments_judged p (term_judged p) s Γ vs (parameters_of ps)) })
+
+  so_now : {vs ws rest : List Argument} {qs : Bindings} {us more : List PlacedParameter} {v : Argument} {u : PlacedParameter} {fit : Bool}
+      → SoFar p s Γ vs qs ws (parameters_of us) fit → ws ≡ v ∷ rest → us ≡ u ∷ more → SoFar p s Γ vs qs (v ∷ rest) ((u.name, u.kind) ∷ parameters_of more) fit
+  so_now {vs} {qs = qs} {fit = fit} so e f = subst₂ (λ ws us. SoFar p s Γ vs qs ws (parameters_of us) fit) e f so
+
+  pub so_next : {vs ws rest : List Argument} {qs : Bindings} {us more : List PlacedParameter} {v : Argument} {u : PlacedParameter} (fit b : Bool)
+      → SoFar p s Γ vs qs ws (parameters_of us) fit → ws ≡ v ∷ rest → us ≡ u ∷ more → argument_judged p (term_judged p) s Γ v u.kind ≡ Ok b → SoFar p s Γ vs qs rest (parameters_of more) (fit && b)
+  so_next {rest = rest} {more = more} fit b so e f h = record {
+    all = (so_now so e f).all ∙ ap (λ (r : Result Bool Breach). (r >>= λ f. arguments_judged p (term_judged p) s Γ rest (parameters_of more) >>= λ g. Ok (f && g)) >>= λ c. Ok (fit && c)) h ∙ later fit b (arguments_judged p (term_judged p) s Γ rest (parameters_of more));
+  }
+
+  pub so_stops : {vs ws rest : List Argument} {qs : Bindings} {us more : List PlacedParameter} {v : Argument} {u : PlacedParameter} {fit : Bool} (r : Refusal)
+      → SoFar p s Γ vs qs ws (parameters_of us) fit → ws ≡ v ∷ rest → us ≡ u ∷ more → Stops r (argument_judged p (term_judged p) s Γ v u.kind) → Stops r (arguments_judged p (term_judged p) s Γ vs qs)
+  so_stops {rest = rest} {more = more} {fit = fit} (Broken b) so e f h =
+      (so_now so e f).all ∙ ap (λ (r : Result Bool Breach). (r >>= λ f. arguments_judged p (term_judged p) s Γ rest (parameters_of more) >>= λ g. Ok (f && g)) >>= λ c. Ok (fit && c)) h
+  so_stops Memory so e f h = tt
+
+  pub so_end : {vs ws : List Argument} {qs : Bindings} {us : List PlacedParameter} {fit : Bool} → SoFar p s Γ vs qs ws (parameters_of us) fit → (ws ≡ []) ⊎ (us ≡ []) → arguments_judged p (term_judged p) s Γ vs qs ≡ Ok fit
+  so_end {ws = []} {fit = fit} so e = so.all ∙ ap Ok (last fit)
+  so_end {ws = v ∷ ws} {us = []} {fit = fit} so e = so.all ∙ ap Ok (last fit)
   so_end {ws = v ∷ ws} {us = u ∷ us} so (inl e) = absurd cc
   so_end {ws = v ∷ ws} {us = u ∷ us} so (inr e) = absurd cc
 
-  pub so_next : {vs ws ws' : List Argument} {qs : Bindings} {us us' : List PlacedParameter} {v : Argument} {u : PlacedParameter} {fit : Bool}
-      → ArgumentsSo p Γ vs qs ws (parameters_of us) fit → ws ≡ v ∷ ws' → us ≡ u ∷ us' → ArgumentsSo p Γ vs qs (v ∷ ws') ((u.name, u.kind) ∷ parameters_of us') fit
-  so_next {vs = vs} {qs = qs} {fit = fit} so e f = subst₂ (λ ws us. ArgumentsSo p Γ vs qs ws (parameters_of us) fit) e f so
-
-  pub next_so : {vs ws : List Argument} {qs rs : Bindings} {v : Argument} {x : Name} {k : NameKind} (fit b : Bool)
-      → ArgumentsSo p Γ vs qs (v ∷ ws) ((x, k) ∷ rs) fit → ArgumentKeeps p Γ v k → IsTrue b ↔ ArgumentFits p Γ v k → ArgumentsSo p Γ vs qs ws rs (fit && b)
-  next_so {ws = ws} {v = v} {x = x} {k = k} true true so keeps is = record { left = one_less so.left keeps; fits = λ h rest. so.fits refl (fits_before p v x k ws (is.0 refl) rest); differ = λ h. absurd cc }
-  next_so {ws = ws} {v = v} {x = x} {k = k} true false so keeps is = record { left = one_less so.left keeps; fits = λ h. absurd cc; differ = λ h all. let wrong = is.1 (first_fits p v x k ws (left_fits so.left all)) in absurd cc }
-  next_so false b so keeps is = record { left = one_less so.left keeps; fits = λ h. absurd cc; differ = λ h. so.differ refl }
-
 -- ## A call
 
-module _ (p : Program) (Γ : Context) (t : TermId) (a : Kind) (s : Spot) (at : s ≡ term_spot_at p t) (k : NameId) (vs : ArgumentsId) (is : term_node_at p t ≡ nodes.Call k vs) where
-  refused : (e : Refusal) → OrMemory (CallBreaks p Γ s (arguments_under p vs) a (signature_named (name_in p k) Γ.signatures)) e → OrMemory (TermBreaks p Γ t a) e
-  refused e h = itself_refused p Γ t (nodes.Call k vs) a is s e at (or_memory (λ r h. call_breaks h) h)
-
-  pub no_template_answers : (e : Refusal) → signature_named (name_in p k) Γ.signatures ≡ None → e ≡ broken UnknownName s → OrMemory (TermBreaks p Γ t a) e
-  no_template_answers e none wrong = refused e (breaks_at UnknownName wrong refl (subst (λ o. CallBreaks p Γ s (arguments_under p vs) a o (breach_of UnknownName s)) (sym none) no_template))
+module _ (p : Program) (Γ : Context) (t : TermId) (a : Kind) (k : NameId) (vs : ArgumentsId) where
+  pub no_template_stops : (e : Refusal) → signature_named (name_in p k) Γ.signatures ≡ None → e ≡ broken UnknownName (term_spot_at p t) → Stops e (judged_as p t (nodes.Call k vs) Γ a)
+  no_template_stops e none wrong = stops_then e _ _ (stops_broken wrong (ap (found_at UnknownName (term_spot_at p t)) none))
 
   module _ (g : Signature) (named : signature_named (name_in p k) Γ.signatures ≡ Some g) where
-    breaks : {r : Breach} → CallBreaks p Γ s (arguments_under p vs) a (Some g) r → CallBreaks p Γ s (arguments_under p vs) a (signature_named (name_in p k) Γ.signatures) r
-    breaks {r} h = subst (λ o. CallBreaks p Γ s (arguments_under p vs) a o r) (sym named) h
+    pub other_number_stops : (e : Refusal) → nat_eq (length (arguments_under p vs)) (length g.parameters) ≡ false → e ≡ broken Arity (term_spot_at p t) → Stops e (judged_as p t (nodes.Call k vs) Γ a)
+    other_number_stops e other wrong = goes_then e _ g _ (ap (found_at UnknownName (term_spot_at p t)) named) (stops_then e _ _ (stops_broken wrong (fails Arity (term_spot_at p t) other)))
 
-    pub other_number_answers : (e : Refusal) → length (arguments_under p vs) ≢ length g.parameters → e ≡ broken Arity s → OrMemory (TermBreaks p Γ t a) e
-    other_number_answers e other wrong = refused e (breaks_at Arity wrong refl (breaks (other_number other)))
+    module _ (many : nat_eq (length (arguments_under p vs)) (length g.parameters) ≡ true) where
+      pub arguments_stop : (e : Refusal) → Stops e (arguments_judged p (term_judged p) (term_spot_at p t) Γ (arguments_under p vs) g.parameters) → Stops e (judged_as p t (nodes.Call k vs) Γ a)
+      arguments_stop e h = goes_then e _ g _ (ap (found_at UnknownName (term_spot_at p t)) named) (goes_then e _ tt _ (holds Arity (term_spot_at p t) many) (stops_then e _ _ h))
 
-    pub argument_answers : {v : Argument} {x : Name} {q : NameKind} {ws : List Argument} {rs : Bindings} (e : Refusal) → ArgumentsLeft p Γ (arguments_under p vs) g.parameters (v ∷ ws) ((x, q) ∷ rs) → OrMemory (ArgumentStops p Γ s v q) e → OrMemory (TermBreaks p Γ t a) e
-    argument_answers {x = x} {ws = ws} {rs = rs} e left h = or_memory (λ r h. each left h) h
-      where
-        each : {v : Argument} {q : NameKind} {r : Breach} → ArgumentsLeft p Γ (arguments_under p vs) g.parameters (v ∷ ws) ((x, q) ∷ rs) → ArgumentStops p Γ s v q r → TermBreaks p Γ t a r
-        each left (stops_itself h) = breaks_itself p Γ t (nodes.Call k vs) a is s at (call_breaks (breaks (argument_breaks left h)))
-        each left (stops_within {t = u} {a = b} h) = within (subst (λ n. Reaches p Γ n a Γ u b) (sym is) (call_argument named left)) h
-        each left (stops_in_members {i = i} {a = b} h) = in_members (subst (λ n. ReachesMembers p Γ n a Γ i b) (sym is) (argument_members named left)) h
+      module _ (fit : Bool) (all : arguments_judged p (term_judged p) (term_spot_at p t) Γ (arguments_under p vs) g.parameters ≡ Ok fit) where
+        pub call_stops : (e : Refusal) → fit && same_kind a g.input ≡ false → e ≡ broken Mismatch (term_spot_at p t) → Stops e (judged_as p t (nodes.Call k vs) Γ a)
+        call_stops e other wrong =
+            goes_then e _ g _ (ap (found_at UnknownName (term_spot_at p t)) named) (goes_then e _ tt _ (holds Arity (term_spot_at p t) many) (goes_then e _ fit _ all (stops_then e _ _ (stops_broken wrong (fails Mismatch (term_spot_at p t) other)))))
 
-    pub differs_answers : {fit : Bool} (e : Refusal) → ArgumentsSo p Γ (arguments_under p vs) g.parameters [] [] fit → (fit ≡ true → a ≢ g.input) → e ≡ broken Mismatch s → OrMemory (TermBreaks p Γ t a) e
-    differs_answers {fit} e so other wrong = refused e (breaks_at Mismatch wrong refl (breaks (call_differs so.left (each fit so other))))
-      where
-        each : (fit : Bool) → ArgumentsSo p Γ (arguments_under p vs) g.parameters [] [] fit → (fit ≡ true → a ≢ g.input) → ArgumentsFit Γ (arguments_of p (arguments_under p vs)) g.parameters → a ≢ g.input
-        each true so other all = other refl
-        each false so other all = absurd (so.differ refl all)
+        pub call_goes : (d : Kind) → fit && same_kind a g.input ≡ true → Fits g.output → d ≡ g.output → judged_as p t (nodes.Call k vs) Γ a ≡ Ok d
+        call_goes d same fits is =
+            go _ (ap (found_at UnknownName (term_spot_at p t)) named) (go _ (holds Arity (term_spot_at p t) many) (go _ all (go _ (holds Mismatch (term_spot_at p t) same) (fits_at (term_spot_at p t) g.output fits ∙ ap Ok (sym is)))))
 
-    pub call_answers : {fit : Bool} (d : Kind) → ArgumentsSo p Γ (arguments_under p vs) g.parameters [] [] fit → fit ≡ true → Fits a → Fits g.output → a ≡ g.input → d ≡ g.output → Takes Γ (tree p t) a d
-    call_answers d so whole fits small from to =
-        let form : FormTakes Γ (made p (nodes.Call k vs)) g.input g.output = call_takes named (so.fits whole no_argument_fits) in
-        subst (Takes Γ (tree p t) a) (sym to) (form_ok p Γ t (nodes.Call k vs) a is g.output fits small (subst (λ a. FormTakes Γ (made p (nodes.Call k vs)) a g.output) (sym from) form))
+-- ## Tests of a call
+
+pub none_absent : {X : Type 0} {P : Type 0} {o : Option X} → ((x : X) → o ≢ Some x) → IfNone o P → P
+none_absent {o = o} away absent = each o away absent
+  where
+    each : {X : Type 0} {P : Type 0} (o : Option X) → ((x : X) → o ≢ Some x) → IfNone o P → P
+    each None away absent = absent
+    each (Some x) away absent = absurd (away x refl)
+
+pub not_many : (m n : ℕ) → (m ≡ n → ⊥) → nat_eq m n ≡ false
+not_many m n h = grind (arith, nat_tests, h)
+
+pub as_many : (ps : List PlacedParameter) {m n k : ℕ} → m ≡ n → n ≡ k → k ≡ length ps → nat_eq m (length (parameters_of ps)) ≡ true
+as_many ps d e f = let count = length-map ps binding_of in grind (arith, nat_tests, d, e, f, count)
+
+pub and_false : (b : Bool) {c : Bool} → c ≡ false → b && c ≡ false
+and_false true e = e
+and_false false e = refl

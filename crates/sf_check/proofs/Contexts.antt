@@ -8,28 +8,26 @@ use Rattle.sf_value.specs.Values.{Name, KeyKind, Kind}
 use Rattle.sf_value.specs.declared.ty.KeyType.{KeyType}
 use Rattle.sf_value.specs.KindView.{key_kind_of}
 use Rattle.sf_refusal.specs.declared.spot.Spot.{Spot}
-use Rattle.sf_refusal.specs.declared.rule.Rule.TheVariants.{UnknownName, Mismatch}
 use Rattle.sf_refusal.specs.declared.refusal.Refusal.{Refusal}
-use Rattle.sf_refusal.specs.Refusals.{breach_of, broken, OrMemory}
-use Rattle.sf_refusal.proofs.Explained.{breaks_at}
+use Rattle.sf_refusal.specs.Refusals.{OrMemory, because, no_memory}
 use Rattle.sf_operator.specs.Kinds.{found_then}
 use Rattle.sf_func.specs.Registries.{TypesByName}
 use Rattle.sf_expr.specs.Expressions.{Pattern}
 use Rattle.sf_expr.specs.Patterns.{PlacedPattern, pattern_of}
 use Rattle.sf_expr.specs.declared.frame.Frame.{Frame}
 use Rattle.sf_expr.specs.declared.meaning.Meaning.{Meaning}
-use Rattle.sf_expr.specs.declared.meaning.Meaning.TheVariants.{Value, Process, Collection}
+use Rattle.sf_expr.specs.declared.meaning.Meaning.TheVariants.{Process, Collection}
 use Rattle.sf_expr.specs.Meanings.{Meant, of_value, of_process, of_collection, meant, Entries, found_in, names_from}
 use Rattle.sf_expr.specs.Scopes.{entries_in}
 use Rattle.sf_expr.specs.Refusals.{PatternRefused}
+use Rattle.sf_expr.specs.Judging.{binding_at, Stops}
 use Rattle.sf_expr.specs.Typing.{Names, only_functions, typed_name, untyped_name, with_types, AddsNames, adds_nothing, adds_name, adds_both, Binds}
 use Rattle.sf_expr.proofs.Bound.{binds_with, bound_within}
 use Rattle.sf_term.specs.Parameters.{PlacedParameter, binding_of, parameters_of}
 use Rattle.sf_term.specs.Trees.{Templates}
 use Rattle.sf_mean.specs.Contexts.{NameKind, value, process, collection, types_of_process, process_named, types_of_collection, collection_named, Bindings, parameters_inside, context_with, values_in, bindings_inside, inside_pattern, inside_process, inside_collection}
 use Rattle.sf_mean.specs.Typing.{ParameterFits}
-use Rattle.sf_check.specs.Standing.{kind_meant, bindings_from, inside_names}
-use Rattle.sf_check.specs.Breaking.{kind_named, ProcessRefused, CollectionRefused, BindsInside}
+use Rattle.sf_check.specs.Standing.{kind_meant, bindings_from, inside_names, kind_named, BindsInside}
 
 -- expressions are typed under the names and the functions that a context has
 pub names_seen_through : (fs : TypesByName) (es : Entries) → values_in fs (bindings_from es) ≡ with_types fs (names_from es)
@@ -114,6 +112,10 @@ pub pattern_wrong : {q p : PlacedPattern} (placed : q ≡ p) (t : Kind) (at : Sp
 pattern_wrong placed t at (Ok names) h = tt
 pattern_wrong placed t at (Err e) h = subst (λ p. OrMemory (PatternRefused p t at) e) placed h
 
+pub pattern_stops : (p : PlacedPattern) (t : Kind) (at : Spot) (R : Names) (e : Refusal) → OrMemory (PatternRefused p t at) e → Stops e (binding_at at p t R)
+pattern_stops p t at R e (because h) = h.first R
+pattern_stops p t at R e no_memory = tt
+
 -- ## What names stand for
 
 abbrev pub kind_found : Option Meant → Option NameKind
@@ -129,36 +131,17 @@ named_among x (e ∷ es) = each (bytes_eq x e.0) (named_among x es)
     each false rest = rest
 
 module _ (es : Entries) {x y : Name} (same : y ≡ x) where
-  stands_as : {o : Option Meant} → found_in y es ≡ o → kind_named x (bindings_from es) ≡ kind_found o
+  pub stands_as : {o : Option Meant} → found_in y es ≡ o → kind_named x (bindings_from es) ≡ kind_found o
   stands_as found = named_among x es ∙ ap (λ z. kind_found (found_in z es)) (sym same) ∙ ap kind_found found
 
-  stands_for : {m : Meaning} (n : Meaning) → m ≡ n → found_in y es ≡ Some (meant m) → kind_named x (bindings_from es) ≡ Some (kind_meant (meant n))
+  pub stands_for : {m : Meaning} (n : Meaning) → m ≡ n → found_in y es ≡ Some (meant m) → kind_named x (bindings_from es) ≡ Some (kind_meant (meant n))
   stands_for n is found = stands_as found ∙ ap (λ m. Some (kind_meant (meant m))) is
 
   pub collection_found : {m : Meaning} {k : KeyType} {a b : Bor Kind} → m ≡ Collection k a b → found_in y es ≡ Some (meant m) → kind_named x (bindings_from es) ≡ Some (collection (key_kind_of k) a.now b.now)
   collection_found {k = k} {a = a} {b = b} is found = stands_for (Collection k a b) is found
 
-  -- why a name is that of no process, or of no collection
-  pub is_collection_refused : {m : Meaning} {k : KeyType} {a b : Bor Kind} {at : Spot} {e : Refusal} → m ≡ Collection k a b → found_in y es ≡ Some (meant m) → e ≡ broken Mismatch at → OrMemory (ProcessRefused (kind_named x (bindings_from es)) at) e
-  is_collection_refused {k = k} {a = a} {b = b} {at = at} is found because = breaks_at Mismatch because refl (subst (λ o. ProcessRefused o at (breach_of Mismatch at)) (sym (stands_for (Collection k a b) is found)) refl)
-
-  pub is_value_refused : {m : Meaning} {t : Bor Kind} {at : Spot} {e : Refusal} → m ≡ Value t → found_in y es ≡ Some (meant m) → e ≡ broken Mismatch at → OrMemory (CollectionRefused (kind_named x (bindings_from es)) at) e
-  is_value_refused {t = t} {at = at} is found because = breaks_at Mismatch because refl (subst (λ o. CollectionRefused o at (breach_of Mismatch at)) (sym (stands_for (Value t) is found)) refl)
-
-  pub is_process_refused : {m : Meaning} {a b : Bor Kind} {at : Spot} {e : Refusal} → m ≡ Process a b → found_in y es ≡ Some (meant m) → e ≡ broken Mismatch at → OrMemory (CollectionRefused (kind_named x (bindings_from es)) at) e
-  is_process_refused {a = a} {b = b} {at = at} is found because = breaks_at Mismatch because refl (subst (λ o. CollectionRefused o at (breach_of Mismatch at)) (sym (stands_for (Process a b) is found)) refl)
-
-  pub is_unbound_refused : {at : Spot} {e : Refusal} → found_in y es ≡ None → e ≡ broken UnknownName at → OrMemory (CollectionRefused (kind_named x (bindings_from es)) at) e
-  is_unbound_refused {at} found because = breaks_at UnknownName because refl (subst (λ o. CollectionRefused o at (breach_of UnknownName at)) (sym (stands_as found)) refl)
-
   pub process_found : {m : Meaning} {a b : Bor Kind} → m ≡ Process a b → found_in y es ≡ Some (meant m) → kind_named x (bindings_from es) ≡ Some (process a.now b.now)
   process_found is found = stands_as found ∙ ap (λ m. Some (kind_meant (meant m))) is
-
-  pub value_refused : {m : Meaning} {t : Bor Kind} {at : Spot} {e : Refusal} → m ≡ Value t → found_in y es ≡ Some (meant m) → e ≡ broken Mismatch at → OrMemory (ProcessRefused (kind_named x (bindings_from es)) at) e
-  value_refused {at = at} is found because = breaks_at Mismatch because refl (subst (λ o. ProcessRefused o at (breach_of Mismatch at)) (sym (stands_as found ∙ ap (λ m. Some (kind_meant (meant m))) is)) refl)
-
-  pub unbound_refused : {at : Spot} {e : Refusal} → found_in y es ≡ None → e ≡ broken UnknownName at → OrMemory (ProcessRefused (kind_named x (bindings_from es)) at) e
-  unbound_refused {at} found because = breaks_at UnknownName because refl (subst (λ o. ProcessRefused o at (breach_of UnknownName at)) (sym (stands_as found)) refl)
 
 -- the types of the process of a name are those that it stands for
 found_process : (x : Name) (bs : Bindings) → process_named x bs ≡ found_then (kind_named x bs) types_of_process

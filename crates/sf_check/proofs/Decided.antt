@@ -13,22 +13,20 @@ use Rattle.sf_term.specs.Parameters.{NameKind, Bindings, PlacedParameter, bindin
 use Rattle.sf_term.specs.declared.program.Program.{Program}
 use Rattle.sf_term.specs.Headers.{Header}
 use Rattle.sf_term.specs.Trees.{Template}
-use Rattle.sf_term.specs.Arena.{tree, headers_of, template_in, templates_of}
-use Rattle.sf_mean.specs.Contexts.{signature_of, context_of}
+use Rattle.sf_term.specs.Arena.{headers_of, template_in, templates_of}
 use Rattle.sf_mean.specs.Networks.{main_of}
-use Rattle.sf_mean.specs.Typing.{Takes, IsTyped, Accepted}
+use Rattle.sf_mean.specs.Typing.{IsTyped, Accepted}
 use Rattle.sf_reach.specs.Endless.{ReachesItselfNowhere}
 use Rattle.sf_reach.proofs.Lawful.{one_or_nowhere}
 use Rattle.sf_reach.proofs.Gathered.{past_there}
 use Rattle.sf_check.specs.Names.{program_names, parameter_names, parameter_spots, Repeats, AreDifferent, NamesDiffer, IsFirstRepeat, HeaderRepeats, name_repeats, parameter_repeats, HeaderDiffers, IsFirstNameAgain}
-use Rattle.sf_check.specs.Breaking.{AreTyped, TemplateBreaks, breaks_within, breaks_header, IsFirstBreak}
+use Rattle.sf_check.specs.Breaking.{AreTyped, IsFirstBreak}
 use Rattle.sf_check.specs.Refusing.{RefusesNetwork, name_refused, type_refused, endless_refused, main_missing}
-use Rattle.sf_check.specs.Laws.{SignatureFits, HeadersFit}
+use Rattle.sf_check.specs.Laws.{HeadersFit}
 use Rattle.sf_check.proofs.Templates.{lt_or_eq, template_at, one_more_typed, all_typed}
 use Rattle.sf_check.proofs.Naming.{not_below, parameter_spot_at, templates_counted}
 use Rattle.sf_check.proofs.Accepted.{accepted_by}
-use Rattle.sf_check.proofs.Answered.{kinds_or, term_answered}
-use Rattle.sf_check.proofs.Fitting.{body_fits}
+use Rattle.sf_check.proofs.Judged.{template_or}
 
 -- ## Names
 
@@ -133,24 +131,13 @@ module _ (p : Program) where
   names_decided = elim (differ_or (length (headers_of p)) (omega arith)) [ inl h ↦ inr h | inr all ↦ inl (all_differ all) ]
 
   module _ (fs : TypesByName) where
-    template_decided : HeadersFit p → (h : Header) → SignatureFits (signature_of (template_in p h)) → IsTyped fs (templates_of p) (template_in p h) ⊎ ((b : Breach) × TemplateBreaks fs p h b)
-    template_decided headers h fits =
-        let qs = parameters_of h.parameters in
-        elim (term_answered p (context_of fs qs (templates_of p)) (body_fits fs p qs headers fits.0) h.body h.input fits.1) [
-          | inr r ↦ inr (r.0, breaks_within r.1)
-          | inl t ↦ elim (kinds_or t.0 h.output) [
-            | inl e ↦ inl (record { parameters = fits.0; body = subst (Takes (context_of fs qs (templates_of p)) (tree p h.body) h.input) e t.1 })
-            | inr other ↦ inr (_, breaks_header t.1 other)
-          ]
-        ]
-
     module _ (fit : HeadersFit p) where
       abbrev AreTypedTo : ℕ → Type 0
       AreTypedTo n = (i : ℕ) (t : Template) → i < n → slice_get (templates_of p) i ≡ Some t → IsTyped fs (templates_of p) t
 
       next_typed : (n : ℕ) → AreTypedTo n → (o : Option Header) → slice_get (headers_of p) n ≡ o → ((b : Breach) × IsFirstBreak fs p b) ⊎ AreTypedTo (suc n)
       next_typed n typed None e = inr (λ i t k q. elim (lt_or_eq i n (omega arith)) [ inl below ↦ typed i t below q | inr same ↦ absurd (none-some t (sym (no_header n e) ∙ ap (slice_get (templates_of p)) (sym same) ∙ q)) ])
-      next_typed n typed (Some h) e = elim (template_decided fit h (fit n (template_in p h) (template_at p n h e))) [
+      next_typed n typed (Some h) e = elim (template_or fs p h (fit n (template_in p h) (template_at p n h e)).1 (fit n (template_in p h) (template_at p n h e)).0) [
         | inl is ↦ inr (λ i t k q. one_more_typed fs p n typed h e is i t (omega arith) q)
         | inr r ↦ inl (r.0, record { place = n; header = h; at = e; typed = typed; broken = r.1 })
       ]

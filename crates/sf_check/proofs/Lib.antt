@@ -1,13 +1,15 @@
 pub mod Types
 pub mod Contexts
+pub mod Judging
 pub mod Made
+pub mod Calls
+pub mod Judged
 pub mod Arguments
-pub mod Broken
 pub mod Terms
 pub mod Members
-pub mod Calls
 pub mod Unlike
 pub mod Apart
+pub mod Differed
 pub mod Templates
 pub mod Naming
 pub mod Again
@@ -16,7 +18,5 @@ pub mod Accepted
 pub mod Once
 pub mod Places
 pub mod Finding
-pub mod Answered
-pub mod Fitting
 pub mod Decided
 pub mod Alike

@@ -12,7 +12,7 @@ use Rattle.sf_term.specs.declared.program.Program.{Program}
 use Rattle.sf_term.specs.Trees.{Term, primitive, reference, named_term, call, joined, sided, headed, transformed, switching, keeping, gathered, releasing, editing, with_value, timed, arrow, accumulated}
 use Rattle.sf_term.specs.Arena.{tree, term_node_at, expressions_of, arguments_under, arguments_of, collection_at, pattern_under, term_of}
 use Rattle.sf_term.proofs.Kept.{node_builds, expression_in, function_at_in}
-use Rattle.sf_check.specs.Breaking.{pattern_in, name_in}
+use Rattle.sf_check.specs.Standing.{pattern_in, name_in}
 use Rattle.sf_check.specs.Answering.{primitive_in}
 
 -- the term that a node makes of its parts

@@ -1,15 +1,18 @@
 -- The one type that expressions and terms can have, and its bound.
-use Rattle.std.proofs.Common.{◌≡◌, ◌≢◌, None, refl, ap, ◌∙◌, sym}
-use Rattle.std.proofs.lemmas.Option.{none-some, same_Some}
-use Rattle.sf_value.specs.Values.{KeyKind, Kind, pair_kind, event_kind, table_kind}
-use Rattle.sf_operator.specs.Kinds.{payload_of}
+use Rattle.std.proofs.Common.{◌≡◌, sym, subst}
+use Rattle.sf_value.specs.Values.{KeyKind, Kind, table_kind}
+use Rattle.sf_expr.specs.declared.exprs.ExprId.{ExprId}
+use Rattle.sf_expr.specs.declared.exprs.FunctionId.{FunctionId}
+use Rattle.sf_expr.specs.Arena.{expression, function_at}
 use Rattle.sf_expr.specs.Expressions.{Expression, Function}
 use Rattle.sf_expr.specs.Typing.{Names, Fits, HasType, variable_has, literal_has, pair_has, applied_has, operation_has, conditional_has, mapped_has, folded_has, called_has, FunctionTakes, function_takes}
 pub use Rattle.sf_expr.proofs.Judged.{one_type as expression_one}
-use Rattle.sf_term.specs.Trees.{Primitive, Term, Collection}
+use Rattle.sf_term.specs.declared.program.Program.{Program}
+use Rattle.sf_term.specs.Trees.{Primitive}
+use Rattle.sf_term.specs.Arena.{expressions_of, expression_under, function_in}
+use Rattle.sf_term.proofs.Kept.{expression_in, function_at_in}
 use Rattle.sf_mean.specs.Contexts.{Context}
-use Rattle.sf_mean.specs.Typing.{Takes, Collects, collects_none, collects_used, collects_added, collects_dropped, collects_kept, collects_chosen, PrimitiveTakes, bare_takes, probe_takes, never_takes, value_takes, timed_takes, selected_takes, accumulated_takes, arrow_takes, fused_takes}
-use Rattle.sf_check.specs.Breaking.{IsNoPairWith, IsNoEvent}
+use Rattle.sf_mean.specs.Typing.{PrimitiveTakes, bare_takes, probe_takes, never_takes, value_takes, timed_takes, selected_takes, accumulated_takes, arrow_takes, fused_takes}
 pub use Rattle.sf_mean.proofs.Inferred.{takes_one, input_fits, output_fits, form_of}
 
 expression_fits : {R : Names} {e : Expression} {t : Kind} → HasType R e t → Fits t
@@ -41,30 +44,23 @@ primitive_fits f (accumulated_takes v h k e g) = g
 primitive_fits f (arrow_takes h) = function_fits h
 primitive_fits f (fused_takes h g) = g
 
--- a type without a payload is none of events
-pub no_event : (d : Kind) → payload_of d ≡ None → IsNoEvent d
-no_event d none = λ c e. none-some c (sym none ∙ ap payload_of e)
-
--- what is given beside an event is of one type, and so is the event's payload
-pub beside_one : {Γ : Context} {t : Term} {a b c v w : Kind} → Takes Γ t a (pair_kind b (event_kind c)) → Takes Γ t a (pair_kind v (event_kind w)) → (b ≡ v) × (c ≡ w)
-beside_one f g = let e = takes_one f g in (cc, cc)
-
--- the second part is another than that
-pub other_second : {a t u v : Kind} → a ≡ pair_kind t u → u ≢ v → IsNoPairWith v a
-other_second is other w e = other cc
-
--- the members of a collection have keys of one type, and outputs of one type
-pub members_one : {Γ : Context} {i : Collection} {k l : KeyKind} {a b c : Kind} → Collects Γ i k a b → Collects Γ i l a c → table_kind k b ≡ table_kind l c
-members_one collects_none collects_none = refl
-members_one (collects_used {k = k} {a = a} {b = b} h) (collects_used {k = l} {b = c} g) = ap (λ (t : KeyKind × Kind × Kind). table_kind t.0 t.2) (same_Some (k, a, b) (l, a, c) (sym h ∙ g))
-members_one (collects_added C I T) (collects_added D J U) = members_one C D
-members_one (collects_dropped C I) (collects_dropped D J) = members_one C D
-members_one (collects_kept C F) (collects_kept D G) = members_one C D
-members_one (collects_chosen I C D) (collects_chosen J E F) = members_one C E
-
 -- the two types in a type of tables
 pub keys_of_table : {k l : KeyKind} {b c : Kind} → table_kind k b ≡ table_kind l c → k ≡ l
 keys_of_table e = cc
 
 pub values_of_table : {k l : KeyKind} {b c : Kind} → table_kind k b ≡ table_kind l c → b ≡ c
 values_of_table e = cc
+
+-- an expression and a function at an id
+module _ (p : Program) {R : Names} where
+  pub typed_in : (v : ExprId) {t : Kind} → HasType R (expression_under p v) t → HasType R (expression (expressions_of p) v) t
+  typed_in v {t} h = subst (λ e. HasType R e t) (sym (expression_in p v)) h
+
+  pub typed_under : (v : ExprId) {t : Kind} → HasType R (expression (expressions_of p) v) t → HasType R (expression_under p v) t
+  typed_under v {t} h = subst (λ e. HasType R e t) (expression_in p v) h
+
+  pub taken_in : (f : FunctionId) {t u : Kind} → FunctionTakes R (function_in p f) t u → FunctionTakes R (function_at (expressions_of p) f) t u
+  taken_in f {t} {u} h = subst (λ f. FunctionTakes R f t u) (sym (function_at_in p f)) h
+
+  pub taken_under : (f : FunctionId) {t u : Kind} → FunctionTakes R (function_at (expressions_of p) f) t u → FunctionTakes R (function_in p f) t u
+  taken_under f {t} {u} h = subst (λ f. FunctionTakes R f t u) (function_at_in p f) h

@@ -1,13 +1,11 @@
--- What is answered for primitives, terms and bodies.
-use Rattle.std.specs.Prelude.{◌≡◌, ◌⊎◌, ◌↔◌, Bool, IsTrue, Result, Ok, Err}
-use Rattle.sf_value.specs.Values.{KeyKind, Kind}
+-- What is answered for terms and collections.
+use Rattle.std.specs.Prelude.{◌≡◌, Result, Ok, Err}
+use Rattle.sf_value.specs.Values.{Kind}
 use Rattle.sf_value.specs.KindView.{key_kind_of}
 use Rattle.sf_refusal.specs.declared.spot.Spot.{Spot}
 use Rattle.sf_refusal.specs.declared.rule.Rule.TheVariants.{BarePre}
-use Rattle.sf_refusal.specs.declared.refusal.Breach.{Breach}
 use Rattle.sf_refusal.specs.declared.refusal.Refusal.{Refusal}
 use Rattle.sf_refusal.specs.Refusals.{broken, OrMemory}
-use Rattle.sf_expr.specs.declared.exprs.PatternId.{PatternId}
 use Rattle.sf_expr.specs.declared.exprs.Exprs.{Exprs}
 use Rattle.sf_expr.specs.Arena.{expression, function_at, literal_at}
 use Rattle.sf_expr.specs.Typing.{HasType}
@@ -19,15 +17,14 @@ use Rattle.sf_term.specs.declared.node.Argument.{Argument}
 use Rattle.sf_term.specs.declared.node.Argument.TheVariants as arguments
 use Rattle.sf_term.specs.declared.node.Primitive.{Primitive as PrimitiveNode}
 use Rattle.sf_term.specs.declared.node.Primitive.TheVariants as nodes
-use Rattle.sf_term.specs.declared.collection.CollectionId.{CollectionId}
 use Rattle.sf_term.specs.declared.collection.CollExpr.{CollExpr}
 use Rattle.sf_term.specs.declared.program.Program.{Program}
 use Rattle.sf_term.specs.Trees.{Primitive, bare, never, with_value, timed, selected, arrow, accumulated}
 use Rattle.sf_term.specs.Entries.{absent_payload}
-use Rattle.sf_term.specs.Arena.{tree, expressions_of, collection_under, collection_of, collection_at}
-use Rattle.sf_mean.specs.Contexts.{NameKind, value, process, collection, Context, names_of_values, inside_pattern}
-use Rattle.sf_mean.specs.Typing.{bare_kind, PrimitiveTakes, Takes, Collects}
-use Rattle.sf_check.specs.Breaking.{pattern_in, BindsInside, PrimitiveBreaks, ArgumentKeeps, ArgumentBreaks, BodyBreaks, EditBreaks, TermBreaks, CollectionBreaks}
+use Rattle.sf_term.specs.Arena.{tree, expressions_of, collection_of, collection_at}
+use Rattle.sf_mean.specs.Contexts.{NameKind, value, process, collection, Context, names_of_values}
+use Rattle.sf_mean.specs.Typing.{bare_kind, Takes, Collects}
+use Rattle.sf_check.specs.Breaking.{TermBreaks, CollectionBreaks}
 use Rattle.sf_check.specs.declared.member_types.MemberTypes.{MemberTypes}
 
 -- the primitive that a node stands for
@@ -45,32 +42,15 @@ abbrev pub AnswersBare : Bare → Kind → Spot → Result Kind Refusal → Type
 AnswersBare Pre a s r = r ≡ Err (broken BarePre s)
 AnswersBare k a s r = AnswersKind (bare_kind k a) s r
 
--- the answer for a primitive at a spot, under a context: the type that it takes inputs of a type to, or the rule that is broken
-abbrev pub AnswersPrimitive : Exprs → Context → PrimitiveNode → Kind → Spot → Result Kind Refusal → Type 0
-AnswersPrimitive x Γ q a s (Ok b) = PrimitiveTakes Γ (primitive_in x q) a b
-AnswersPrimitive x Γ q a s (Err e) = OrMemory (PrimitiveBreaks x Γ s q a) e
-
 -- the answer for the term at an id, under a context: the type that it takes inputs of a type to, or the first rule that is broken
 abbrev pub AnswersTerm : Program → Context → TermId → Kind → Result Kind Refusal → Type 0
 AnswersTerm p Γ t a (Ok b) = Takes Γ (tree p t) a b
 AnswersTerm p Γ t a (Err e) = OrMemory (TermBreaks p Γ t a) e
 
--- The answer for the body of a form at a spot, under a context, inside a pattern for payloads of a type: the type of outputs
--- that is wanted of it on inputs of a type, or the first rule that is broken, of the form or within the body.
-abbrev pub AnswersBody : Program → Context → Spot → PatternId → TermId → (input output payload : Kind) → Result Kind Refusal → Type 0
-AnswersBody p Δ s q u a b c (Ok d) = (d ≡ b) × BindsInside (pattern_in p q) c Δ × Takes (inside_pattern (pattern_in p q) c Δ) (tree p u) a b
-AnswersBody p Δ s q u a b c (Err e) = OrMemory (λ r. BodyBreaks p Δ s q u a b c r ⊎ (BindsInside (pattern_in p q) c Δ × TermBreaks p (inside_pattern (pattern_in p q) c Δ) u a r)) e
-
 -- the answer for a collection, under a context: the types of its members on inputs of a type, or the first rule that is broken
 abbrev pub AnswersMembers : Program → Context → CollExpr → Kind → Result MemberTypes Refusal → Type 0
 AnswersMembers p Γ c a (Ok m) = Collects Γ (collection_of p c) (key_kind_of m.keys) a m.output
 AnswersMembers p Γ c a (Err e) = OrMemory (CollectionBreaks p Γ c a) e
-
--- The answer for the edit of a form at a spot, under a context, inside a pattern for payloads of a type: it has members with keys
--- of a type, from a type to a type, as is wanted of it, or the first rule that is broken, of the form or within the edit.
-abbrev pub AnswersEdit : Program → Context → Spot → PatternId → CollectionId → KeyKind → (input output payload : Kind) → Result MemberTypes Refusal → Type 0
-AnswersEdit p Δ s q u k a b c (Ok m) = BindsInside (pattern_in p q) c Δ × Collects (inside_pattern (pattern_in p q) c Δ) (collection_at p u) k a b
-AnswersEdit p Δ s q u k a b c (Err e) = OrMemory (λ r. EditBreaks p Δ s q u k a b c r ⊎ (BindsInside (pattern_in p q) c Δ × CollectionBreaks p (inside_pattern (pattern_in p q) c Δ) (collection_under p u) a r)) e
 
 -- an argument is of the type or the types of a parameter of a kind
 abbrev pub ArgumentFits : Program → Context → Argument → NameKind → Type 0
@@ -83,16 +63,3 @@ ArgumentFits p Γ (arguments.Process t) (collection k a b) = ⊥
 ArgumentFits p Γ (arguments.Collection i) (value u) = ⊥
 ArgumentFits p Γ (arguments.Collection i) (process a b) = ⊥
 ArgumentFits p Γ (arguments.Collection i) (collection k a b) = Collects Γ (collection_at p i) k a b
-
--- An argument of a call at a spot, for a parameter of a kind, breaks a rule of the call, or its term or its collection breaks one
--- within.
-pub data ArgumentStops (p : Program) (Γ : Context) (s : Spot) : Argument → NameKind → Breach → Type 0 where
-  stops_itself : {v : Argument} {k : NameKind} {r : Breach} → ArgumentBreaks p Γ s v k r → ArgumentStops p Γ s v k r
-  stops_within : {t : TermId} {a b : Kind} {r : Breach} → TermBreaks p Γ t a r → ArgumentStops p Γ s (arguments.Process t) (process a b) r
-  stops_in_members : {i : CollectionId} {k : KeyKind} {a b : Kind} {r : Breach} → CollectionBreaks p Γ (collection_under p i) a r → ArgumentStops p Γ s (arguments.Collection i) (collection k a b) r
-
--- The answer for an argument of a call at a spot, under a context, for a parameter of a kind: it keeps its rules so far, and
--- whether it fits, or the first rule that is broken.
-abbrev pub AnswersArgument : Program → Context → Spot → Argument → NameKind → Result Bool Refusal → Type 0
-AnswersArgument p Γ s v k (Ok fits) = ArgumentKeeps p Γ v k × (IsTrue fits ↔ ArgumentFits p Γ v k)
-AnswersArgument p Γ s v k (Err e) = OrMemory (ArgumentStops p Γ s v k) e

@@ -1,5 +1,5 @@
 -- What holds of refusals.
-use Rattle.std.specs.Prelude.{◌≡◌, ◌⊎◌, ℕ, All, Some, slice_get}
+use Rattle.std.specs.Prelude.{◌≡◌, ◌⊎◌, ◌↔◌, ℕ, All, Some, Ok, slice_get}
 use Rattle.sf_refusal.specs.declared.refusal.Breach.{Breach}
 use Rattle.sf_value.specs.Values.{Name, Kind}
 use Rattle.sf_func.specs.Registries.{TypesByName}
@@ -11,6 +11,7 @@ use Rattle.sf_term.specs.Trees.{Template}
 use Rattle.sf_term.specs.Arena.{tree, templates_of}
 use Rattle.sf_mean.specs.Contexts.{NameKind, Signature, signature_of, signature_named, Context, names_of_values, process_named}
 use Rattle.sf_mean.specs.Typing.{ParameterFits, Takes, Accepted}
+use Rattle.sf_check.specs.Judging.{term_judged}
 use Rattle.sf_check.specs.Breaking.{TermBreaks}
 use Rattle.sf_check.specs.Refusing.{RefusesNetwork}
 
@@ -37,6 +38,10 @@ RefusedOrAccepted = (fs : TypesByName) (p : Program) (b : Breach) → RefusesNet
 -- The types of the values and processes that names stand for have at most 256 nodes, and so do those in signatures.
 abbrev pub ContextFits : Context → Type 0
 ContextFits Γ = NamesFit (names_of_values Γ) × ((x : Name) (a b : Kind) → process_named x Γ.bindings ≡ Some (a, b) → Fits b) × ((x : Name) (g : Signature) → signature_named x Γ.signatures ≡ Some g → SignatureFits g)
+
+-- What is judged of a term, on inputs of a type of at most 256 nodes, is what it takes them to.
+abbrev pub EachTermJudged : Type 0
+EachTermJudged = (p : Program) (Γ : Context) (t : TermId) (a b : Kind) → Fits a → Takes Γ (tree p t) a b ↔ (term_judged p t Γ a ≡ Ok b)
 
 -- Under such a context, a term takes inputs of a type to outputs of another, or breaks a rule on them.
 abbrev pub EachTermAnswered : Type 0

@@ -3,6 +3,7 @@ pub mod Calling
 pub mod Names
 pub mod Standing
 pub mod Contexts
+pub mod Judging
 pub mod Breaking
 pub mod Answering
 pub mod Refusing

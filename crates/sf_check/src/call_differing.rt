@@ -19,12 +19,10 @@ use sf_differ::Blame;
 use sf_refusal::Spot;
 use sf_term::{Argument, ParameterForm, Template, TermId};
 use sf_value::Ty;
-use std::alloc::Global;
 
 /// Nothing where an argument of a call is of the type or types of its parameter; else what differs, at the spot. Nothing is said
 /// where it is of another sort.
 fn argument_suits(
-    alloc: Global,
     context: &TypingContext,
     term: TermId,
     argument: Argument,
@@ -38,18 +36,18 @@ fn argument_suits(
 {
     match (argument, parameter) {
         (Argument::Value(value), ParameterForm::Value(wanted)) => {
-            let given = answered(constant_type(alloc, context, value))?;
-            suits_type(alloc, &given, wanted, spot)
+            let given = answered(constant_type(context, value))?;
+            suits_type(context.alloc, &given, wanted, spot)
         }
         (Argument::Process(part), ParameterForm::Process(from, to)) => {
             prove!(from.nodes() <= 256);
-            let given = answered(output_of(alloc, context, part, from))?;
-            suits_type(alloc, &given, to, spot)
+            let given = answered(output_of(context, part, from))?;
+            suits_type(context.alloc, &given, to, spot)
         }
         (Argument::Collection(members), ParameterForm::Collection(keys, from, to)) => {
             prove!(from.nodes() <= 256);
-            let given = answered(members_at(alloc, context, term, members, from))?;
-            suits_members(alloc, &given, *keys, to, spot)
+            let given = answered(members_at(context, term, members, from))?;
+            suits_members(context.alloc, &given, *keys, to, spot)
         }
         (Argument::Value(_), ParameterForm::Process(_, _)) => Err(Blame::Silent),
         (Argument::Value(_), ParameterForm::Collection(_, _, _)) => Err(Blame::Silent),
@@ -63,7 +61,6 @@ fn argument_suits(
 /// What differs in a call whose arguments are typed: the first of them that does not fit its parameter, or else the inputs beside
 /// the header of its template.
 pub(crate) fn explain_fit(
-    alloc: Global,
     context: &TypingContext,
     term: TermId,
     arguments: &[Argument],
@@ -78,7 +75,7 @@ pub(crate) fn explain_fit(
     let spot = context.program.spot(term);
     let parameters = template.parameters();
     for (argument, parameter) in arguments.iter().zip(parameters) {
-        argument_suits(alloc, context, term, *argument, parameter.form(), spot)?;
+        argument_suits(context, term, *argument, parameter.form(), spot)?;
     }
-    suits_type(alloc, input, template.input(), spot)
+    suits_type(context.alloc, input, template.input(), spot)
 }

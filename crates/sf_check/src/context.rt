@@ -5,12 +5,13 @@ ghost use Rattle.sf_func.specs.Signatures.{signatures_in};
 ghost use Rattle.sf_refusal.specs.Refusals.{OrMemory};
 ghost use Rattle.sf_expr.specs.Arena.{placed_at};
 ghost use Rattle.sf_expr.specs.Refusals.{PatternRefused};
+ghost use Rattle.sf_expr.specs.Judging.{binding_at, Stops};
 ghost use Rattle.sf_expr.specs.Scopes.{entries_in};
 ghost use Rattle.sf_term.specs.Arena.{expressions_of, template_in, templates_of};
-ghost use Rattle.sf_mean.specs.Contexts.{process, collection, context_with, signature_of, signature_named, inside_pattern};
+ghost use Rattle.sf_mean.specs.Contexts.{process, collection, context_with, signature_of, signature_named, names_of_values, inside_pattern};
 ghost use Rattle.sf_check.specs.Names.{names_of_set, program_names};
-ghost use Rattle.sf_check.specs.Standing.{bindings_from, inside_names};
-ghost use Rattle.sf_check.specs.Breaking.{pattern_in, name_in, kind_named, keeping_inside, members_inside, ProcessRefused, CollectionRefused, BindsInside};
+ghost use Rattle.sf_check.specs.Standing.{bindings_from, inside_names, kind_named, pattern_in, name_in, keeping_inside, members_inside, BindsInside};
+ghost use Rattle.sf_check.specs.Judging.{process_at, members_at};
 
 use crate::collection_types::CollectionTypes;
 use crate::process_types::ProcessTypes;
@@ -25,6 +26,7 @@ use std::alloc::{AllocError, Global};
 /// What a term is typed under: the program that it stands in, whose templates have headers, and their names in order, the
 /// names around the term with what they stand for, and the types of stored functions.
 pub(crate) struct TypingContext<'a> {
+    pub(crate) alloc: Global,
     pub(crate) program: &'a Program,
     pub(crate) templates: &'a IndexSet<String>,
     pub(crate) names: TypeScope<'a>,
@@ -35,6 +37,7 @@ pub(crate) struct TypingContext<'a> {
 impl<'a> Drop for TypingContext<'a> {
     fn drop(self) {
         let TypingContext {
+            alloc: _,
             program: _,
             templates: _,
             names,
@@ -61,6 +64,7 @@ impl<'a> TypingContext<'a> {
     {
         let names = TypeScope::of_frame(alloc, names)?;
         Ok(TypingContext {
+            alloc,
             program,
             templates,
             names,
@@ -81,14 +85,14 @@ impl<'a> TypingContext<'a> {
     /// What a term inside names is typed under: they stand around it too.
     pub(crate) fn within<'b>(
         &'b self,
-        alloc: Global,
         names: &'b Frame<'b>,
     ) -> Result<TypingContext<'b>, AllocError>
         ensures program { IfOk result (λ inner. program_in inner ≡ program_in self.now) }
         ensures context { IfOk result (λ inner. context_in inner ≡ inside_names names.now (context_in self.now)) }
     {
-        let names = self.names.within(alloc, names)?;
+        let names = self.names.within(self.alloc, names)?;
         Ok(TypingContext {
+            alloc: self.alloc,
             program: self.program,
             templates: self.templates,
             names,
@@ -100,23 +104,23 @@ impl<'a> TypingContext<'a> {
     /// later one, then with `Mismatch` at `at` where the pattern does not fit the type, and with `Memory`.
     pub(crate) fn pattern_names<'b>(
         &'b self,
-        alloc: Global,
         pattern: PatternId,
         ty: &'b Ty,
         at: Spot,
     ) -> Result<Frame<'b>, Refusal>
         ensures inside { IfOk result (λ names. inside_names names (context_in self.now) ≡ inside_pattern (pattern_in (program_in self.now) pattern) ty.now (context_in self.now)) }
         ensures bound { OnOk result (BindsInside (pattern_in (program_in self.now) pattern) ty.now (context_in self.now)) }
+        ensures found { OnOk result (binding_at at (placed_at (expressions_of (program_in self.now)) pattern) ty.now (names_of_values (context_in self.now)) ≡ Ok (names_of_values (inside_pattern (pattern_in (program_in self.now) pattern) ty.now (context_in self.now)))) }
         ensures refused { IfErr result (OrMemory (PatternRefused (placed_at (expressions_of (program_in self.now)) pattern) ty.now at)) }
+        ensures stops { IfErr result (λ r. Stops r (binding_at at (placed_at (expressions_of (program_in self.now)) pattern) ty.now (names_of_values (context_in self.now)))) }
     {
         let pattern = self.program.expressions().placed(pattern);
-        Frame::of_pattern(alloc, pattern, ty, at)
+        Frame::of_pattern(self.alloc, pattern, ty, at)
     }
 
     /// The name of a process from a type to a type.
     pub(crate) fn process_name<'b>(
         &'b self,
-        alloc: Global,
         name: NameId,
         from: &'b Ty,
         to: &'b Ty,
@@ -124,7 +128,7 @@ impl<'a> TypingContext<'a> {
         ensures { IfOk result (λ names. inside_names names (context_in self.now) ≡ keeping_inside (program_in self.now) name from.now to.now (context_in self.now)) }
     {
         let name = self.program.expressions().name_of(name);
-        let mut names = Frame::new(alloc);
+        let mut names = Frame::new(self.alloc);
         names.add_process(name, from, to)?;
         Ok(names)
     }
@@ -132,7 +136,6 @@ impl<'a> TypingContext<'a> {
     /// The name of a collection with keys of a type, of members from a type to a type.
     pub(crate) fn members_name<'b>(
         &'b self,
-        alloc: Global,
         name: NameId,
         keys: KeyType,
         from: &'b Ty,
@@ -141,7 +144,7 @@ impl<'a> TypingContext<'a> {
         ensures { IfOk result (λ names. inside_names names (context_in self.now) ≡ members_inside (program_in self.now) name (key_kind_of keys) from.now to.now (context_in self.now)) }
     {
         let name = self.program.expressions().name_of(name);
-        let mut names = Frame::new(alloc);
+        let mut names = Frame::new(self.alloc);
         names.add_collection(name, keys, from, to)?;
         Ok(names)
     }
@@ -150,7 +153,7 @@ impl<'a> TypingContext<'a> {
     /// with `Mismatch` where it stands for a value or a collection.
     pub(crate) fn process(&self, name: NameId, at: Spot) -> Result<ProcessTypes<'a>, Refusal>
         ensures found { IfOk result (λ k. kind_named (name_in (program_in self.now) name) (context_in self.now).bindings ≡ Some (process k.from.now k.to.now)) }
-        ensures refused { IfErr result (OrMemory (ProcessRefused (kind_named (name_in (program_in self.now) name) (context_in self.now).bindings) at)) }
+        ensures stops { IfErr result (λ r. Stops r (process_at at (kind_named (name_in (program_in self.now) name) (context_in self.now).bindings))) }
     {
         let name = self.program.expressions().name_of(name);
         match self.names.stands_for(name) {
@@ -165,7 +168,7 @@ impl<'a> TypingContext<'a> {
     /// with `Mismatch` where it stands for a value or a process.
     pub(crate) fn collection(&self, name: NameId, at: Spot) -> Result<CollectionTypes<'a>, Refusal>
         ensures found { IfOk result (λ k. kind_named (name_in (program_in self.now) name) (context_in self.now).bindings ≡ Some (collection (key_kind_of k.keys) k.from.now k.to.now)) }
-        ensures refused { IfErr result (OrMemory (CollectionRefused (kind_named (name_in (program_in self.now) name) (context_in self.now).bindings) at)) }
+        ensures stops { IfErr result (λ r. Stops r (members_at at (kind_named (name_in (program_in self.now) name) (context_in self.now).bindings))) }
     {
         let name = self.program.expressions().name_of(name);
         match self.names.stands_for(name) {

@@ -48,12 +48,12 @@ use sf_value::{KeyType, Ty};
 use std::alloc::{AllocError, Global};
 
 /// The type of a constant, or what differs in it.
-fn constant(alloc: Global, context: &TypingContext, value: ExprId) -> Result<Ty, Blame>
+fn constant(context: &TypingContext, value: ExprId) -> Result<Ty, Blame>
     ensures ok { IfOk result (λ t. HasType (names_of_values (context_in context.now)) (expression (expressions_of (program_in context.now)) value) t) }
     ensures err { IfErr result (λ b. Explains (ExpressionDiffers (expressions_of (program_in context.now)) (names_of_values (context_in context.now)) value) b) }
 {
     typed(
-        alloc,
+        context.alloc,
         context.program.expressions(),
         value,
         &context.names,
@@ -63,7 +63,6 @@ fn constant(alloc: Global, context: &TypingContext, value: ExprId) -> Result<Ty,
 
 /// The type of what a function answers to values of a type, or what differs in it.
 fn answer(
-    alloc: Global,
     context: &TypingContext,
     function: FunctionId,
     argument: &Ty,
@@ -73,7 +72,7 @@ fn answer(
     ensures err { IfErr result (λ b. Explains (FunctionDiffers (expressions_of (program_in context.now)) (names_of_values (context_in context.now)) function argument.now spot) b) }
 {
     explain_function(
-        alloc,
+        context.alloc,
         context.program.expressions(),
         function,
         argument,
@@ -188,7 +187,6 @@ fn made_wanted(alloc: Global, kind: Accumulation, given: &Ty) -> Result<Option<W
 
 /// What differs in a primitive with a value, on inputs of a type.
 fn explain_value(
-    alloc: Global,
     context: &TypingContext,
     kind: WithValue,
     value: ExprId,
@@ -197,15 +195,14 @@ fn explain_value(
 ) -> Result<(), Blame>
     ensures { IfErr result (λ b. Explains (PrimitiveDiffers (expressions_of (program_in context.now)) (context_in context.now) spot (Primitive.WithValue kind value) input.now) b) }
 {
-    let given = constant(alloc, context, value)?;
-    suited(alloc, &given, value_wanted(kind), spot)?;
-    let wanted = input_wanted(alloc, kind, &given, spot)?;
-    suited(alloc, input, wanted, spot)
+    let given = constant(context, value)?;
+    suited(context.alloc, &given, value_wanted(kind), spot)?;
+    let wanted = input_wanted(context.alloc, kind, &given, spot)?;
+    suited(context.alloc, input, wanted, spot)
 }
 
 /// What differs in a form with a time, on inputs of a type.
 fn explain_timed(
-    alloc: Global,
     context: &TypingContext,
     kind: Timing,
     time: i64,
@@ -215,14 +212,13 @@ fn explain_timed(
 ) -> Result<(), Blame>
     ensures { IfErr result (λ b. Explains (PrimitiveDiffers (expressions_of (program_in context.now)) (context_in context.now) spot (Primitive.Timed kind time value) input.now) b) }
 {
-    let given = constant(alloc, context, value)?;
-    let wanted = timed_wanted(alloc, kind, &given)?;
-    suited(alloc, input, wanted, spot)
+    let given = constant(context, value)?;
+    let wanted = timed_wanted(context.alloc, kind, &given)?;
+    suited(context.alloc, input, wanted, spot)
 }
 
 /// What differs in an accumulation, on inputs of a type.
 fn explain_accumulated(
-    alloc: Global,
     context: &TypingContext,
     kind: Accumulation,
     value: ExprId,
@@ -232,19 +228,18 @@ fn explain_accumulated(
 ) -> Result<(), Blame>
     ensures { IfErr result (λ b. Explains (PrimitiveDiffers (expressions_of (program_in context.now)) (context_in context.now) spot (Primitive.Accumulated kind value function) input.now) b) }
 {
-    let given = constant(alloc, context, value)?;
-    suited(alloc, input, accumulated_wanted(kind), spot)?;
-    let argument = accumulated_argument_type(alloc, kind, &given, input, spot)?;
-    let made = answer(alloc, context, function, &argument, spot)?;
-    let wanted = start_wanted(alloc, kind, input)?;
-    suited(alloc, &given, wanted, spot)?;
-    let wanted = made_wanted(alloc, kind, &given)?;
-    suited(alloc, &made, wanted, spot)
+    let given = constant(context, value)?;
+    suited(context.alloc, input, accumulated_wanted(kind), spot)?;
+    let argument = accumulated_argument_type(context.alloc, kind, &given, input, spot)?;
+    let made = answer(context, function, &argument, spot)?;
+    let wanted = start_wanted(context.alloc, kind, input)?;
+    suited(context.alloc, &given, wanted, spot)?;
+    let wanted = made_wanted(context.alloc, kind, &given)?;
+    suited(context.alloc, &made, wanted, spot)
 }
 
 /// What differs in the function of an `arr`, on inputs of a type.
 fn explain_arrow(
-    alloc: Global,
     context: &TypingContext,
     function: FunctionId,
     input: &Ty,
@@ -252,13 +247,12 @@ fn explain_arrow(
 ) -> Result<(), Blame>
     ensures { IfErr result (λ b. Explains (PrimitiveDiffers (expressions_of (program_in context.now)) (context_in context.now) spot (Primitive.Arrow function) input.now) b) }
 {
-    answer(alloc, context, function, input, spot)?;
+    answer(context, function, input, spot)?;
     Ok(())
 }
 
 /// What differs in a primitive, on inputs of a type.
 fn explain_primitive(
-    alloc: Global,
     context: &TypingContext,
     primitive: Primitive,
     input: &Ty,
@@ -267,34 +261,32 @@ fn explain_primitive(
     ensures { IfErr result (λ b. Explains (PrimitiveDiffers (expressions_of (program_in context.now)) (context_in context.now) spot primitive input.now) b) }
 {
     match primitive {
-        Primitive::Bare(kind) => suited(alloc, input, bare_wanted(kind), spot),
+        Primitive::Bare(kind) => suited(context.alloc, input, bare_wanted(kind), spot),
         Primitive::Never(_) => Ok(()),
-        Primitive::WithValue(kind, value) => {
-            explain_value(alloc, context, kind, value, input, spot)
-        }
+        Primitive::WithValue(kind, value) => { explain_value(context, kind, value, input, spot) }
         Primitive::Timed(kind, time, value) => {
-            explain_timed(alloc, context, kind, time, value, input, spot)
+            explain_timed(context, kind, time, value, input, spot)
         }
-        Primitive::Selected(_, _) => suited(alloc, input, Some(Wanted::Event), spot),
-        Primitive::Arrow(function) => explain_arrow(alloc, context, function, input, spot),
+        Primitive::Selected(_, _) => suited(context.alloc, input, Some(Wanted::Event), spot),
+        Primitive::Arrow(function) => explain_arrow(context, function, input, spot),
         Primitive::Accumulated(kind, value, function) => {
-            explain_accumulated(alloc, context, kind, value, function, input, spot)
+            explain_accumulated(context, kind, value, function, input, spot)
         }
     }
 }
 
 /// The type of the outputs of a term on inputs of a type, or what differs in it.
 #[cycle(explain)]
-fn part(alloc: Global, context: &TypingContext, term: TermId, input: &Ty) -> Result<Ty, Blame>
+fn part(context: &TypingContext, term: TermId, input: &Ty) -> Result<Ty, Blame>
     requires { Fits input.now }
     ensures ok { IfOk result (λ t. Takes (context_in context.now) (tree (program_in context.now) term) input.now t) }
     ensures err { IfErr result (λ b. Explains (TermDiffers (program_in context.now) (context_in context.now) term input.now) b) }
 {
-    match output_of(alloc, context, term, input) {
+    match output_of(context, term, input) {
         Ok(output) => Ok(output),
         Err(Refusal::Memory) => Err(Blame::Memory),
         Err(Refusal::Broken(_)) => {
-            explain(alloc, context, term, input)?;
+            explain(context, term, input)?;
             Err(Blame::Silent)
         }
     }
@@ -303,7 +295,6 @@ fn part(alloc: Global, context: &TypingContext, term: TermId, input: &Ty) -> Res
 /// What differs in two parts in sequence, on inputs of a type.
 #[cycle(explain)]
 fn explain_sequence(
-    alloc: Global,
     context: &TypingContext,
     term: TermId,
     left: TermId,
@@ -315,15 +306,14 @@ fn explain_sequence(
     requires below { (term_number left < term_number term) × (term_number right < term_number term) }
     ensures { IfErr result (λ b. Explains (TermDiffers (program_in context.now) (context_in context.now) term input.now) b) }
 {
-    let middle = part(alloc, context, left, input)?;
-    part(alloc, context, right, &middle)?;
+    let middle = part(context, left, input)?;
+    part(context, right, &middle)?;
     Ok(())
 }
 
 /// What differs in two parts side by side, on inputs of a type.
 #[cycle(explain)]
 fn explain_parallel(
-    alloc: Global,
     context: &TypingContext,
     term: TermId,
     left: TermId,
@@ -336,17 +326,16 @@ fn explain_parallel(
     ensures { IfErr result (λ b. Explains (TermDiffers (program_in context.now) (context_in context.now) term input.now) b) }
 {
     let spot = context.program.spot(term);
-    suited(alloc, input, Some(Wanted::Pair), spot)?;
+    suited(context.alloc, input, Some(Wanted::Pair), spot)?;
     let (a, b) = parts(input, spot)?;
-    part(alloc, context, left, a)?;
-    part(alloc, context, right, b)?;
+    part(context, left, a)?;
+    part(context, right, b)?;
     Ok(())
 }
 
 /// What differs in two parts that both stand on the input, on inputs of a type.
 #[cycle(explain)]
 fn explain_fan(
-    alloc: Global,
     context: &TypingContext,
     term: TermId,
     left: TermId,
@@ -358,15 +347,14 @@ fn explain_fan(
     requires below { (term_number left < term_number term) × (term_number right < term_number term) }
     ensures { IfErr result (λ b. Explains (TermDiffers (program_in context.now) (context_in context.now) term input.now) b) }
 {
-    part(alloc, context, left, input)?;
-    part(alloc, context, right, input)?;
+    part(context, left, input)?;
+    part(context, right, input)?;
     Ok(())
 }
 
 /// What differs in a part on one side of a pair, on inputs of a type.
 #[cycle(explain)]
 fn explain_sided(
-    alloc: Global,
     context: &TypingContext,
     term: TermId,
     side: Side,
@@ -379,15 +367,15 @@ fn explain_sided(
     ensures { IfErr result (λ b. Explains (TermDiffers (program_in context.now) (context_in context.now) term input.now) b) }
 {
     let spot = context.program.spot(term);
-    suited(alloc, input, Some(Wanted::Pair), spot)?;
+    suited(context.alloc, input, Some(Wanted::Pair), spot)?;
     let (a, b) = parts(input, spot)?;
     match side {
         Side::First => {
-            part(alloc, context, inner, a)?;
+            part(context, inner, a)?;
             Ok(())
         }
         Side::Second => {
-            part(alloc, context, inner, b)?;
+            part(context, inner, b)?;
             Ok(())
         }
     }
@@ -396,7 +384,6 @@ fn explain_sided(
 /// What differs in a part with a value at its head, on inputs of a type.
 #[cycle(explain)]
 fn explain_headed(
-    alloc: Global,
     context: &TypingContext,
     term: TermId,
     heading: Heading,
@@ -410,21 +397,21 @@ fn explain_headed(
     ensures { IfErr result (λ b. Explains (TermDiffers (program_in context.now) (context_in context.now) term input.now) b) }
 {
     let spot = context.program.spot(term);
-    let given = constant(alloc, context, value)?;
+    let given = constant(context, value)?;
     match heading {
         Heading::LoopPre => {
-            let fed = pair_of(alloc, input, &given, spot)?;
-            let output = part(alloc, context, inner, &fed)?;
-            suited(alloc, &output, Some(Wanted::PairWith(given)), spot)
+            let fed = pair_of(context.alloc, input, &given, spot)?;
+            let output = part(context, inner, &fed)?;
+            suited(context.alloc, &output, Some(Wanted::PairWith(given)), spot)
         }
         Heading::Replaced => {
-            part(alloc, context, inner, input)?;
-            let wanted = Some(Wanted::Exactly(input.clone_in(alloc)?));
-            suited(alloc, &given, wanted, spot)
+            part(context, inner, input)?;
+            let wanted = Some(Wanted::Exactly(input.clone_in(context.alloc)?));
+            suited(context.alloc, &given, wanted, spot)
         }
         Heading::Initialized | Heading::Followed => {
-            let output = part(alloc, context, inner, input)?;
-            suited(alloc, &output, Some(Wanted::Exactly(given)), spot)
+            let output = part(context, inner, input)?;
+            suited(context.alloc, &output, Some(Wanted::Exactly(given)), spot)
         }
     }
 }
@@ -432,7 +419,6 @@ fn explain_headed(
 /// What differs in a part whose first input is what a function makes of it, on inputs of a type.
 #[cycle(explain)]
 fn explain_transformed(
-    alloc: Global,
     context: &TypingContext,
     term: TermId,
     function: FunctionId,
@@ -445,16 +431,15 @@ fn explain_transformed(
     ensures { IfErr result (λ b. Explains (TermDiffers (program_in context.now) (context_in context.now) term input.now) b) }
 {
     let spot = context.program.spot(term);
-    let made = answer(alloc, context, function, input, spot)?;
-    part(alloc, context, inner, input)?;
-    let wanted = Some(Wanted::Exactly(input.clone_in(alloc)?));
-    suited(alloc, &made, wanted, spot)
+    let made = answer(context, function, input, spot)?;
+    part(context, inner, input)?;
+    let wanted = Some(Wanted::Exactly(input.clone_in(context.alloc)?));
+    suited(context.alloc, &made, wanted, spot)
 }
 
 /// What differs in a term that gives way at an event of its own, on inputs of a type.
 #[cycle(explain)]
 fn explain_basic(
-    alloc: Global,
     context: &TypingContext,
     term: TermId,
     shown: Observation,
@@ -467,11 +452,10 @@ fn explain_basic(
     ensures { IfErr result (λ b. Explains (TermDiffers (program_in context.now) (context_in context.now) term input.now) b) }
 {
     let spot = context.program.spot(term);
-    let output = part(alloc, context, form.source, input)?;
-    suited(alloc, &output, Some(Wanted::EventBeside), spot)?;
+    let output = part(context, form.source, input)?;
+    suited(context.alloc, &output, Some(Wanted::EventBeside), spot)?;
     let (value, payload) = value_and_payload(&output, spot)?;
     explain_body(
-        alloc,
         context,
         form.pattern,
         payload,
@@ -485,7 +469,6 @@ fn explain_basic(
 /// What differs in a term that gives way at an event beside its input, on inputs of a type.
 #[cycle(explain)]
 fn explain_recurring(
-    alloc: Global,
     context: &TypingContext,
     term: TermId,
     shown: Observation,
@@ -498,11 +481,10 @@ fn explain_recurring(
     ensures { IfErr result (λ b. Explains (TermDiffers (program_in context.now) (context_in context.now) term input.now) b) }
 {
     let spot = context.program.spot(term);
-    suited(alloc, input, Some(Wanted::EventBeside), spot)?;
+    suited(context.alloc, input, Some(Wanted::EventBeside), spot)?;
     let (value, payload) = value_and_payload(input, spot)?;
-    let output = part(alloc, context, form.source, value)?;
+    let output = part(context, form.source, value)?;
     explain_body(
-        alloc,
         context,
         form.pattern,
         payload,
@@ -516,7 +498,6 @@ fn explain_recurring(
 /// What differs in a term that gives way at the event that an observer sees, and is then known by a name, on inputs of a type.
 #[cycle(explain)]
 fn explain_keeping(
-    alloc: Global,
     context: &TypingContext,
     term: TermId,
     form: Keeping,
@@ -528,13 +509,12 @@ fn explain_keeping(
     ensures { IfErr result (λ b. Explains (TermDiffers (program_in context.now) (context_in context.now) term input.now) b) }
 {
     let spot = context.program.spot(term);
-    let value = part(alloc, context, form.source, input)?;
-    let watched = pair_of(alloc, input, &value, spot)?;
-    let seen = part(alloc, context, form.observer, &watched)?;
-    suited(alloc, &seen, Some(Wanted::Event), spot)?;
+    let value = part(context, form.source, input)?;
+    let watched = pair_of(context.alloc, input, &value, spot)?;
+    let seen = part(context, form.observer, &watched)?;
+    suited(context.alloc, &seen, Some(Wanted::Event), spot)?;
     let event = payload(&seen, spot)?;
     explain_kept(
-        alloc,
         context,
         form.name,
         form.pattern,
@@ -549,7 +529,6 @@ fn explain_keeping(
 /// What differs in a body inside the name of a process from the one type to the other and a pattern for payloads of a type.
 #[cycle(explain)]
 fn explain_kept(
-    alloc: Global,
     context: &TypingContext,
     name: NameId,
     pattern: PatternId,
@@ -562,16 +541,13 @@ fn explain_kept(
     requires { Fits input.now }
     ensures { IfErr result (λ b. Explains (BodyStops (program_in context.now) (keeping_inside (program_in context.now) name input.now wanted.now (context_in context.now)) spot pattern body input.now wanted.now payload.now) b) }
 {
-    let names = (&*context).process_name(alloc, name, &*input, &*wanted)?;
-    explain_inside(
-        alloc, context, &names, pattern, payload, body, input, wanted, spot,
-    )
+    let names = (&*context).process_name(name, &*input, &*wanted)?;
+    explain_inside(context, &names, pattern, payload, body, input, wanted, spot)
 }
 
 /// What differs in members that give way at the event that an observer sees, and are then known by a name, on inputs of a type.
 #[cycle(explain)]
 fn explain_releasing(
-    alloc: Global,
     context: &TypingContext,
     term: TermId,
     form: Releasing,
@@ -583,19 +559,18 @@ fn explain_releasing(
     ensures { IfErr result (λ b. Explains (TermDiffers (program_in context.now) (context_in context.now) term input.now) b) }
 {
     let spot = context.program.spot(term);
-    let types = members_at_part(alloc, context, term, form.members, input)?;
-    let table = table_type(alloc, &types, spot)?;
-    let watched = pair_of(alloc, input, &table, spot)?;
-    let seen = part(alloc, context, form.observer, &watched)?;
-    suited(alloc, &seen, Some(Wanted::Event), spot)?;
+    let types = members_at_part(context, term, form.members, input)?;
+    let table = table_type(context.alloc, &types, spot)?;
+    let watched = pair_of(context.alloc, input, &table, spot)?;
+    let seen = part(context, form.observer, &watched)?;
+    suited(context.alloc, &seen, Some(Wanted::Event), spot)?;
     let event = payload(&seen, spot)?;
-    explain_released(alloc, context, form, event, input, &types, &table, spot)
+    explain_released(context, form, event, input, &types, &table, spot)
 }
 
 /// What differs in the body of members that give way to it, inside their name and a pattern for payloads of a type.
 #[cycle(explain)]
 fn explain_released(
-    alloc: Global,
     context: &TypingContext,
     form: Releasing,
     payload: &Ty,
@@ -607,9 +582,8 @@ fn explain_released(
     requires { Fits input.now }
     ensures { IfErr result (λ b. Explains (BodyStops (program_in context.now) (members_inside (program_in context.now) form.name (key_kind_of types.now.keys) input.now types.now.output (context_in context.now)) spot form.pattern form.body input.now table.now payload.now) b) }
 {
-    let names = (&*context).members_name(alloc, form.name, types.keys, &*input, &types.output)?;
+    let names = (&*context).members_name(form.name, types.keys, &*input, &types.output)?;
     explain_inside(
-        alloc,
         context,
         &names,
         form.pattern,
@@ -624,7 +598,6 @@ fn explain_released(
 /// What differs in members that are edited at each event beside their inputs, on inputs of a type.
 #[cycle(explain)]
 fn explain_editing(
-    alloc: Global,
     context: &TypingContext,
     term: TermId,
     form: Editing,
@@ -636,16 +609,15 @@ fn explain_editing(
     ensures { IfErr result (λ b. Explains (TermDiffers (program_in context.now) (context_in context.now) term input.now) b) }
 {
     let spot = context.program.spot(term);
-    suited(alloc, input, Some(Wanted::EventBeside), spot)?;
+    suited(context.alloc, input, Some(Wanted::EventBeside), spot)?;
     let (value, payload) = value_and_payload(input, spot)?;
-    let types = members_at_part(alloc, context, term, form.members, value)?;
-    explain_edited(alloc, context, term, form, payload, value, &types, spot)
+    let types = members_at_part(context, term, form.members, value)?;
+    explain_edited(context, term, form, payload, value, &types, spot)
 }
 
 /// What differs in an edit, which is to have the types of members, inside their name and a pattern for payloads of a type.
 #[cycle(explain)]
 fn explain_edited(
-    alloc: Global,
     context: &TypingContext,
     term: TermId,
     form: Editing,
@@ -659,16 +631,13 @@ fn explain_edited(
     requires shallow { collection_depth (collection_of (program_in context.now) (collection_under (program_in context.now) form.edit)) ≤ 64 }
     ensures { IfErr result (λ b. Explains (EditUnfit (program_in context.now) (members_inside (program_in context.now) form.name (key_kind_of wanted.now.keys) input.now wanted.now.output (context_in context.now)) spot form.pattern form.edit (key_kind_of wanted.now.keys) input.now wanted.now.output payload.now) b) }
 {
-    let names = (&*context).members_name(alloc, form.name, wanted.keys, &*input, &wanted.output)?;
-    explain_edit_inside(
-        alloc, context, &names, term, form, payload, input, wanted, spot,
-    )
+    let names = (&*context).members_name(form.name, wanted.keys, &*input, &wanted.output)?;
+    explain_edit_inside(context, &names, term, form, payload, input, wanted, spot)
 }
 
 /// What differs in an edit, which is to have the types of members, inside names and a pattern for payloads of a type.
 #[cycle(explain)]
 fn explain_edit_inside(
-    alloc: Global,
     context: &TypingContext,
     names: &Frame,
     term: TermId,
@@ -683,14 +652,13 @@ fn explain_edit_inside(
     requires shallow { collection_depth (collection_of (program_in context.now) (collection_under (program_in context.now) form.edit)) ≤ 64 }
     ensures { IfErr result (λ b. Explains (EditUnfit (program_in context.now) (inside_names names.now (context_in context.now)) spot form.pattern form.edit (key_kind_of wanted.now.keys) input.now wanted.now.output payload.now) b) }
 {
-    let inner = (&*context).within(alloc, &*names)?;
-    explain_edit(alloc, &inner, term, form, payload, input, wanted, spot)
+    let inner = (&*context).within(&*names)?;
+    explain_edit(&inner, term, form, payload, input, wanted, spot)
 }
 
 /// What differs in an edit, which is to have the types of members, inside a pattern for payloads of a type.
 #[cycle(explain)]
 fn explain_edit(
-    alloc: Global,
     context: &TypingContext,
     term: TermId,
     form: Editing,
@@ -704,15 +672,14 @@ fn explain_edit(
     requires shallow { collection_depth (collection_of (program_in context.now) (collection_under (program_in context.now) form.edit)) ≤ 64 }
     ensures { IfErr result (λ b. Explains (EditUnfit (program_in context.now) (context_in context.now) spot form.pattern form.edit (key_kind_of wanted.now.keys) input.now wanted.now.output payload.now) b) }
 {
-    let names = bound(alloc, &*context, form.pattern, &*payload, spot)?;
-    let given = members_part_within(alloc, context, &names, term, form.edit, input)?;
-    suits_members(alloc, &given, wanted.keys, &wanted.output, spot)
+    let names = bound(&*context, form.pattern, &*payload, spot)?;
+    let given = members_part_within(context, &names, term, form.edit, input)?;
+    suits_members(context.alloc, &given, wanted.keys, &wanted.output, spot)
 }
 
 /// The types of the collection at an id, which a form has, inside names, on inputs of a type, or what differs in it.
 #[cycle(explain)]
 fn members_part_within(
-    alloc: Global,
     context: &TypingContext,
     names: &Frame,
     form: TermId,
@@ -725,14 +692,13 @@ fn members_part_within(
     ensures ok { IfOk result (λ m. Collects (inside_names names.now (context_in context.now)) (collection_at (program_in context.now) members) (key_kind_of m.keys) input.now m.output) }
     ensures err { IfErr result (λ b. Explains (CollectionDiffers (program_in context.now) (inside_names names.now (context_in context.now)) (collection_under (program_in context.now) members) input.now) b) }
 {
-    let inner = (&*context).within(alloc, &*names)?;
-    members_at_part(alloc, &inner, form, members, input)
+    let inner = (&*context).within(&*names)?;
+    members_at_part(&inner, form, members, input)
 }
 
 /// What differs in the collection whose members' tables a term gives, on inputs of a type.
 #[cycle(explain)]
 fn explain_gathered(
-    alloc: Global,
     context: &TypingContext,
     term: TermId,
     members: CollectionId,
@@ -743,14 +709,13 @@ fn explain_gathered(
     requires below { CollectionBelow (term_number term) (collection_under (program_in context.now) members) }
     ensures { IfErr result (λ b. Explains (TermDiffers (program_in context.now) (context_in context.now) term input.now) b) }
 {
-    members_at_part(alloc, context, term, members, input)?;
+    members_at_part(context, term, members, input)?;
     Ok(())
 }
 
 /// The types of the collection at an id, which a form has, on inputs of a type, or what differs in it.
 #[cycle(explain)]
 fn members_at_part(
-    alloc: Global,
     context: &TypingContext,
     form: TermId,
     members: CollectionId,
@@ -763,7 +728,7 @@ fn members_at_part(
     ensures err { IfErr result (λ b. Explains (CollectionDiffers (program_in context.now) (context_in context.now) (collection_under (program_in context.now) members) input.now) b) }
 {
     match context.program.collection(members) {
-        Some(collection) => members_part(alloc, context, form, collection, input),
+        Some(collection) => members_part(context, form, collection, input),
         None => Ok(MemberTypes {
             keys: KeyType::Int,
             output: Ty::unit(),
@@ -774,7 +739,6 @@ fn members_at_part(
 /// The types of a collection, which a form has, on inputs of a type, or what differs in it.
 #[cycle(explain)]
 fn members_part(
-    alloc: Global,
     context: &TypingContext,
     form: TermId,
     collection: &CollExpr,
@@ -787,37 +751,35 @@ fn members_part(
     ensures err { IfErr result (λ b. Explains (CollectionDiffers (program_in context.now) (context_in context.now) collection.now input.now) b) }
 {
     match collection {
-        CollExpr::Empty(keys, output, _) => Ok(MemberTypes::new(alloc, *keys, output)?),
-        CollExpr::Used(name, place, spot) => {
-            used_part(alloc, context, *name, *place, *spot, input)
-        }
+        CollExpr::Empty(keys, output, _) => Ok(MemberTypes::new(context.alloc, *keys, output)?),
+        CollExpr::Used(name, place, spot) => { used_part(context, *name, *place, *spot, input) }
         CollExpr::Added(members, key, term, spot) => {
-            let types = members_part(alloc, context, form, members, input)?;
-            let given = constant(alloc, context, *key)?;
-            let output = part(alloc, context, *term, input)?;
-            suits_keys(alloc, &given, &types, *spot)?;
-            suits_type(alloc, &output, &types.output, *spot)?;
+            let types = members_part(context, form, members, input)?;
+            let given = constant(context, *key)?;
+            let output = part(context, *term, input)?;
+            suits_keys(context.alloc, &given, &types, *spot)?;
+            suits_type(context.alloc, &output, &types.output, *spot)?;
             Ok(types)
         }
         CollExpr::Dropped(members, key, spot) => {
-            let types = members_part(alloc, context, form, members, input)?;
-            let given = constant(alloc, context, *key)?;
-            suits_keys(alloc, &given, &types, *spot)?;
+            let types = members_part(context, form, members, input)?;
+            let given = constant(context, *key)?;
+            suits_keys(context.alloc, &given, &types, *spot)?;
             Ok(types)
         }
         CollExpr::Kept(members, function, spot) => {
-            let types = members_part(alloc, context, form, members, input)?;
+            let types = members_part(context, form, members, input)?;
             let keys = type_of_keys(types.keys);
-            let kept = answer(alloc, context, *function, &keys, *spot)?;
-            suits_type(alloc, &kept, &Ty::bool(), *spot)?;
+            let kept = answer(context, *function, &keys, *spot)?;
+            suits_type(context.alloc, &kept, &Ty::bool(), *spot)?;
             Ok(types)
         }
         CollExpr::Chosen(condition, one, other, spot) => {
-            let given = constant(alloc, context, *condition)?;
-            let types = members_part(alloc, context, form, one, input)?;
-            let others = members_part(alloc, context, form, other, input)?;
-            suits_type(alloc, &given, &Ty::bool(), *spot)?;
-            suits_members(alloc, &others, types.keys, &types.output, *spot)?;
+            let given = constant(context, *condition)?;
+            let types = members_part(context, form, one, input)?;
+            let others = members_part(context, form, other, input)?;
+            suits_type(context.alloc, &given, &Ty::bool(), *spot)?;
+            suits_members(context.alloc, &others, types.keys, &types.output, *spot)?;
             Ok(types)
         }
     }
@@ -825,7 +787,6 @@ fn members_part(
 
 /// The types of the collection of a name, whose members are given inputs of a type, or what differs in these.
 fn used_part(
-    alloc: Global,
     context: &TypingContext,
     name: NameId,
     place: Spot,
@@ -836,14 +797,13 @@ fn used_part(
     ensures err { IfErr result (λ b. Explains (CollectionDiffers (program_in context.now) (context_in context.now) (Used name place spot) input.now) b) }
 {
     let types = context.collection(name, place)?;
-    suits_type(alloc, input, types.from, spot)?;
-    Ok(MemberTypes::new(alloc, types.keys, types.to)?)
+    suits_type(context.alloc, input, types.from, spot)?;
+    Ok(MemberTypes::new(context.alloc, types.keys, types.to)?)
 }
 
 /// What differs in a body inside names and a pattern for payloads of a type.
 #[cycle(explain)]
 fn explain_inside(
-    alloc: Global,
     context: &TypingContext,
     names: &Frame,
     pattern: PatternId,
@@ -856,14 +816,13 @@ fn explain_inside(
     requires { Fits input.now }
     ensures { IfErr result (λ b. Explains (BodyStops (program_in context.now) (inside_names names.now (context_in context.now)) spot pattern body input.now wanted.now payload.now) b) }
 {
-    let inner = (&*context).within(alloc, &*names)?;
-    explain_body(alloc, &inner, pattern, payload, body, input, wanted, spot)
+    let inner = (&*context).within(&*names)?;
+    explain_body(&inner, pattern, payload, body, input, wanted, spot)
 }
 
 /// What differs in a body, which is to take inputs of a type to what is wanted of it, inside a pattern for payloads of a type.
 #[cycle(explain)]
 fn explain_body(
-    alloc: Global,
     context: &TypingContext,
     pattern: PatternId,
     payload: &Ty,
@@ -875,15 +834,14 @@ fn explain_body(
     requires { Fits input.now }
     ensures { IfErr result (λ b. Explains (BodyStops (program_in context.now) (context_in context.now) spot pattern body input.now wanted.now payload.now) b) }
 {
-    let names = bound(alloc, &*context, pattern, &*payload, spot)?;
-    let given = part_within(alloc, context, &names, body, input)?;
-    let wanted = Some(Wanted::Exactly(wanted.clone_in(alloc)?));
-    suited(alloc, &given, wanted, spot)
+    let names = bound(&*context, pattern, &*payload, spot)?;
+    let given = part_within(context, &names, body, input)?;
+    let wanted = Some(Wanted::Exactly(wanted.clone_in(context.alloc)?));
+    suited(context.alloc, &given, wanted, spot)
 }
 
 /// The names of a pattern for a type, or what differs.
 fn bound<'b>(
-    alloc: Global,
     context: &'b TypingContext,
     pattern: PatternId,
     ty: &'b Ty,
@@ -893,11 +851,11 @@ fn bound<'b>(
     ensures bound { OnOk result (BindsInside (pattern_in (program_in context.now) pattern) ty.now (context_in context.now)) }
     ensures err { IfErr result (λ b. Explains (PatternDiffers (placed_at (expressions_of (program_in context.now)) pattern) ty.now spot) b) }
 {
-    match context.pattern_names(alloc, pattern, ty, spot) {
+    match context.pattern_names(pattern, ty, spot) {
         Ok(names) => Ok(names),
         Err(refusal) => {
             let placed = context.program.expressions().placed(pattern);
-            Err(pattern_blame(alloc, placed, ty, refusal))
+            Err(pattern_blame(context.alloc, placed, ty, refusal))
         }
     }
 }
@@ -905,7 +863,6 @@ fn bound<'b>(
 /// The type of the outputs of a body inside names, on inputs of a type, or what differs in it.
 #[cycle(explain)]
 fn part_within(
-    alloc: Global,
     context: &TypingContext,
     names: &Frame,
     body: TermId,
@@ -915,13 +872,12 @@ fn part_within(
     ensures ok { IfOk result (λ t. Takes (inside_names names.now (context_in context.now)) (tree (program_in context.now) body) input.now t) }
     ensures err { IfErr result (λ b. Explains (TermDiffers (program_in context.now) (inside_names names.now (context_in context.now)) body input.now) b) }
 {
-    let inner = (&*context).within(alloc, &*names)?;
-    part(alloc, &inner, body, input)
+    let inner = (&*context).within(&*names)?;
+    part(&inner, body, input)
 }
 
 /// What differs in the process of a name, on inputs of a type.
 fn explain_process(
-    alloc: Global,
     context: &TypingContext,
     term: TermId,
     name: NameId,
@@ -932,15 +888,14 @@ fn explain_process(
     ensures { IfErr result (λ b. Explains (TermDiffers (program_in context.now) (context_in context.now) term input.now) b) }
 {
     let process = context.process(name, place)?;
-    let wanted = Some(Wanted::Exactly(process.from.clone_in(alloc)?));
-    suited(alloc, input, wanted, context.program.spot(term))
+    let wanted = Some(Wanted::Exactly(process.from.clone_in(context.alloc)?));
+    suited(context.alloc, input, wanted, context.program.spot(term))
 }
 
 /// Nothing where an argument of a call is typed; else what differs within it. Nothing is said where a term or a collection
 /// stands for another one or for a value.
 #[cycle(explain)]
 fn explain_argument(
-    alloc: Global,
     context: &TypingContext,
     term: TermId,
     argument: Argument,
@@ -953,17 +908,17 @@ fn explain_argument(
 {
     match (argument, parameter) {
         (Argument::Value(value), _) => {
-            constant(alloc, context, value)?;
+            constant(context, value)?;
             Ok(())
         }
         (Argument::Process(inner), ParameterForm::Process(from, _)) => {
             prove!(from.nodes() <= 256);
-            part(alloc, context, inner, from)?;
+            part(context, inner, from)?;
             Ok(())
         }
         (Argument::Collection(members), ParameterForm::Collection(_, from, _)) => {
             prove!(from.nodes() <= 256);
-            members_at_part(alloc, context, term, members, from)?;
+            members_at_part(context, term, members, from)?;
             Ok(())
         }
         (Argument::Process(_), ParameterForm::Value(_)) => Err(Blame::Silent),
@@ -977,7 +932,6 @@ fn explain_argument(
 /// has another number of parameters.
 #[cycle(explain)]
 fn explain_call(
-    alloc: Global,
     context: &TypingContext,
     term: TermId,
     name: NameId,
@@ -997,58 +951,53 @@ fn explain_call(
         return Ok(());
     }
     for (argument, parameter) in arguments.iter().zip(parameters) {
-        explain_argument(alloc, context, term, *argument, parameter.form())?;
+        explain_argument(context, term, *argument, parameter.form())?;
     }
-    explain_fit(alloc, context, term, arguments, template, input)
+    explain_fit(context, term, arguments, template, input)
 }
 
 /// What differs in a term that is refused on inputs of a type.
 #[cycle(explain)]
-fn explain(alloc: Global, context: &TypingContext, term: TermId, input: &Ty) -> Result<(), Blame>
+fn explain(context: &TypingContext, term: TermId, input: &Ty) -> Result<(), Blame>
     requires { Fits input.now }
     ensures { IfErr result (λ b. Explains (TermDiffers (program_in context.now) (context_in context.now) term input.now) b) }
 {
     match context.program.node(term) {
-        Node::Primitive(primitive) => {
-            explain_primitive_at(alloc, context, term, primitive, input)
-        }
+        Node::Primitive(primitive) => { explain_primitive_at(context, term, primitive, input) }
         Node::Named(Naming::Process(_), name, place) => {
-            explain_process(alloc, context, term, name, place, input)
+            explain_process(context, term, name, place, input)
         }
         Node::Named(Naming::Probe, _, _) => Ok(()),
-        Node::Call(name, arguments) => explain_call(alloc, context, term, name, arguments, input),
+        Node::Call(name, arguments) => explain_call(context, term, name, arguments, input),
         Node::Joined(Join::InSequence, left, right) => {
-            explain_sequence(alloc, context, term, left, right, input)
+            explain_sequence(context, term, left, right, input)
         }
         Node::Joined(Join::InParallel, left, right) => {
-            explain_parallel(alloc, context, term, left, right, input)
+            explain_parallel(context, term, left, right, input)
         }
         Node::Joined(Join::FannedOut, left, right) => {
-            explain_fan(alloc, context, term, left, right, input)
+            explain_fan(context, term, left, right, input)
         }
-        Node::Sided(side, inner) => explain_sided(alloc, context, term, side, inner, input),
+        Node::Sided(side, inner) => explain_sided(context, term, side, inner, input),
         Node::Headed(heading, value, inner) => {
-            explain_headed(alloc, context, term, heading, value, inner, input)
+            explain_headed(context, term, heading, value, inner, input)
         }
         Node::Transformed(function, inner) => {
-            explain_transformed(alloc, context, term, function, inner, input)
+            explain_transformed(context, term, function, inner, input)
         }
         Node::Switching(form) => match form.form {
-            Switching::Basic(shown) => explain_basic(alloc, context, term, shown, form, input),
-            Switching::Recurring(shown) => {
-                explain_recurring(alloc, context, term, shown, form, input)
-            }
+            Switching::Basic(shown) => explain_basic(context, term, shown, form, input),
+            Switching::Recurring(shown) => { explain_recurring(context, term, shown, form, input) }
         },
-        Node::Keeping(form) => explain_keeping(alloc, context, term, form, input),
-        Node::Gathered(members) => explain_gathered(alloc, context, term, members, input),
-        Node::Releasing(form) => explain_releasing(alloc, context, term, form, input),
-        Node::Editing(form) => explain_editing(alloc, context, term, form, input),
+        Node::Keeping(form) => explain_keeping(context, term, form, input),
+        Node::Gathered(members) => explain_gathered(context, term, members, input),
+        Node::Releasing(form) => explain_releasing(context, term, form, input),
+        Node::Editing(form) => explain_editing(context, term, form, input),
     }
 }
 
 /// What differs in the primitive at an id, on inputs of a type.
 fn explain_primitive_at(
-    alloc: Global,
     context: &TypingContext,
     term: TermId,
     primitive: Primitive,
@@ -1057,7 +1006,7 @@ fn explain_primitive_at(
     requires there { term_node_at (program_in context.now) term ≡ Node.Primitive primitive }
     ensures { IfErr result (λ b. Explains (TermDiffers (program_in context.now) (context_in context.now) term input.now) b) }
 {
-    explain_primitive(alloc, context, primitive, input, context.program.spot(term))
+    explain_primitive(context, primitive, input, context.program.spot(term))
 }
 
 /// The type of the outputs of the body of a template inside the names of its parameters, on inputs of a type, or what differs in
@@ -1077,7 +1026,7 @@ fn template_part(
     ensures err { IfErr result (λ b. Explains (TermDiffers program.now (context_with (signatures_in functions.now) (bindings_from (entries_in names.now)) (templates_of program.now)) body input.now) b) }
 {
     let context = TypingContext::of_body(alloc, program, templates, functions, &*names)?;
-    part(alloc, &context, body, input)
+    part(&context, body, input)
 }
 
 /// What differs in a template. The names are those of all templates, in order.

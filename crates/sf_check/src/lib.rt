@@ -19,6 +19,6 @@ mod typing;
 pub use checked::Checked;
 pub use checker::check;
 pub use differing::difference;
-pub use laws::{accepted_or_refused, one_refusal, some_answer};
+pub use laws::{accepted_or_refused, judged_output, one_refusal, some_answer};
 pub use sf_differ::{Difference, Wanted};
 pub use sf_refusal::{Breach, Refusal, Rule, Spot};

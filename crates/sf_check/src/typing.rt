@@ -1,14 +1,15 @@
 //! The types of terms, under contexts.
-ghost use Rattle.std.specs.Prelude.{◌≡◌, ◌≢◌, ◌↔◌, ◌<◌, ◌≤◌, true, false, All, IsTrue, is_ok, IfOk, IfErr, OnOk};
+ghost use Rattle.std.specs.Prelude.{◌≡◌, ◌<◌, ◌≤◌, All, Some, IfOk, IfErr, OnOk};
 ghost use Rattle.sf_value.specs.Values.{pair_kind, event_kind, table_kind, IsNoPair};
 ghost use Rattle.sf_value.specs.KindView.{key_kind_of};
-ghost use Rattle.sf_refusal.specs.Refusals.{breach_of, broken, OrMemory};
+ghost use Rattle.sf_refusal.specs.Refusals.{broken, OrMemory};
 ghost use Rattle.sf_refusal.specs.declared.rule.Rule.TheVariants.{Mismatch};
 ghost use Rattle.sf_func.specs.Signatures.{signatures_in};
-ghost use Rattle.sf_expr.specs.Refusals.{Judges, JudgesFunction};
+ghost use Rattle.sf_expr.specs.Refusals.{Judges};
+ghost use Rattle.sf_expr.specs.Judging.{matching_at, fitting_at, judged, function_judged, Stops, GivesFound};
 ghost use Rattle.sf_expr.specs.Typing.{Fits};
-ghost use Rattle.sf_term.specs.Trees.{collection_depth, arguments_depth};
-ghost use Rattle.sf_term.specs.Arena.{term_number, term_node_at, term_spot_at, expressions_of, arguments_under, arguments_of, collection_under, collection_of, ArgumentBelow, CollectionBelow, template_in, templates_of};
+ghost use Rattle.sf_term.specs.Trees.{collection_depth};
+ghost use Rattle.sf_term.specs.Arena.{term_number, term_node_at, term_spot_at, expressions_of, arguments_under, collection_under, collection_of, ArgumentBelow, CollectionBelow, TermPartsBelow, template_in, templates_of};
 ghost use Rattle.sf_term.specs.declared.collection.CollExpr.TheVariants.{Used};
 ghost use Rattle.sf_term.specs.declared.collection.CollectionId.{CollectionId as CollectionIdIn};
 ghost use Rattle.sf_term.specs.ParameterView.{kind_of_form};
@@ -16,23 +17,24 @@ ghost use Rattle.sf_expr.specs.declared.exprs.Exprs.{Exprs};
 ghost use Rattle.sf_term.specs.declared.form.Start.{Start};
 ghost use Rattle.sf_term.specs.declared.form.Selection.{Selection};
 ghost use Rattle.sf_expr.specs.Scopes.{entries_in};
-ghost use Rattle.sf_mean.specs.Contexts.{Context, value, names_of_values, context_with};
-ghost use Rattle.sf_check.specs.Standing.{bindings_from, inside_names};
+ghost use Rattle.sf_mean.specs.Contexts.{Context, names_of_values, context_with};
+ghost use Rattle.sf_mean.specs.Inference.{value_is_argument};
+ghost use Rattle.sf_check.specs.Standing.{bindings_from, inside_names, keeping_inside, members_inside};
 ghost use Rattle.sf_operator.specs.Breaches.{AnswersKind};
-ghost use Rattle.sf_operator.specs.Kinds.{same_kind};
+ghost use Rattle.sf_operator.specs.Kinds.{same_kind, parts_of, payload_of};
 ghost use Rattle.sf_mean.specs.Typing.{value_kind, takes_input as an_input, takes_time as a_time, timed_kind, takes_number as a_number, selected_kind, accumulated_argument, accumulated_kind, IsTyped};
 ghost use Rattle.sf_check.specs.Contexts.{program_in, context_in};
-ghost use Rattle.sf_check.specs.Answering.{AnswersBare, AnswersPrimitive, AnswersArgument, AnswersTerm, AnswersBody, AnswersMembers, AnswersEdit};
+ghost use Rattle.sf_check.specs.Judging.{asked, beside_at, wanted_at, fed_at, primitive_judged, body_judged, edit_judged, argument_judged, members_judged, judged_as, term_judged, GivesMembers};
+ghost use Rattle.sf_check.specs.Answering.{AnswersBare, AnswersTerm, AnswersMembers};
 ghost use Rattle.sf_check.specs.Names.{names_of_set, program_names};
-ghost use Rattle.sf_check.specs.Breaking.{IsNoPairWith, IsNoEventBeside, TemplateBreaks, AreTyped, IsFirstBreak, keeping_inside, members_inside};
+ghost use Rattle.sf_check.specs.Breaking.{IsNoEventBeside, TemplateBreaks, AreTyped, IsFirstBreak};
 
 use crate::context::TypingContext;
 use crate::member_types::{MemberTypes, are_members, table_type, type_of_keys};
 use crate::parameters::parameter_names;
 use indexmap::IndexSet;
 use sf_expr::{
-    ConstantForm, ConstantId, ExprId, Frame, FunctionId, NameId, PatternId, function_type,
-    pair_type, type_of,
+    ConstantForm, ConstantId, ExprId, Frame, FunctionId, NameId, PatternId, function_type, type_of,
 };
 use sf_func::Signatures;
 use sf_operator::{event_type, pair_type as pair_of, payload, same};
@@ -49,7 +51,9 @@ use std::alloc::Global;
 pub(crate) fn parts(ty: &Ty, spot: Spot) -> Result<(&Ty, &Ty), Refusal>
     ensures ok { IfOk result (λ parts. ty.now ≡ pair_kind parts.0.now parts.1.now) }
     ensures fits { IfOk result (λ parts. Fits parts.0.now × Fits parts.1.now) }
+    ensures found { IfOk result (λ parts. matching_at spot (parts_of ty.now) ≡ Ok (parts.0.now, parts.1.now)) }
     ensures err { IfErr result (λ r. (r ≡ broken Mismatch spot) × IsNoPair ty.now) }
+    ensures stops { IfErr result (λ r. Stops r (matching_at spot (parts_of ty.now))) }
 {
     match ty.parts() {
         Some(parts) => Ok(parts),
@@ -62,27 +66,74 @@ pub(crate) fn parts(ty: &Ty, spot: Spot) -> Result<(&Ty, &Ty), Refusal>
 pub(crate) fn value_and_payload(ty: &Ty, spot: Spot) -> Result<(&Ty, &Ty), Refusal>
     ensures ok { IfOk result (λ types. ty.now ≡ pair_kind types.0.now (event_kind types.1.now)) }
     ensures fits { IfOk result (λ types. Fits types.0.now) }
+    ensures found { IfOk result (λ types. beside_at spot ty.now ≡ Ok (types.0.now, types.1.now)) }
     ensures err { IfErr result (λ r. (r ≡ broken Mismatch spot) × IsNoEventBeside ty.now) }
+    ensures stops { IfErr result (λ r. Stops r (beside_at spot ty.now)) }
 {
     let (value, event) = parts(ty, spot)?;
     Ok((value, payload(event, spot)?))
 }
 
-/// The type of a constant.
-pub(crate) fn constant_type(
-    alloc: Global,
-    context: &TypingContext,
-    value: ExprId,
-) -> Result<Ty, Refusal>
-    ensures { Judges (expressions_of (program_in context.now)) (names_of_values (context_in context.now)) value result }
+/// Whether two types are the same.
+fn is_same(left: &Ty, right: &Ty) -> bool
+    ensures { result ≡ same_kind left.now right.now }
+{
+    same_type(left, right)
+}
+
+/// Nothing where two types are the same; else refused with `Mismatch` at the spot.
+fn agree(left: &Ty, right: &Ty, spot: Spot) -> Result<(), Refusal>
+    ensures { GivesFound result (asked Mismatch spot (same_kind left.now right.now)) }
+{
+    if is_same(left, right) {
+        Ok(())
+    } else {
+        Err(Refusal::broken(Rule::Mismatch, spot))
+    }
+}
+
+/// The type of the payloads of a type of events; another type is refused with `Mismatch` at the spot.
+fn payload_at(ty: &Ty, spot: Spot) -> Result<&Ty, Refusal>
+    ensures found { IfOk result (λ t. matching_at spot (payload_of ty.now) ≡ Ok t.now) }
+    ensures stops { IfErr result (λ r. Stops r (matching_at spot (payload_of ty.now))) }
+{
+    payload(ty, spot)
+}
+
+/// The type of pairs of two types. Refused at the spot with `TypeTooLarge`, and with `Memory`.
+#[tactic(auto, using(sf_expr::proofs::Judged::kind_answers))]
+fn both_at(alloc: Global, first: &Ty, second: &Ty, spot: Spot) -> Result<Ty, Refusal>
+    ensures { GivesFound result (fitting_at spot (Some (pair_kind first.now second.now))) }
+{
+    pair_of(alloc, first, second, spot)
+}
+
+/// The type of the tables of members with these types. Refused at the spot with `TypeTooLarge`, and with `Memory`.
+#[tactic(auto, using(sf_expr::proofs::Judged::kind_answers))]
+fn table_at(alloc: Global, types: &MemberTypes, spot: Spot) -> Result<Ty, Refusal>
+    ensures { GivesFound result (fitting_at spot (Some (table_kind (key_kind_of types.now.keys) types.now.output))) }
+{
+    table_type(alloc, types, spot)
+}
+
+/// The type of a value.
+fn value_type(context: &TypingContext, value: ExprId) -> Result<Ty, Refusal>
+    ensures { GivesFound result (judged (expressions_of (program_in context.now)) value (names_of_values (context_in context.now))) }
 {
     type_of(
-        alloc,
+        context.alloc,
         context.program.expressions(),
         value,
         &context.names,
         context.functions,
     )
+}
+
+/// The type of a constant.
+pub(crate) fn constant_type(context: &TypingContext, value: ExprId) -> Result<Ty, Refusal>
+    ensures { Judges (expressions_of (program_in context.now)) (names_of_values (context_in context.now)) value result }
+{
+    value_type(context, value)
 }
 
 /// The type of the outputs of a primitive without constants on inputs of a type. Refused at the spot with `BarePre` where it
@@ -120,18 +171,17 @@ fn bare_output(alloc: Global, kind: Bare, input: &Ty, spot: Spot) -> Result<Ty, 
 
 /// The type of no event, of payloads of the type of a constant. Refused at the spot with `TypeTooLarge`, and with `Memory`.
 fn never_output(
-    alloc: Global,
     context: &TypingContext,
     constant: ConstantId,
     input: &Ty,
     spot: Spot,
 ) -> Result<Ty, Refusal>
-    ensures { AnswersPrimitive (expressions_of (program_in context.now)) (context_in context.now) (Primitive.Never constant) input.now spot result }
+    ensures { GivesFound result (primitive_judged (expressions_of (program_in context.now)) spot (Primitive.Never constant) (context_in context.now) input.now) }
 {
     let constant = context.program.expressions().constant_at(constant);
     match constant.form() {
-        ConstantForm::NoEvent(payload) => event_type(alloc, payload, spot),
-        ConstantForm::Text(_) => event_type(alloc, &Ty::unit(), spot),
+        ConstantForm::NoEvent(payload) => event_type(context.alloc, payload, spot),
+        ConstantForm::Text(_) => event_type(context.alloc, &Ty::unit(), spot),
     }
 }
 
@@ -182,18 +232,18 @@ fn given_output(
 }
 
 /// The type of the outputs of a primitive with a value on inputs of a type.
+#[tactic(auto, using(sf_expr::proofs::Judged::stops_then, sf_expr::proofs::Judged::kind_answers))]
 fn value_output(
-    alloc: Global,
     context: &TypingContext,
     kind: WithValue,
     value: ExprId,
     input: &Ty,
     spot: Spot,
 ) -> Result<Ty, Refusal>
-    ensures { AnswersPrimitive (expressions_of (program_in context.now)) (context_in context.now) (Primitive.WithValue kind value) input.now spot result }
+    ensures { GivesFound result (primitive_judged (expressions_of (program_in context.now)) spot (Primitive.WithValue kind value) (context_in context.now) input.now) }
 {
-    let given = constant_type(alloc, context, value)?;
-    given_output(alloc, kind, given, input, spot)
+    let given = value_type(context, value)?;
+    given_output(context.alloc, kind, given, input, spot)
 }
 
 /// Whether a form takes a time, in milliseconds.
@@ -208,12 +258,11 @@ fn takes_time(kind: Timing, time: i64) -> bool
 
 /// Nothing where a form with a value of a type takes inputs of a type; else refused at the spot with `Mismatch`.
 fn takes_input(kind: Timing, given: &Ty, input: &Ty, spot: Spot) -> Result<(), Refusal>
-    ensures ok { OnOk result (an_input kind given.now input.now ≡ true) }
-    ensures err { IfErr result (λ r. (an_input kind given.now input.now ≡ false) × (r ≡ broken Mismatch spot)) }
+    ensures { GivesFound result (asked Mismatch spot (an_input kind given.now input.now)) }
 {
     match kind {
         Timing::After | Timing::Repeatedly => Ok(()),
-        Timing::Delay => same(input, given, spot),
+        Timing::Delay => agree(input, given, spot),
     }
 }
 
@@ -229,8 +278,8 @@ fn timed_type(alloc: Global, kind: Timing, given: Ty, spot: Spot) -> Result<Ty, 
 }
 
 /// The type of the outputs of a primitive with a time and a value on inputs of a type.
+#[tactic(auto, using(sf_expr::proofs::Judged::stops_then))]
 fn timed_output(
-    alloc: Global,
     context: &TypingContext,
     kind: Timing,
     time: i64,
@@ -238,14 +287,14 @@ fn timed_output(
     input: &Ty,
     spot: Spot,
 ) -> Result<Ty, Refusal>
-    ensures { AnswersPrimitive (expressions_of (program_in context.now)) (context_in context.now) (Primitive.Timed kind time value) input.now spot result }
+    ensures { GivesFound result (primitive_judged (expressions_of (program_in context.now)) spot (Primitive.Timed kind time value) (context_in context.now) input.now) }
 {
-    let given = constant_type(alloc, context, value)?;
+    let given = value_type(context, value)?;
     takes_input(kind, &given, input, spot)?;
     if !takes_time(kind, time) {
         return Err(Refusal::broken(Rule::BadConstant, spot));
     }
-    timed_type(alloc, kind, given, spot)
+    timed_type(context.alloc, kind, given, spot)
 }
 
 /// Whether this is a number of events that a form takes.
@@ -266,7 +315,7 @@ fn selected_type(alloc: Global, input: &Ty, spot: Spot) -> Result<Ty, Refusal>
 
 /// The type of the outputs of a primitive with a number of events on inputs of a type.
 fn selected_output(alloc: Global, count: i64, input: &Ty, spot: Spot) -> Result<Ty, Refusal>
-    ensures { (x : Exprs) (Γ : Context) (kind : Selection) → AnswersPrimitive x Γ (Primitive.Selected kind count) input.now spot result }
+    ensures { (x : Exprs) (Γ : Context) (kind : Selection) → GivesFound result (primitive_judged x spot (Primitive.Selected kind count) Γ input.now) }
 {
     let output = selected_type(alloc, input, spot)?;
     if !takes_number(count) {
@@ -277,16 +326,15 @@ fn selected_output(alloc: Global, count: i64, input: &Ty, spot: Spot) -> Result<
 
 /// The type of what a function answers to values of a type.
 fn answer_type(
-    alloc: Global,
     context: &TypingContext,
     function: FunctionId,
     argument: &Ty,
     spot: Spot,
 ) -> Result<Ty, Refusal>
-    ensures { JudgesFunction (expressions_of (program_in context.now)) (names_of_values (context_in context.now)) function argument.now spot result }
+    ensures { GivesFound result (function_judged (expressions_of (program_in context.now)) function spot argument.now (names_of_values (context_in context.now))) }
 {
     function_type(
-        alloc,
+        context.alloc,
         context.program.expressions(),
         function,
         argument,
@@ -349,8 +397,8 @@ fn accumulated_type(
 }
 
 /// The type of the outputs of an accumulation on inputs of a type.
+#[tactic(auto, using(sf_expr::proofs::Judged::stops_then))]
 fn accumulated_output(
-    alloc: Global,
     context: &TypingContext,
     kind: Accumulation,
     value: ExprId,
@@ -358,58 +406,51 @@ fn accumulated_output(
     input: &Ty,
     spot: Spot,
 ) -> Result<Ty, Refusal>
-    ensures { AnswersPrimitive (expressions_of (program_in context.now)) (context_in context.now) (Primitive.Accumulated kind value function) input.now spot result }
+    ensures { GivesFound result (primitive_judged (expressions_of (program_in context.now)) spot (Primitive.Accumulated kind value function) (context_in context.now) input.now) }
 {
-    let given = constant_type(alloc, context, value)?;
-    let argument = accumulated_argument_type(alloc, kind, &given, input, spot)?;
-    let made = answer_type(alloc, context, function, &argument, spot)?;
-    accumulated_type(alloc, kind, given, input, made, spot)
+    let given = value_type(context, value)?;
+    let argument = accumulated_argument_type(context.alloc, kind, &given, input, spot)?;
+    let made = answer_type(context, function, &argument, spot)?;
+    accumulated_type(context.alloc, kind, given, input, made, spot)
 }
 
 /// The type of the outputs of a primitive on inputs of a type.
 fn primitive_output(
-    alloc: Global,
     context: &TypingContext,
     primitive: Primitive,
     input: &Ty,
     spot: Spot,
 ) -> Result<Ty, Refusal>
-    ensures { AnswersPrimitive (expressions_of (program_in context.now)) (context_in context.now) primitive input.now spot result }
+    ensures { GivesFound result (primitive_judged (expressions_of (program_in context.now)) spot primitive (context_in context.now) input.now) }
 {
     match primitive {
-        Primitive::Bare(kind) => bare_output(alloc, kind, input, spot),
-        Primitive::Never(constant) => never_output(alloc, context, constant, input, spot),
-        Primitive::WithValue(kind, value) => {
-            value_output(alloc, context, kind, value, input, spot)
-        }
+        Primitive::Bare(kind) => bare_output(context.alloc, kind, input, spot),
+        Primitive::Never(constant) => never_output(context, constant, input, spot),
+        Primitive::WithValue(kind, value) => { value_output(context, kind, value, input, spot) }
         Primitive::Timed(kind, time, value) => {
-            timed_output(alloc, context, kind, time, value, input, spot)
+            timed_output(context, kind, time, value, input, spot)
         }
-        Primitive::Selected(_, count) => selected_output(alloc, count, input, spot),
-        Primitive::Arrow(function) => answer_type(alloc, context, function, input, spot),
+        Primitive::Selected(_, count) => selected_output(context.alloc, count, input, spot),
+        Primitive::Arrow(function) => answer_type(context, function, input, spot),
         Primitive::Accumulated(kind, value, function) => {
-            accumulated_output(alloc, context, kind, value, function, input, spot)
+            accumulated_output(context, kind, value, function, input, spot)
         }
     }
 }
 
 /// The type of the outputs of a loop, by the type of its part's outputs: pairs, whose second parts are fed back.
+#[tactic(auto, using(sf_expr::proofs::Judged::stops_then))]
 fn loop_output(alloc: Global, output: &Ty, fed: &Ty, spot: Spot) -> Result<Ty, Refusal>
-    ensures ok { IfOk result (λ t. output.now ≡ pair_kind t fed.now) }
-    ensures err { IfErr result (OrMemory (λ b. (b ≡ breach_of Mismatch spot) × IsNoPairWith fed.now output.now)) }
+    ensures { GivesFound result (fed_at spot output.now fed.now) }
 {
     let (first, second) = parts(output, spot)?;
-    if same_type(second, fed) {
-        Ok(first.clone_in(alloc)?)
-    } else {
-        Err(Refusal::broken(Rule::Mismatch, spot))
-    }
+    agree(second, fed, spot)?;
+    Ok(first.clone_in(alloc)?)
 }
 
 /// The type of the outputs of two parts that are joined on inputs of a type.
 #[cycle(output)]
 fn joined_output(
-    alloc: Global,
     context: &TypingContext,
     term: TermId,
     join: Join,
@@ -417,116 +458,104 @@ fn joined_output(
     right: TermId,
     input: &Ty,
 ) -> Result<Ty, Refusal>
-    requires fits { Fits input.now }
-    requires there { term_node_at (program_in context.now) term ≡ Node.Joined join left right }
     requires below { (term_number left < term_number term) × (term_number right < term_number term) }
-    ensures { AnswersTerm (program_in context.now) (context_in context.now) term input.now result }
+    ensures { GivesFound result (judged_as (program_in context.now) term (Node.Joined join left right) (context_in context.now) input.now) }
 {
     match join {
-        Join::InSequence => sequence_output(alloc, context, term, left, right, input),
-        Join::InParallel => parallel_output(alloc, context, term, left, right, input),
-        Join::FannedOut => fan_output(alloc, context, term, left, right, input),
+        Join::InSequence => sequence_output(context, term, left, right, input),
+        Join::InParallel => parallel_output(context, term, left, right, input),
+        Join::FannedOut => fan_output(context, term, left, right, input),
     }
 }
 
 /// The type of the outputs of two parts in sequence on inputs of a type.
 #[cycle(output)]
+#[tactic(auto, using(sf_expr::proofs::Judged::stops_then))]
 fn sequence_output(
-    alloc: Global,
     context: &TypingContext,
     term: TermId,
     left: TermId,
     right: TermId,
     input: &Ty,
 ) -> Result<Ty, Refusal>
-    requires fits { Fits input.now }
-    requires there { term_node_at (program_in context.now) term ≡ Node.Joined Join.InSequence left right }
     requires below { (term_number left < term_number term) × (term_number right < term_number term) }
-    ensures { AnswersTerm (program_in context.now) (context_in context.now) term input.now result }
+    ensures { GivesFound result (judged_as (program_in context.now) term (Node.Joined Join.InSequence left right) (context_in context.now) input.now) }
 {
-    let middle = output_of(alloc, context, left, input)?;
-    output_of(alloc, context, right, &middle)
+    let middle = judge(context, left, input)?;
+    judge(context, right, &middle)
 }
 
 /// The type of the outputs of two parts side by side on inputs of a type.
 #[cycle(output)]
+#[tactic(auto, using(sf_expr::proofs::Judged::stops_then))]
 fn parallel_output(
-    alloc: Global,
     context: &TypingContext,
     term: TermId,
     left: TermId,
     right: TermId,
     input: &Ty,
 ) -> Result<Ty, Refusal>
-    requires fits { Fits input.now }
-    requires there { term_node_at (program_in context.now) term ≡ Node.Joined Join.InParallel left right }
     requires below { (term_number left < term_number term) × (term_number right < term_number term) }
-    ensures { AnswersTerm (program_in context.now) (context_in context.now) term input.now result }
+    ensures { GivesFound result (judged_as (program_in context.now) term (Node.Joined Join.InParallel left right) (context_in context.now) input.now) }
 {
     let spot = context.program.spot(term);
     let (a, b) = parts(input, spot)?;
-    let first = output_of(alloc, context, left, a)?;
-    let second = output_of(alloc, context, right, b)?;
-    pair_type(alloc, first, second, spot)
+    let first = judge(context, left, a)?;
+    let second = judge(context, right, b)?;
+    both_at(context.alloc, &first, &second, spot)
 }
 
 /// The type of the outputs of two parts that both stand on the input, on inputs of a type.
 #[cycle(output)]
+#[tactic(auto, using(sf_expr::proofs::Judged::stops_then))]
 fn fan_output(
-    alloc: Global,
     context: &TypingContext,
     term: TermId,
     left: TermId,
     right: TermId,
     input: &Ty,
 ) -> Result<Ty, Refusal>
-    requires fits { Fits input.now }
-    requires there { term_node_at (program_in context.now) term ≡ Node.Joined Join.FannedOut left right }
     requires below { (term_number left < term_number term) × (term_number right < term_number term) }
-    ensures { AnswersTerm (program_in context.now) (context_in context.now) term input.now result }
+    ensures { GivesFound result (judged_as (program_in context.now) term (Node.Joined Join.FannedOut left right) (context_in context.now) input.now) }
 {
     let spot = context.program.spot(term);
-    let first = output_of(alloc, context, left, input)?;
-    let second = output_of(alloc, context, right, input)?;
-    pair_type(alloc, first, second, spot)
+    let first = judge(context, left, input)?;
+    let second = judge(context, right, input)?;
+    both_at(context.alloc, &first, &second, spot)
 }
 
 /// The type of the outputs of a part on one side of a pair, on inputs of a type.
 #[cycle(output)]
+#[tactic(auto, using(sf_expr::proofs::Judged::stops_then))]
 fn sided_output(
-    alloc: Global,
     context: &TypingContext,
     term: TermId,
     side: Side,
     part: TermId,
     input: &Ty,
 ) -> Result<Ty, Refusal>
-    requires fits { Fits input.now }
-    requires there { term_node_at (program_in context.now) term ≡ Node.Sided side part }
     requires below { term_number part < term_number term }
-    ensures { AnswersTerm (program_in context.now) (context_in context.now) term input.now result }
+    ensures { GivesFound result (judged_as (program_in context.now) term (Node.Sided side part) (context_in context.now) input.now) }
 {
     let spot = context.program.spot(term);
     let (a, b) = parts(input, spot)?;
     match side {
         Side::First => {
-            let first = output_of(alloc, context, part, a)?;
-            pair_of(alloc, &first, b, spot)
+            let first = judge(context, part, a)?;
+            both_at(context.alloc, &first, b, spot)
         }
         Side::Second => {
-            let second = output_of(alloc, context, part, b)?;
-            pair_of(alloc, a, &second, spot)
+            let second = judge(context, part, b)?;
+            both_at(context.alloc, a, &second, spot)
         }
     }
 }
 
 /// The type of outputs, where it is the one that is wanted; another one is refused with `Mismatch` at the spot.
 fn wanted_output(output: Ty, wanted: &Ty, spot: Spot) -> Result<Ty, Refusal>
-    ensures same { same_kind output wanted.now ≡ is_ok result }
-    ensures ok { IfOk result (λ t. t ≡ output) }
-    ensures err { IfErr result (λ r. r ≡ broken Mismatch spot) }
+    ensures { GivesFound result (wanted_at spot output wanted.now) }
 {
-    same(&output, wanted, spot)?;
+    agree(&output, wanted, spot)?;
     Ok(output)
 }
 
@@ -534,7 +563,6 @@ fn wanted_output(output: Ty, wanted: &Ty, spot: Spot) -> Result<Ty, Refusal>
 /// a type.
 #[cycle(output)]
 fn body_output(
-    alloc: Global,
     context: &TypingContext,
     pattern: PatternId,
     payload: &Ty,
@@ -543,35 +571,32 @@ fn body_output(
     wanted: &Ty,
     spot: Spot,
 ) -> Result<Ty, Refusal>
-    requires { Fits input.now }
-    ensures { AnswersBody (program_in context.now) (context_in context.now) spot pattern body input.now wanted.now payload.now result }
+    ensures { GivesFound result (body_judged (program_in context.now) spot pattern (term_judged (program_in context.now) body) input.now wanted.now payload.now (context_in context.now)) }
 {
-    let names = (&*context).pattern_names(alloc, pattern, &*payload, spot)?;
-    let given = output_within(alloc, context, &names, body, input)?;
+    let names = (&*context).pattern_names(pattern, &*payload, spot)?;
+    let given = output_within(context, &names, body, input)?;
     wanted_output(given, wanted, spot)
 }
 
 /// The type of the outputs of a body inside names, on inputs of a type.
 #[cycle(output)]
 fn output_within(
-    alloc: Global,
     context: &TypingContext,
     names: &Frame,
     body: TermId,
     input: &Ty,
 ) -> Result<Ty, Refusal>
-    requires { Fits input.now }
-    ensures { AnswersTerm (program_in context.now) (inside_names names.now (context_in context.now)) body input.now result }
+    ensures { GivesFound result (term_judged (program_in context.now) body (inside_names names.now (context_in context.now)) input.now) }
 {
-    let inner = (&*context).within(alloc, &*names)?;
-    output_of(alloc, &inner, body, input)
+    let inner = (&*context).within(&*names)?;
+    judge(&inner, body, input)
 }
 
 /// The type of the outputs of a part with a value at its head, on inputs of a type. A value that is fed back has the type of
 /// the second outputs, one in the place of an input that of the inputs, and any other that of the outputs.
 #[cycle(output)]
+#[tactic(auto, using(sf_expr::proofs::Judged::stops_then))]
 fn headed_output(
-    alloc: Global,
     context: &TypingContext,
     term: TermId,
     heading: Heading,
@@ -579,26 +604,24 @@ fn headed_output(
     part: TermId,
     input: &Ty,
 ) -> Result<Ty, Refusal>
-    requires fits { Fits input.now }
-    requires there { term_node_at (program_in context.now) term ≡ Node.Headed heading value part }
     requires below { term_number part < term_number term }
-    ensures { AnswersTerm (program_in context.now) (context_in context.now) term input.now result }
+    ensures { GivesFound result (judged_as (program_in context.now) term (Node.Headed heading value part) (context_in context.now) input.now) }
 {
     let spot = context.program.spot(term);
-    let given = constant_type(alloc, context, value)?;
+    let given = value_type(context, value)?;
     match heading {
         Heading::LoopPre => {
-            let fed = pair_of(alloc, input, &given, spot)?;
-            let output = output_of(alloc, context, part, &fed)?;
-            loop_output(alloc, &output, &given, spot)
+            let fed = both_at(context.alloc, input, &given, spot)?;
+            let output = judge(context, part, &fed)?;
+            loop_output(context.alloc, &output, &given, spot)
         }
         Heading::Replaced => {
-            let output = output_of(alloc, context, part, input)?;
-            same(&given, input, spot)?;
+            let output = judge(context, part, input)?;
+            agree(&given, input, spot)?;
             Ok(output)
         }
         Heading::Initialized | Heading::Followed => {
-            let output = output_of(alloc, context, part, input)?;
+            let output = judge(context, part, input)?;
             wanted_output(output, &given, spot)
         }
     }
@@ -606,66 +629,58 @@ fn headed_output(
 
 /// The type of the outputs of a part whose first input is what a function makes of it, on inputs of a type.
 #[cycle(output)]
+#[tactic(auto, using(sf_expr::proofs::Judged::stops_then))]
 fn transformed_output(
-    alloc: Global,
     context: &TypingContext,
     term: TermId,
     function: FunctionId,
     part: TermId,
     input: &Ty,
 ) -> Result<Ty, Refusal>
-    requires fits { Fits input.now }
-    requires there { term_node_at (program_in context.now) term ≡ Node.Transformed function part }
     requires below { term_number part < term_number term }
-    ensures { AnswersTerm (program_in context.now) (context_in context.now) term input.now result }
+    ensures { GivesFound result (judged_as (program_in context.now) term (Node.Transformed function part) (context_in context.now) input.now) }
 {
     let spot = context.program.spot(term);
-    let made = answer_type(alloc, context, function, input, spot)?;
-    let output = output_of(alloc, context, part, input)?;
-    same(&made, input, spot)?;
+    let made = answer_type(context, function, input, spot)?;
+    let output = judge(context, part, input)?;
+    agree(&made, input, spot)?;
     Ok(output)
 }
 
 /// The type of the outputs of a term that gives way to another inside a pattern, on inputs of a type.
 #[cycle(output)]
 fn switching_output(
-    alloc: Global,
     context: &TypingContext,
     term: TermId,
     form: Switch,
     input: &Ty,
 ) -> Result<Ty, Refusal>
-    requires fits { Fits input.now }
-    requires there { term_node_at (program_in context.now) term ≡ Node.Switching form }
     requires below { (term_number form.source < term_number term) × (term_number form.body < term_number term) }
-    ensures { AnswersTerm (program_in context.now) (context_in context.now) term input.now result }
+    ensures { GivesFound result (judged_as (program_in context.now) term (Node.Switching form) (context_in context.now) input.now) }
 {
     match form.form {
-        Switching::Basic(shown) => basic_output(alloc, context, term, shown, form, input),
-        Switching::Recurring(shown) => recurring_output(alloc, context, term, shown, form, input),
+        Switching::Basic(shown) => basic_output(context, term, shown, form, input),
+        Switching::Recurring(shown) => recurring_output(context, term, shown, form, input),
     }
 }
 
 /// The type of the outputs of a term that gives way at an event of its own, on inputs of a type.
 #[cycle(output)]
+#[tactic(auto, using(sf_expr::proofs::Judged::stops_then))]
 fn basic_output(
-    alloc: Global,
     context: &TypingContext,
     term: TermId,
     shown: Observation,
     form: Switch,
     input: &Ty,
 ) -> Result<Ty, Refusal>
-    requires fits { Fits input.now }
-    requires there { term_node_at (program_in context.now) term ≡ Node.Switching (record form { form = Switching.Basic shown }) }
     requires below { (term_number form.source < term_number term) × (term_number form.body < term_number term) }
-    ensures { AnswersTerm (program_in context.now) (context_in context.now) term input.now result }
+    ensures { GivesFound result (judged_as (program_in context.now) term (Node.Switching (record form { form = Switching.Basic shown })) (context_in context.now) input.now) }
 {
     let spot = context.program.spot(term);
-    let output = output_of(alloc, context, form.source, input)?;
+    let output = judge(context, form.source, input)?;
     let (value, payload) = value_and_payload(&output, spot)?;
     body_output(
-        alloc,
         context,
         form.pattern,
         payload,
@@ -678,24 +693,21 @@ fn basic_output(
 
 /// The type of the outputs of a term that gives way at an event beside its input, on inputs of a type.
 #[cycle(output)]
+#[tactic(auto, using(sf_expr::proofs::Judged::stops_then))]
 fn recurring_output(
-    alloc: Global,
     context: &TypingContext,
     term: TermId,
     shown: Observation,
     form: Switch,
     input: &Ty,
 ) -> Result<Ty, Refusal>
-    requires fits { Fits input.now }
-    requires there { term_node_at (program_in context.now) term ≡ Node.Switching (record form { form = Switching.Recurring shown }) }
     requires below { (term_number form.source < term_number term) × (term_number form.body < term_number term) }
-    ensures { AnswersTerm (program_in context.now) (context_in context.now) term input.now result }
+    ensures { GivesFound result (judged_as (program_in context.now) term (Node.Switching (record form { form = Switching.Recurring shown })) (context_in context.now) input.now) }
 {
     let spot = context.program.spot(term);
     let (value, payload) = value_and_payload(input, spot)?;
-    let output = output_of(alloc, context, form.source, value)?;
+    let output = judge(context, form.source, value)?;
     body_output(
-        alloc,
         context,
         form.pattern,
         payload,
@@ -709,25 +721,22 @@ fn recurring_output(
 /// The type of the outputs of a term that gives way to another inside a pattern at the event that an observer sees, and is
 /// then known by a name, on inputs of a type.
 #[cycle(output)]
+#[tactic(auto, using(sf_expr::proofs::Judged::stops_then))]
 fn keeping_output(
-    alloc: Global,
     context: &TypingContext,
     term: TermId,
     form: Keeping,
     input: &Ty,
 ) -> Result<Ty, Refusal>
-    requires fits { Fits input.now }
-    requires there { term_node_at (program_in context.now) term ≡ Node.Keeping form }
     requires below { (term_number form.source < term_number term) × (term_number form.observer < term_number term) × (term_number form.body < term_number term) }
-    ensures { AnswersTerm (program_in context.now) (context_in context.now) term input.now result }
+    ensures { GivesFound result (judged_as (program_in context.now) term (Node.Keeping form) (context_in context.now) input.now) }
 {
     let spot = context.program.spot(term);
-    let value = output_of(alloc, context, form.source, input)?;
-    let watched = pair_of(alloc, input, &value, spot)?;
-    let seen = output_of(alloc, context, form.observer, &watched)?;
-    let payload = payload(&seen, spot)?;
+    let value = judge(context, form.source, input)?;
+    let watched = both_at(context.alloc, input, &value, spot)?;
+    let seen = judge(context, form.observer, &watched)?;
+    let payload = payload_at(&seen, spot)?;
     kept_output(
-        alloc,
         context,
         form.name,
         form.pattern,
@@ -743,7 +752,6 @@ fn keeping_output(
 /// a type and the name of a process from the one to the other.
 #[cycle(output)]
 fn kept_output(
-    alloc: Global,
     context: &TypingContext,
     name: NameId,
     pattern: PatternId,
@@ -753,20 +761,16 @@ fn kept_output(
     wanted: &Ty,
     spot: Spot,
 ) -> Result<Ty, Refusal>
-    requires { Fits input.now }
-    ensures { AnswersBody (program_in context.now) (keeping_inside (program_in context.now) name input.now wanted.now (context_in context.now)) spot pattern body input.now wanted.now payload.now result }
+    ensures { GivesFound result (body_judged (program_in context.now) spot pattern (term_judged (program_in context.now) body) input.now wanted.now payload.now (keeping_inside (program_in context.now) name input.now wanted.now (context_in context.now))) }
 {
-    let names = (&*context).process_name(alloc, name, &*input, &*wanted)?;
-    body_within(
-        alloc, context, &names, pattern, payload, body, input, wanted, spot,
-    )
+    let names = (&*context).process_name(name, &*input, &*wanted)?;
+    body_within(context, &names, pattern, payload, body, input, wanted, spot)
 }
 
 /// The type of the outputs of a body inside names, on inputs of a type, which gives what is wanted of it inside the pattern
 /// for payloads of a type.
 #[cycle(output)]
 fn body_within(
-    alloc: Global,
     context: &TypingContext,
     names: &Frame,
     pattern: PatternId,
@@ -776,33 +780,31 @@ fn body_within(
     wanted: &Ty,
     spot: Spot,
 ) -> Result<Ty, Refusal>
-    requires { Fits input.now }
-    ensures { AnswersBody (program_in context.now) (inside_names names.now (context_in context.now)) spot pattern body input.now wanted.now payload.now result }
+    ensures { GivesFound result (body_judged (program_in context.now) spot pattern (term_judged (program_in context.now) body) input.now wanted.now payload.now (inside_names names.now (context_in context.now))) }
 {
-    let inner = (&*context).within(alloc, &*names)?;
-    body_output(alloc, &inner, pattern, payload, body, input, wanted, spot)
+    let inner = (&*context).within(&*names)?;
+    body_output(&inner, pattern, payload, body, input, wanted, spot)
 }
 
 /// The types of the collection of a name, whose members are given inputs of a type.
+#[tactic(auto, using(sf_expr::proofs::Judged::stops_then))]
 fn used_types(
-    alloc: Global,
     context: &TypingContext,
     name: NameId,
     place: Spot,
     spot: Spot,
     input: &Ty,
 ) -> Result<MemberTypes, Refusal>
-    ensures { AnswersMembers (program_in context.now) (context_in context.now) (Used name place spot) input.now result }
+    ensures { GivesMembers result (members_judged (program_in context.now) (term_judged (program_in context.now)) (Used name place spot) (context_in context.now) input.now) }
 {
     let types = context.collection(name, place)?;
-    same(input, types.from, spot)?;
-    Ok(MemberTypes::new(alloc, types.keys, types.to)?)
+    agree(input, types.from, spot)?;
+    Ok(MemberTypes::new(context.alloc, types.keys, types.to)?)
 }
 
 /// Nothing where two collections have the same types; else refused with `Mismatch` at the spot.
 fn same_members(left: &MemberTypes, right: &MemberTypes, spot: Spot) -> Result<(), Refusal>
-    ensures ok { OnOk result (table_kind (key_kind_of left.now.keys) left.now.output ≡ table_kind (key_kind_of right.now.keys) right.now.output) }
-    ensures err { IfErr result (λ r. (table_kind (key_kind_of left.now.keys) left.now.output ≢ table_kind (key_kind_of right.now.keys) right.now.output) × (r ≡ broken Mismatch spot)) }
+    ensures { GivesFound result (asked Mismatch spot (same_kind (table_kind (key_kind_of left.now.keys) left.now.output) (table_kind (key_kind_of right.now.keys) right.now.output))) }
 {
     if are_members(left, right.keys, &right.output) {
         Ok(())
@@ -813,20 +815,18 @@ fn same_members(left: &MemberTypes, right: &MemberTypes, spot: Spot) -> Result<(
 
 /// The types of the collection at an id, which a form has, on inputs of a type.
 #[cycle(output)]
-pub(crate) fn members_at(
-    alloc: Global,
+fn judge_members(
     context: &TypingContext,
     form: TermId,
     members: CollectionId,
     input: &Ty,
 ) -> Result<MemberTypes, Refusal>
-    requires fits { Fits input.now }
     requires below { CollectionBelow (term_number form) (collection_under (program_in context.now) members) }
     requires shallow { collection_depth (collection_of (program_in context.now) (collection_under (program_in context.now) members)) ≤ 64 }
-    ensures { AnswersMembers (program_in context.now) (context_in context.now) (collection_under (program_in context.now) members) input.now result }
+    ensures { GivesMembers result (members_judged (program_in context.now) (term_judged (program_in context.now)) (collection_under (program_in context.now) members) (context_in context.now) input.now) }
 {
     match context.program.collection(members) {
-        Some(collection) => members_of(alloc, context, form, collection, input),
+        Some(collection) => members_of(context, form, collection, input),
         None => Ok(MemberTypes {
             keys: KeyType::Int,
             output: Ty::unit(),
@@ -836,49 +836,47 @@ pub(crate) fn members_at(
 
 /// The types of a collection, which a form has, on inputs of a type, or the first rule that is broken in it.
 #[cycle(output)]
+#[tactic(auto, using(sf_expr::proofs::Judged::stops_then))]
 fn members_of(
-    alloc: Global,
     context: &TypingContext,
     form: TermId,
     collection: &CollExpr,
     input: &Ty,
 ) -> Result<MemberTypes, Refusal>
-    requires fits { Fits input.now }
     requires below { CollectionBelow (term_number form) collection.now }
     requires shallow { collection_depth (collection_of (program_in context.now) collection.now) ≤ 64 }
-    ensures { AnswersMembers (program_in context.now) (context_in context.now) collection.now input.now result }
+    ensures { GivesMembers result (members_judged (program_in context.now) (term_judged (program_in context.now)) collection.now (context_in context.now) input.now) }
 {
     match collection {
-        CollExpr::Empty(keys, output, _) => Ok(MemberTypes::new(alloc, *keys, output)?),
-        CollExpr::Used(name, place, spot) => {
-            used_types(alloc, context, *name, *place, *spot, input)
-        }
+        CollExpr::Empty(keys, output, _) => Ok(MemberTypes::new(context.alloc, *keys, output)?),
+        CollExpr::Used(name, place, spot) => { used_types(context, *name, *place, *spot, input) }
         CollExpr::Added(members, key, term, spot) => {
-            let types = members_of(alloc, context, form, members, input)?;
-            let given = constant_type(alloc, context, *key)?;
-            let output = output_of(alloc, context, *term, input)?;
-            same(&given, &type_of_keys(types.keys), *spot)?;
-            same(&output, &types.output, *spot)?;
+            prove!(input.nodes() <= 256);
+            let types = members_of(context, form, members, input)?;
+            let given = value_type(context, *key)?;
+            let output = judge(context, *term, input)?;
+            agree(&given, &type_of_keys(types.keys), *spot)?;
+            agree(&output, &types.output, *spot)?;
             Ok(types)
         }
         CollExpr::Dropped(members, key, spot) => {
-            let types = members_of(alloc, context, form, members, input)?;
-            let given = constant_type(alloc, context, *key)?;
-            same(&given, &type_of_keys(types.keys), *spot)?;
+            let types = members_of(context, form, members, input)?;
+            let given = value_type(context, *key)?;
+            agree(&given, &type_of_keys(types.keys), *spot)?;
             Ok(types)
         }
         CollExpr::Kept(members, function, spot) => {
-            let types = members_of(alloc, context, form, members, input)?;
+            let types = members_of(context, form, members, input)?;
             let keys = type_of_keys(types.keys);
-            let kept = answer_type(alloc, context, *function, &keys, *spot)?;
-            same(&kept, &Ty::bool(), *spot)?;
+            let kept = answer_type(context, *function, &keys, *spot)?;
+            agree(&kept, &Ty::bool(), *spot)?;
             Ok(types)
         }
         CollExpr::Chosen(condition, one, other, spot) => {
-            let given = constant_type(alloc, context, *condition)?;
-            let types = members_of(alloc, context, form, one, input)?;
-            let others = members_of(alloc, context, form, other, input)?;
-            same(&given, &Ty::bool(), *spot)?;
+            let given = value_type(context, *condition)?;
+            let types = members_of(context, form, one, input)?;
+            let others = members_of(context, form, other, input)?;
+            agree(&given, &Ty::bool(), *spot)?;
             same_members(&others, &types, *spot)?;
             Ok(types)
         }
@@ -887,51 +885,48 @@ fn members_of(
 
 /// The type of the tables that the members of a collection give, on inputs of a type.
 #[cycle(output)]
+#[tactic(auto, using(sf_expr::proofs::Judged::stops_then))]
 fn gathered_output(
-    alloc: Global,
     context: &TypingContext,
     term: TermId,
     members: CollectionId,
     input: &Ty,
 ) -> Result<Ty, Refusal>
-    requires fits { Fits input.now }
     requires there { term_node_at (program_in context.now) term ≡ Node.Gathered members }
     requires below { CollectionBelow (term_number term) (collection_under (program_in context.now) members) }
-    ensures { AnswersTerm (program_in context.now) (context_in context.now) term input.now result }
+    ensures { GivesFound result (judged_as (program_in context.now) term (Node.Gathered members) (context_in context.now) input.now) }
 {
-    let types = members_at(alloc, context, term, members, input)?;
-    table_type(alloc, &types, context.program.spot(term))
+    let types = judge_members(context, term, members, input)?;
+    table_at(context.alloc, &types, context.program.spot(term))
 }
 
 /// The type of the outputs of members that give way to a body inside a pattern at the event that an observer sees, and are then
 /// known by a name, on inputs of a type.
 #[cycle(output)]
+#[tactic(auto, using(sf_expr::proofs::Judged::stops_then))]
 fn releasing_output(
-    alloc: Global,
     context: &TypingContext,
     term: TermId,
     form: Releasing,
     input: &Ty,
 ) -> Result<Ty, Refusal>
-    requires fits { Fits input.now }
     requires there { term_node_at (program_in context.now) term ≡ Node.Releasing form }
     requires below { CollectionBelow (term_number term) (collection_under (program_in context.now) form.members) × (term_number form.observer < term_number term) × (term_number form.body < term_number term) }
-    ensures { AnswersTerm (program_in context.now) (context_in context.now) term input.now result }
+    ensures { GivesFound result (judged_as (program_in context.now) term (Node.Releasing form) (context_in context.now) input.now) }
 {
     let spot = context.program.spot(term);
-    let types = members_at(alloc, context, term, form.members, input)?;
-    let table = table_type(alloc, &types, spot)?;
-    let watched = pair_of(alloc, input, &table, spot)?;
-    let seen = output_of(alloc, context, form.observer, &watched)?;
-    let payload = payload(&seen, spot)?;
-    released_output(alloc, context, form, payload, input, &types, &table, spot)
+    let types = judge_members(context, term, form.members, input)?;
+    let table = table_at(context.alloc, &types, spot)?;
+    let watched = both_at(context.alloc, input, &table, spot)?;
+    let seen = judge(context, form.observer, &watched)?;
+    let payload = payload_at(&seen, spot)?;
+    released_output(context, form, payload, input, &types, &table, spot)
 }
 
 /// The type of the outputs of the body of members that give way to it, on inputs of a type, which gives their tables inside the
 /// pattern for payloads of a type and the name of the members.
 #[cycle(output)]
 fn released_output(
-    alloc: Global,
     context: &TypingContext,
     form: Releasing,
     payload: &Ty,
@@ -940,12 +935,10 @@ fn released_output(
     table: &Ty,
     spot: Spot,
 ) -> Result<Ty, Refusal>
-    requires { Fits input.now }
-    ensures { AnswersBody (program_in context.now) (members_inside (program_in context.now) form.name (key_kind_of types.now.keys) input.now types.now.output (context_in context.now)) spot form.pattern form.body input.now table.now payload.now result }
+    ensures { GivesFound result (body_judged (program_in context.now) spot form.pattern (term_judged (program_in context.now) form.body) input.now table.now payload.now (members_inside (program_in context.now) form.name (key_kind_of types.now.keys) input.now types.now.output (context_in context.now))) }
 {
-    let names = (&*context).members_name(alloc, form.name, types.keys, &*input, &types.output)?;
+    let names = (&*context).members_name(form.name, types.keys, &*input, &types.output)?;
     body_within(
-        alloc,
         context,
         &names,
         form.pattern,
@@ -959,30 +952,28 @@ fn released_output(
 
 /// The type of the outputs of members that are edited at each event beside their inputs, on inputs of a type.
 #[cycle(output)]
+#[tactic(auto, using(sf_expr::proofs::Judged::stops_then))]
 fn editing_output(
-    alloc: Global,
     context: &TypingContext,
     term: TermId,
     form: Editing,
     input: &Ty,
 ) -> Result<Ty, Refusal>
-    requires fits { Fits input.now }
     requires there { term_node_at (program_in context.now) term ≡ Node.Editing form }
     requires below { CollectionBelow (term_number term) (collection_under (program_in context.now) form.members) × CollectionBelow (term_number term) (collection_under (program_in context.now) form.edit) }
-    ensures { AnswersTerm (program_in context.now) (context_in context.now) term input.now result }
+    ensures { GivesFound result (judged_as (program_in context.now) term (Node.Editing form) (context_in context.now) input.now) }
 {
     let spot = context.program.spot(term);
     let (value, payload) = value_and_payload(input, spot)?;
-    let types = members_at(alloc, context, term, form.members, value)?;
-    edited_types(alloc, context, term, form, payload, value, &types, spot)?;
-    table_type(alloc, &types, spot)
+    let types = judge_members(context, term, form.members, value)?;
+    edited_types(context, term, form, payload, value, &types, spot)?;
+    table_at(context.alloc, &types, spot)
 }
 
 /// The types of an edit, on inputs of a type, which has the types that are wanted of it inside the pattern for payloads of a
 /// type and the name of members of these types.
 #[cycle(output)]
 fn edited_types(
-    alloc: Global,
     context: &TypingContext,
     term: TermId,
     form: Editing,
@@ -991,22 +982,18 @@ fn edited_types(
     wanted: &MemberTypes,
     spot: Spot,
 ) -> Result<MemberTypes, Refusal>
-    requires fits { Fits input.now }
     requires below { CollectionBelow (term_number term) (collection_under (program_in context.now) form.edit) }
     requires shallow { collection_depth (collection_of (program_in context.now) (collection_under (program_in context.now) form.edit)) ≤ 64 }
-    ensures { AnswersEdit (program_in context.now) (members_inside (program_in context.now) form.name (key_kind_of wanted.now.keys) input.now wanted.now.output (context_in context.now)) spot form.pattern form.edit (key_kind_of wanted.now.keys) input.now wanted.now.output payload.now result }
+    ensures { GivesMembers result (edit_judged (program_in context.now) spot form.pattern (members_judged (program_in context.now) (term_judged (program_in context.now)) (collection_under (program_in context.now) form.edit)) input.now (key_kind_of wanted.now.keys, wanted.now.output) payload.now (members_inside (program_in context.now) form.name (key_kind_of wanted.now.keys) input.now wanted.now.output (context_in context.now))) }
 {
-    let names = (&*context).members_name(alloc, form.name, wanted.keys, &*input, &wanted.output)?;
-    edit_within(
-        alloc, context, &names, term, form, payload, input, wanted, spot,
-    )
+    let names = (&*context).members_name(form.name, wanted.keys, &*input, &wanted.output)?;
+    edit_within(context, &names, term, form, payload, input, wanted, spot)
 }
 
 /// The types of an edit inside names, on inputs of a type, which has the types that are wanted of it inside the pattern for
 /// payloads of a type.
 #[cycle(output)]
 fn edit_within(
-    alloc: Global,
     context: &TypingContext,
     names: &Frame,
     term: TermId,
@@ -1016,20 +1003,18 @@ fn edit_within(
     wanted: &MemberTypes,
     spot: Spot,
 ) -> Result<MemberTypes, Refusal>
-    requires fits { Fits input.now }
     requires below { CollectionBelow (term_number term) (collection_under (program_in context.now) form.edit) }
     requires shallow { collection_depth (collection_of (program_in context.now) (collection_under (program_in context.now) form.edit)) ≤ 64 }
-    ensures { AnswersEdit (program_in context.now) (inside_names names.now (context_in context.now)) spot form.pattern form.edit (key_kind_of wanted.now.keys) input.now wanted.now.output payload.now result }
+    ensures { GivesMembers result (edit_judged (program_in context.now) spot form.pattern (members_judged (program_in context.now) (term_judged (program_in context.now)) (collection_under (program_in context.now) form.edit)) input.now (key_kind_of wanted.now.keys, wanted.now.output) payload.now (inside_names names.now (context_in context.now))) }
 {
-    let inner = (&*context).within(alloc, &*names)?;
-    edit_types(alloc, &inner, term, form, payload, input, wanted, spot)
+    let inner = (&*context).within(&*names)?;
+    edit_types(&inner, term, form, payload, input, wanted, spot)
 }
 
 /// The types of an edit, on inputs of a type, which has the types that are wanted of it inside the pattern for payloads of a
 /// type.
 #[cycle(output)]
 fn edit_types(
-    alloc: Global,
     context: &TypingContext,
     term: TermId,
     form: Editing,
@@ -1038,13 +1023,12 @@ fn edit_types(
     wanted: &MemberTypes,
     spot: Spot,
 ) -> Result<MemberTypes, Refusal>
-    requires fits { Fits input.now }
     requires below { CollectionBelow (term_number term) (collection_under (program_in context.now) form.edit) }
     requires shallow { collection_depth (collection_of (program_in context.now) (collection_under (program_in context.now) form.edit)) ≤ 64 }
-    ensures { AnswersEdit (program_in context.now) (context_in context.now) spot form.pattern form.edit (key_kind_of wanted.now.keys) input.now wanted.now.output payload.now result }
+    ensures { GivesMembers result (edit_judged (program_in context.now) spot form.pattern (members_judged (program_in context.now) (term_judged (program_in context.now)) (collection_under (program_in context.now) form.edit)) input.now (key_kind_of wanted.now.keys, wanted.now.output) payload.now (context_in context.now)) }
 {
-    let names = (&*context).pattern_names(alloc, form.pattern, &*payload, spot)?;
-    let given = members_within(alloc, context, &names, term, form.edit, input)?;
+    let names = (&*context).pattern_names(form.pattern, &*payload, spot)?;
+    let given = members_within(context, &names, term, form.edit, input)?;
     same_members(&given, wanted, spot)?;
     Ok(given)
 }
@@ -1052,46 +1036,58 @@ fn edit_types(
 /// The types of the collection at an id, which a form has, inside names, on inputs of a type.
 #[cycle(output)]
 fn members_within(
-    alloc: Global,
     context: &TypingContext,
     names: &Frame,
     form: TermId,
     members: CollectionId,
     input: &Ty,
 ) -> Result<MemberTypes, Refusal>
-    requires fits { Fits input.now }
     requires below { CollectionBelow (term_number form) (collection_under (program_in context.now) members) }
     requires shallow { collection_depth (collection_of (program_in context.now) (collection_under (program_in context.now) members)) ≤ 64 }
-    ensures { AnswersMembers (program_in context.now) (inside_names names.now (context_in context.now)) (collection_under (program_in context.now) members) input.now result }
+    ensures { GivesMembers result (members_judged (program_in context.now) (term_judged (program_in context.now)) (collection_under (program_in context.now) members) (inside_names names.now (context_in context.now)) input.now) }
 {
-    let inner = (&*context).within(alloc, &*names)?;
-    members_at(alloc, &inner, form, members, input)
+    let inner = (&*context).within(&*names)?;
+    judge_members(&inner, form, members, input)
 }
 
 /// The type of the outputs of the process of a name on inputs of a type.
 fn process_output(
-    alloc: Global,
     context: &TypingContext,
     term: TermId,
     name: NameId,
     place: Spot,
     input: &Ty,
 ) -> Result<Ty, Refusal>
-    requires fits { Fits input.now }
-    requires there { (start : Start) × (term_node_at (program_in context.now) term ≡ Node.Named (Naming.Process start) name place) }
-    ensures { AnswersTerm (program_in context.now) (context_in context.now) term input.now result }
+    ensures { (start : Start) → GivesFound result (judged_as (program_in context.now) term (Node.Named (Naming.Process start) name place) (context_in context.now) input.now) }
 {
     let process = context.process(name, place)?;
-    same(input, process.from, context.program.spot(term))?;
-    Ok(process.to.clone_in(alloc)?)
+    agree(input, process.from, context.program.spot(term))?;
+    Ok(process.to.clone_in(context.alloc)?)
+}
+
+/// The type of the outputs of a form that is a name alone on inputs of a type.
+fn named_output(
+    context: &TypingContext,
+    term: TermId,
+    naming: Naming,
+    name: NameId,
+    place: Spot,
+    input: &Ty,
+) -> Result<Ty, Refusal>
+    ensures { GivesFound result (judged_as (program_in context.now) term (Node.Named naming name place) (context_in context.now) input.now) }
+{
+    match naming {
+        Naming::Process(_) => process_output(context, term, name, place, input),
+        Naming::Probe => Ok(input.clone_in(context.alloc)?),
+    }
 }
 
 /// Whether a parameter stands for a value of a type.
 fn takes_value(parameter: &ParameterForm, given: &Ty) -> bool
-    ensures { IsTrue result ↔ (kind_of_form parameter.now ≡ value given.now) }
+    ensures { result ≡ value_is_argument (Some given.now) (kind_of_form parameter.now) }
 {
     match parameter {
-        ParameterForm::Value(wanted) => same_type(wanted, given),
+        ParameterForm::Value(wanted) => is_same(given, wanted),
         ParameterForm::Process(_, _) => false,
         ParameterForm::Collection(_, _, _) => false,
     }
@@ -1101,8 +1097,8 @@ fn takes_value(parameter: &ParameterForm, given: &Ty) -> bool
 /// `Mismatch` at the call where a term or a collection stands for another one or for a value, and where it does not take the
 /// inputs of its parameter.
 #[cycle(output)]
+#[tactic(auto, using(sf_expr::proofs::Judged::stops_then))]
 fn argument_fits(
-    alloc: Global,
     context: &TypingContext,
     term: TermId,
     argument: Argument,
@@ -1110,11 +1106,11 @@ fn argument_fits(
 ) -> Result<bool, Refusal>
     requires below { ArgumentBelow (program_in context.now) (term_number term) argument }
     requires shallow { (i : CollectionIdIn) → argument ≡ Argument.Collection i → collection_depth (collection_of (program_in context.now) (collection_under (program_in context.now) i)) ≤ 64 }
-    ensures { AnswersArgument (program_in context.now) (context_in context.now) (term_spot_at (program_in context.now) term) argument (kind_of_form parameter.now) result }
+    ensures { GivesFound result (argument_judged (program_in context.now) (term_judged (program_in context.now)) (term_spot_at (program_in context.now) term) (context_in context.now) argument (kind_of_form parameter.now)) }
 {
     match (argument, parameter) {
         (Argument::Value(value), _) => {
-            let given = constant_type(alloc, context, value)?;
+            let given = value_type(context, value)?;
             Ok(takes_value(parameter, &given))
         }
         (Argument::Process(_), ParameterForm::Value(_)) => {
@@ -1122,8 +1118,8 @@ fn argument_fits(
         }
         (Argument::Process(part), ParameterForm::Process(from, to)) => {
             prove!(from.nodes() <= 256);
-            let given = output_of(alloc, context, part, from)?;
-            Ok(same_type(&given, to))
+            let given = judge(context, part, from)?;
+            Ok(is_same(&given, to))
         }
         (Argument::Process(_), ParameterForm::Collection(_, _, _)) => {
             Err(Refusal::broken(Rule::Mismatch, context.program.spot(term)))
@@ -1135,8 +1131,7 @@ fn argument_fits(
             Err(Refusal::broken(Rule::Mismatch, context.program.spot(term)))
         }
         (Argument::Collection(members), ParameterForm::Collection(keys, from, to)) => {
-            prove!(from.nodes() <= 256);
-            let given = members_at(alloc, context, term, members, from)?;
+            let given = judge_members(context, term, members, from)?;
             Ok(are_members(&given, *keys, to))
         }
     }
@@ -1147,17 +1142,15 @@ fn argument_fits(
 /// the inputs the header.
 #[cycle(output)]
 fn call_output(
-    alloc: Global,
     context: &TypingContext,
     term: TermId,
     name: NameId,
     arguments: ArgumentsId,
     input: &Ty,
 ) -> Result<Ty, Refusal>
-    requires fits { Fits input.now }
     requires there { term_node_at (program_in context.now) term ≡ Node.Call name arguments }
     requires below { All (ArgumentBelow (program_in context.now) (term_number term)) (arguments_under (program_in context.now) arguments) }
-    ensures { AnswersTerm (program_in context.now) (context_in context.now) term input.now result }
+    ensures { GivesFound result (judged_as (program_in context.now) term (Node.Call name arguments) (context_in context.now) input.now) }
 {
     let spot = context.program.spot(term);
     let Some(template) = context.template(name) else {
@@ -1170,51 +1163,80 @@ fn call_output(
     }
     let mut fit = true;
     for (argument, parameter) in arguments.iter().zip(parameters) {
-        fit &= argument_fits(alloc, context, term, *argument, parameter.form())?;
+        fit &= argument_fits(context, term, *argument, parameter.form())?;
     }
     if fit && same_type(input, template.input()) {
-        Ok(template.output().clone_in(alloc)?)
+        Ok(template.output().clone_in(context.alloc)?)
     } else {
         Err(Refusal::broken(Rule::Mismatch, spot))
     }
 }
 
+/// The type of the outputs of the form of a node at an id on inputs of a type, or the first rule that is broken in it.
+#[cycle(output)]
+fn judge_form(context: &TypingContext, term: TermId, node: Node, input: &Ty) -> Result<Ty, Refusal>
+    requires there { term_node_at (program_in context.now) term ≡ node }
+    requires below { TermPartsBelow (program_in context.now) node (term_number term) }
+    ensures { GivesFound result (judged_as (program_in context.now) term node (context_in context.now) input.now) }
+{
+    match node {
+        Node::Primitive(primitive) => {
+            primitive_output(context, primitive, input, context.program.spot(term))
+        }
+        Node::Named(naming, name, place) => {
+            named_output(context, term, naming, name, place, input)
+        }
+        Node::Call(name, arguments) => { call_output(context, term, name, arguments, input) }
+        Node::Joined(join, left, right) => {
+            joined_output(context, term, join, left, right, input)
+        }
+        Node::Sided(side, part) => sided_output(context, term, side, part, input),
+        Node::Headed(heading, value, part) => {
+            headed_output(context, term, heading, value, part, input)
+        }
+        Node::Transformed(function, part) => {
+            transformed_output(context, term, function, part, input)
+        }
+        Node::Switching(form) => switching_output(context, term, form, input),
+        Node::Keeping(form) => keeping_output(context, term, form, input),
+        Node::Gathered(members) => gathered_output(context, term, members, input),
+        Node::Releasing(form) => releasing_output(context, term, form, input),
+        Node::Editing(form) => editing_output(context, term, form, input),
+    }
+}
+
 /// The type of a term's outputs on inputs of a type, or the first rule that a form in it breaks.
 #[cycle(output)]
-pub(crate) fn output_of(
-    alloc: Global,
-    context: &TypingContext,
-    term: TermId,
-    input: &Ty,
-) -> Result<Ty, Refusal>
+fn judge(context: &TypingContext, term: TermId, input: &Ty) -> Result<Ty, Refusal>
+    ensures { GivesFound result (term_judged (program_in context.now) term (context_in context.now) input.now) }
+{
+    let node = context.program.node(term);
+    judge_form(context, term, node, input)
+}
+
+/// The type of a term's outputs on inputs of a type, or the first rule that a form in it breaks.
+#[tactic(auto, using(crate::proofs::Judged::answers_term))]
+pub(crate) fn output_of(context: &TypingContext, term: TermId, input: &Ty) -> Result<Ty, Refusal>
     requires { Fits input.now }
     ensures { AnswersTerm (program_in context.now) (context_in context.now) term input.now result }
 {
-    match context.program.node(term) {
-        Node::Primitive(primitive) => {
-            primitive_output(alloc, context, primitive, input, context.program.spot(term))
-        }
-        Node::Named(Naming::Process(_), name, place) => {
-            process_output(alloc, context, term, name, place, input)
-        }
-        Node::Named(Naming::Probe, _, _) => Ok(input.clone_in(alloc)?),
-        Node::Call(name, arguments) => { call_output(alloc, context, term, name, arguments, input) }
-        Node::Joined(join, left, right) => {
-            joined_output(alloc, context, term, join, left, right, input)
-        }
-        Node::Sided(side, part) => sided_output(alloc, context, term, side, part, input),
-        Node::Headed(heading, value, part) => {
-            headed_output(alloc, context, term, heading, value, part, input)
-        }
-        Node::Transformed(function, part) => {
-            transformed_output(alloc, context, term, function, part, input)
-        }
-        Node::Switching(form) => switching_output(alloc, context, term, form, input),
-        Node::Keeping(form) => keeping_output(alloc, context, term, form, input),
-        Node::Gathered(members) => gathered_output(alloc, context, term, members, input),
-        Node::Releasing(form) => releasing_output(alloc, context, term, form, input),
-        Node::Editing(form) => editing_output(alloc, context, term, form, input),
-    }
+    judge(context, term, input)
+}
+
+/// The types of the collection at an id, which a form has, on inputs of a type, or the first rule that is broken in it.
+#[tactic(auto, using(crate::proofs::Judged::answers_members))]
+pub(crate) fn members_at(
+    context: &TypingContext,
+    form: TermId,
+    members: CollectionId,
+    input: &Ty,
+) -> Result<MemberTypes, Refusal>
+    requires fits { Fits input.now }
+    requires below { CollectionBelow (term_number form) (collection_under (program_in context.now) members) }
+    requires shallow { collection_depth (collection_of (program_in context.now) (collection_under (program_in context.now) members)) ≤ 64 }
+    ensures { AnswersMembers (program_in context.now) (context_in context.now) (collection_under (program_in context.now) members) input.now result }
+{
+    judge_members(context, form, members, input)
 }
 
 /// The type of the outputs of the body of a template inside the names of its parameters, on inputs of a type. The names of
@@ -1233,7 +1255,7 @@ fn template_output(
     ensures { AnswersTerm program.now (context_with (signatures_in functions.now) (bindings_from (entries_in names.now)) (templates_of program.now)) body input.now result }
 {
     let context = TypingContext::of_body(alloc, program, templates, functions, &*names)?;
-    output_of(alloc, &context, body, input)
+    output_of(&context, body, input)
 }
 
 /// Whether a template's term takes its header's input to its header's output, inside its parameters. The names are those of

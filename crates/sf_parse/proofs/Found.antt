@@ -18,6 +18,7 @@ use Rattle.sf_term.specs.declared.program.Program.{Program}
 use Rattle.sf_term.specs.declared.refusal.BuildRefusal.{BuildRefusal}
 use Rattle.sf_term.specs.declared.refusal.BuildRefusal.TheVariants as refusals
 use Rattle.sf_term.specs.Names.{HasNames}
+use Rattle.sf_term.specs.Building.{IsDue, BuildsExpression}
 use Rattle.sf_term.specs.Arena.{expression_under as expression_in, term_count, expression_count, KeepsTrees, KeepsProgram, AddsExpression}
 use Rattle.sf_term.proofs.Kept.{few_program_expressions, keeps_trans}
 use Rattle.sf_refusal.specs.declared.spot.Spot.{Spot}
@@ -65,12 +66,19 @@ past : {A : Type 0} (n : ℕ) (a : A) (start rest : List Tok) → 100000 < n →
 past n a start rest h = elim (leb_tells n 100000) [ inl p ↦ absurd (omega arith) | inr p ↦ ap (λ (b : Bool). if b then got a rest else stop TooMany start) p.0 ]
 
 -- a program refused what is one too many, as reading does
-pub refused_as_read : {A : Type 0} (n : ℕ) (a : A) (start : List Tok) (left : ℕ) (rest : List Tok) (read : Read A) (refusal : BuildRefusal) → length start ≡ left → read ≡ (if nat_le n 100000 then got a rest else stop TooMany start)
-    → (refusal ≡ refusals.TooMany → 100000 < n) → (refusal ≡ refusals.TooDeep → ⊥) → (refusal ≡ refusals.BadName → ⊥) → StopsReading (stop_for refusal left) read
-refused_as_read n a start left rest read refusals.TooMany counted is many deep named = record { at = start; is = is ∙ past n a start rest (many refl); counted = sym counted }
-refused_as_read n a start left rest read refusals.TooDeep counted is many deep named = absurd (deep refl)
-refused_as_read n a start left rest read refusals.BadName counted is many deep named = absurd (named refl)
-refused_as_read n a start left rest read refusals.Memory counted is many deep named = tt
+pub refused_as_read : {A Named : Type 0} (count depth n : ℕ) (a : A) (start : List Tok) (left : ℕ) (rest : List Tok) (read : Read A) (refusal : BuildRefusal) → length start ≡ left → read ≡ (if nat_le n 100000 then got a rest else stop TooMany start)
+    → IsDue count depth Named refusal → (100000 ≤ count → 100000 < n) → depth ≤ 64 → Named → StopsReading (stop_for refusal left) read
+refused_as_read count depth n a start left rest read refusals.TooMany counted is due many shallow named = record { at = start; is = is ∙ past n a start rest (many due); counted = sym counted }
+refused_as_read count depth n a start left rest read refusals.TooDeep counted is due many shallow named = absurd (omega (arith, due.1))
+refused_as_read count depth n a start left rest read refusals.BadName counted is due many shallow named = absurd (due.2 named)
+refused_as_read count depth n a start left rest read refusals.Memory counted is due many shallow named = tt
+
+-- a program takes what counts as nothing, if it is not too deep and its names are names
+pub refused_for_memory : {A Named : Type 0} (depth : ℕ) (read : Read A) (refusal : BuildRefusal) (left : ℕ) → IsDue 0 depth Named refusal → depth ≤ 64 → Named → StopsReading (stop_for refusal left) read
+refused_for_memory depth read refusals.TooMany left due shallow named = absurd (omega (arith, due))
+refused_for_memory depth read refusals.TooDeep left due shallow named = absurd (omega (arith, due.1))
+refused_for_memory depth read refusals.BadName left due shallow named = absurd (due.2 named)
+refused_for_memory depth read refusals.Memory left due shallow named = tt
 
 -- an expression whose parts were read, before it is added to the program
 pub record ReadyExpression (old mid : Program) (built : Expression) (start rest : List Tok) (read : Read Expression) : Type 0 where
@@ -79,14 +87,6 @@ pub record ReadyExpression (old mid : Program) (built : Expression) (start rest 
   pub same : built ≡ value
   pub shallow : expression_depth value ≤ 64
   pub expressions : expression_count mid + 1 ≡ expression_count old + size value
-
-pub expression_refused : {old mid : Program} {built : Expression} {start rest : List Tok} {read : Read Expression} (left : ℕ) (refusal : BuildRefusal) (e : Stop)
-    → ReadyExpression old mid built start rest read → length start ≡ left → e ≡ stop_for refusal left
-    → (refusal ≡ refusals.TooMany → 100000 ≤ expression_count mid) → (refusal ≡ refusals.TooDeep → 64 < expression_depth built) → (refusal ≡ refusals.BadName → ⊥) → StopsReading e read
-expression_refused {old} {mid} {built} {start} {rest} {read} left refusal e ready counted is many deep named =
-    subst (λ (e : Stop). StopsReading e read) (sym is) (refused_as_read (expression_count old + size ready.value) ready.value start left rest read refusal counted ready.is
-    (λ same. let full : 100000 ≤ expression_count mid = many same in omega (arith, ready.expressions))
-    (λ same. let too : 64 < expression_depth built = deep same in let d : expression_depth built ≡ expression_depth ready.value = ap expression_depth ready.same in omega (arith, ready.shallow)) named)
 
 pub read_within : {A : Type 0} (n : ℕ) (a : A) (start rest : List Tok) → n ≤ 100000 → (if nat_le n 100000 then got a rest else stop TooMany start) ≡ got a rest
 read_within n a start rest h = elim (leb_tells n 100000) [ inl p ↦ ap (λ (b : Bool). if b then got a rest else stop TooMany start) p.0 | inr p ↦ absurd (omega arith) ]
@@ -105,14 +105,14 @@ expression_found {old} {mid} {new} {start = start} {rest = rest} ready kept term
 }
 
 -- an expression whose parts were read was given to the program
-pub expression_built : {old mid : Program} {built : Expression} {start rest : List Tok} {read : Read Expression} (new : Program) (node : ExprNode) (spot : Spot) (left : ℕ) (added : Result ExprId BuildRefusal) (answer : Result ExprId Stop)
-    → ReadyExpression old mid built start rest read → KeepsProgram old mid → term_count mid ≡ term_count old → length start ≡ left → answer ≡ built_as left added → IfOk added (λ id. AddsExpression mid new id node built spot)
-    → (added ≡ Err refusals.TooMany → 100000 ≤ expression_count mid) → (added ≡ Err refusals.TooDeep → 64 < expression_depth built) → (added ≡ Err refusals.BadName → ⊥) → ReadsInto old new rest answer read
-expression_built {old = old} {rest = rest} {read = read} new node spot left (Ok id) answer ready kept terms counted is ok many deep named =
-    subst (λ (a : Result ExprId Stop). ReadsInto old new rest a read) (sym is) (expression_found ready kept terms ok)
-expression_built {old = old} {rest = rest} {read = read} new node spot left (Err refusal) answer ready kept terms counted is ok many deep named =
+pub expression_built : {old mid : Program} {built : Expression} {start rest : List Tok} {read : Read Expression} {Named : Type 0} (new : Program) (node : ExprNode) (spot : Spot) (left : ℕ) (added : Result ExprId BuildRefusal) (answer : Result ExprId Stop)
+    → ReadyExpression old mid built start rest read → KeepsProgram old mid → term_count mid ≡ term_count old → length start ≡ left → answer ≡ built_as left added → BuildsExpression mid new added node built spot Named → Named → ReadsInto old new rest answer read
+expression_built {old = old} {rest = rest} {read = read} new node spot left (Ok id) answer ready kept terms counted is builds named =
+    subst (λ (a : Result ExprId Stop). ReadsInto old new rest a read) (sym is) (expression_found ready kept terms builds.ok)
+expression_built {old = old} {mid = mid} {built = built} {start = start} {rest = rest} {read = read} new node spot left (Err refusal) answer ready kept terms counted is builds named =
+    let deep : expression_depth built ≡ expression_depth ready.value = ap expression_depth ready.same in
     subst (λ (a : Result ExprId Stop). ReadsInto old new rest a read) (sym is)
-    (expression_refused left refusal (stop_for refusal left) ready counted refl (λ same. many (ap Err same)) (λ same. deep (ap Err same)) (λ same. named (ap Err same)))
+    (refused_as_read (expression_count mid) (expression_depth built) (expression_count old + size ready.value) ready.value start left rest read refusal counted ready.is builds.refused.due (λ full. omega (arith, full, ready.expressions)) (omega (arith, ready.shallow)) named)
 
 -- what holds of what a program took holds of what is answered
 pub if_built : {X : Type 0} (P Q : X → Type 0) (left : ℕ) (added : Result X BuildRefusal) (answer : Result X Stop) → answer ≡ built_as left added → IfOk added P → ((x : X) → P x → Q x) → IfOk answer Q
@@ -362,14 +362,6 @@ function_shallow v {old} {new} {b = b} d tokens small f =
     let took = mapping_part v d (counts_of old) tokens refl f in
     let same : expression_depth (expression_in new b) ≡ expression_depth f.value = ap expression_depth f.tree in
     omega (arith, took.shallow)
-
--- a program takes each function of named patterns that is not too deep
-pub function_refused : {A : Type 0} (read : Read A) (refusal : BuildRefusal) (left : ℕ) (e : Stop) (p : Pattern) (i : Expression) → function_depth (function p i) ≤ 64 → HasNames p → e ≡ stop_for refusal left
-    → (refusal ≡ refusals.TooMany → ⊥) → (refusal ≡ refusals.TooDeep → 64 < function_depth (function p i)) → (refusal ≡ refusals.BadName → ¬ HasNames p) → StopsReading e read
-function_refused read refusals.TooMany left e p i shallow names is many deep named = absurd (many refl)
-function_refused read refusals.TooDeep left e p i shallow names is many deep named = let too : 64 < function_depth (function p i) = deep refl in absurd (omega arith)
-function_refused read refusals.BadName left e p i shallow names is many deep named = absurd (named refl names)
-function_refused read refusals.Memory left e p i shallow names is many deep named = subst (λ (e : Stop). StopsReading e read) (sym is) tt
 
 -- a type of at most 256 is made, but for want of memory
 pub type_refused : (read : Read Kind) (refusal : TyRefusal) (left count : ℕ) (e : Stop) → e ≡ stop_for_type refusal left → count ≤ 256 → (refusal ≡ type_refusals.TypeTooLarge → 256 < count) → StopsReading e read

@@ -1,9 +1,10 @@
 //! Expressions and functions.
-ghost use Rattle.std.specs.Prelude.{◌≡◌, ◌<◌, ◌≤◌, ◌↔◌, true, false, IfOk, ◌∷◌, string_bytes};
+ghost use Rattle.std.specs.Prelude.{◌≡◌, ◌≤◌, true, false, IfOk, ◌∷◌, string_bytes};
 ghost use Rattle.sf_refusal.specs.declared.spot.Spot.{Spot as Place};
-ghost use Rattle.sf_expr.specs.Expressions.{Expression, variable as variable_form, literal as literal_form, unit_literal, truth_literal, int_literal, text_literal, depth};
+ghost use Rattle.sf_expr.specs.Expressions.{Expression, variable as variable_form, literal as literal_form, unit_literal, truth_literal, int_literal, text_literal};
 ghost use Rattle.sf_lex.specs.Tokens.{token_of, name_bytes};
-ghost use Rattle.sf_term.specs.Arena.{HoldsExpression, AddsExpression, expression_under as expression_in, expression_count};
+ghost use Rattle.sf_term.specs.Arena.{HoldsExpression, expression_under as expression_in};
+ghost use Rattle.sf_term.specs.Building.{BuildsExpression, NoNames};
 ghost use Rattle.sf_parse.specs.Answers.{ahead, StopsReading, ReadsAs, ReadsExpression, ReadsForm, ReadsMapping, ReadsFunction, counts_of};
 ghost use Rattle.sf_grammar.specs.Placing.{PatternPlaced, ExpressionPlaced, FunctionPlaced};
 ghost use Rattle.sf_grammar.specs.Spelling.{takes_brackets, stands_between, maps_in_brackets};
@@ -40,12 +41,8 @@ fn add_linked(
 ) -> Result<ExprId, BuildRefusal>
     requires first_held { HoldsExpression program.old first }
     requires second_held { HoldsExpression program.old second }
-    ensures ok { let whole = linked link (expression_in program.old first) (expression_in program.old second) in
-        IfOk result (λ id. AddsExpression program.old program.new id (linked_node link first second) whole spot) }
-    ensures many { result ≡ Err BuildRefusal.TooMany ↔ 100000 ≤ expression_count program.old }
-    ensures deep { let whole = linked link (expression_in program.old first) (expression_in program.old second) in
-        result ≡ Err BuildRefusal.TooDeep ↔ (expression_count program.old < 100000) × (64 < depth whole) }
-    ensures no_name { ¬ (result ≡ Err BuildRefusal.BadName) }
+    ensures { let whole = linked link (expression_in program.old first) (expression_in program.old second) in
+        BuildsExpression program.old program.new result (linked_node link first second) whole spot NoNames }
 {
     match link {
         Link::Pair => program.pair(first, second, spot),

@@ -14,7 +14,7 @@ use Rattle.sf_operator.specs.declared.fault.EvalFault.{EvalFault}
 use Rattle.sf_operator.specs.declared.fault.EvalFault.TheVariants.{Value as EValue, Memory as EMemory}
 use Rattle.sf_expr.specs.Expressions.{Expression, Function}
 use Rattle.sf_expr.specs.Evaluation.{Scope, answer, ◌>>=◌, eval, apply}
-use Rattle.sf_expr.specs.Arena.{expression, function_at, name_at, placed_at}
+use Rattle.sf_expr.specs.Arena.{function_at, name_at, placed_at}
 use Rattle.sf_expr.specs.Patterns.{pattern_of}
 use Rattle.sf_expr.specs.declared.exprs.ExprId.{ExprId}
 use Rattle.sf_expr.specs.declared.exprs.FunctionId.{FunctionId}
@@ -31,8 +31,8 @@ use Rattle.sf_term.specs.declared.form.Join.{Join}
 use Rattle.sf_term.specs.declared.form.Join.TheVariants.{InSequence, InParallel, FannedOut}
 use Rattle.sf_term.specs.declared.form.Side.{Side}
 use Rattle.sf_term.specs.declared.form.Heading.{Heading}
-use Rattle.sf_term.specs.Trees.{rest, Primitive, probe, Term, primitive, reference, call, joined, sided, headed, transformed, switching, keeping, Collection, gathered, releasing, editing}
-use Rattle.sf_mean.specs.Lives.{step, Life, closure, Environment, Members, process_started, scope_around}
+use Rattle.sf_term.specs.Trees.{rest, Primitive, probe, Term, primitive, reference, call, sided, headed, transformed, switching, keeping, gathered, releasing, editing}
+use Rattle.sf_mean.specs.Lives.{step, Life, closure, Environment, process_started, scope_around}
 use Rattle.sf_mean.specs.Collections.{collect}
 use Rattle.sf_mean.specs.Meaning.{Network, recorded, as_outcome, Made, nothing_made, value_made, process_made, members_made, make, left_life, right_life, gives, Outputs, not_begun, of_constants, of_form, of_primitive, at_start, no_tables}
 use Rattle.sf_law.specs.declared.plan.Plan.{Plan}
@@ -64,7 +64,7 @@ use Rattle.sf_state.specs.declared.state.Wrap.{Wrap}
 use Rattle.sf_state.specs.declared.state.Wrap.TheVariants.{Replaced}
 use Rattle.sf_state.specs.declared.env.Env.{Env}
 use Rattle.sf_state.specs.Names.{values_around}
-use Rattle.sf_state.specs.Standing.{closed_over as SClosure, Stands, itself, unborn, recalls, waits_so, recurs_so, keeps_so, releases_so, edits_so, ready, AreJoined, as_join, as_pipeline, Lives, lives_probe, lives_join, lives_wrap, Wraps, wraps_transformed, StagesStand, last_stands, stage_stands, is_closure, IsNames, IsProcess}
+use Rattle.sf_state.specs.Standing.{closed_over as SClosure, Stands, itself, unborn, recalls, waits_so, recurs_so, keeps_so, releases_so, edits_so, ready, AreJoined, as_join, as_pipeline, lives_probe, lives_join, lives_wrap, Wraps, wraps_transformed, StagesStand, last_stands, stage_stands, is_closure, IsNames, IsProcess}
 use Rattle.sf_state.specs.declared.state.Process.{Process as SProcess}
 use Rattle.sf_state.proofs.Scopes.{scope_is}
 use Rattle.sf_state.proofs.Copies.{pipeline_lives, members_live, held_hidden}
@@ -74,7 +74,7 @@ use Rattle.sf_parts.specs.declared.opening.Opened.TheVariants as opened
 use Rattle.sf_parts.specs.declared.opening.Begun.{Begun}
 use Rattle.sf_parts.specs.declared.opening.Begun.TheVariants as begun
 use Rattle.sf_parts.specs.Answering.{fault_from}
-use Rattle.sf_parts.specs.Beginning.{primitive_prepared, live_prepared, switch_prepared, keeping_prepared, gathering_prepared, Makes, makes, makes_fault, makes_nothing, WrapsAtFirst, Opens, opens_primitive, opens, opens_watching, opens_keeping, opens_gathering, opens_running, opens_with_fault, opens_without_memory, BeginsAs, begins_itself, begins_referred, begins_not, AllBegin, none_begin, more_begin}
+use Rattle.sf_parts.specs.Beginning.{primitive_prepared, live_prepared, switch_prepared, keeping_prepared, gathering_prepared, makes, makes_fault, makes_nothing, WrapsAtFirst, Opens, opens_primitive, opens, opens_watching, opens_keeping, opens_gathering, opens_running, opens_with_fault, opens_without_memory, BeginsAs, begins_itself, begins_referred, begins_not, AllBegin, none_begin, more_begin}
 use Rattle.sf_parts.proofs.Arguments.{StandsCalled}
 
 -- before the first step

@@ -60,7 +60,7 @@ module _ (φ : AnswersByName) (p : Plan) (names : Env) (e : Environment) (N : Is
   -- ## What is evaluated among names
 
   -- the scope, as the names have it
-  abbrev scope_in : Scope
+  abbrev pub scope_in : Scope
   scope_in = scope_with (values_around p names) φ
 
   module _ (run : Scope → Evaluated Data) where

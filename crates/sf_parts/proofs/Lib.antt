@@ -7,3 +7,4 @@ pub mod Sought
 pub mod Rows
 pub mod Places
 pub mod Collected
+pub mod Drafts

@@ -1,5 +1,5 @@
 -- Members among others, under their keys.
-use Rattle.std.proofs.Common.{◌≡◌, ℕ, zero, suc, ◌<◌, Bool, true, false, cond, List, [], ◌∷◌, ◌++◌, Option, Some, None, option_map, length, set, refl, sym, ap, ◌∙◌, subst, arith}
+use Rattle.std.proofs.Common.{◌≡◌, ℕ, suc, ◌<◌, Bool, true, false, cond, List, [], ◌∷◌, ◌++◌, Option, Some, None, option_map, length, set, refl, sym, ap, ◌∙◌, subst, arith}
 use Rattle.std.specs.List.{remove}
 use Rattle.sf_value.specs.Values.{KeyData}
 use Rattle.sf_value.specs.Keys.{equal_keys, key_index}
@@ -33,7 +33,7 @@ some_at : {i j : ℕ} → Some i ≡ Some j → i ≡ j
 some_at e = cc
 
 -- one that hasn't lived stands among those that wait as among others
-among_new : {φ : AnswersByName} {p : Plan} {a : State} {P : Process} (w : Option ℕ) → Stands φ p a P [] → StandsAmong φ p w a P []
+pub among_new : {φ : AnswersByName} {p : Plan} {a : State} {P : Process} (w : Option ℕ) → Stands φ p a P [] → StandsAmong φ p w a P []
 among_new None A = as_it_stands A
 among_new (Some d) A = as_it_stood A refl
 

@@ -1,5 +1,5 @@
 -- What the parts of a sample answer, and what the meter counts for them.
-use Rattle.std.specs.Prelude.{◌≡◌, ℕ, ◌+◌, ◌≤◌, max, ◌∷◌, ◌++◌, ◌⊎◌, Result, Ok, Err}
+use Rattle.std.specs.Prelude.{◌≡◌, ℕ, ◌+◌, ◌-◌, ◌≤◌, ◌<◌, max, ◌∷◌, ◌++◌, ◌⊎◌, length, slice_range, Result, Ok, Err}
 use Rattle.sf_value.specs.Values.{Data}
 use Rattle.sf_value.specs.declared.fault.ValueFault.{ValueFault}
 use Rattle.sf_value.specs.declared.fault.Fault.{Fault}
@@ -15,6 +15,8 @@ use Rattle.sf_prim.specs.declared.prim_state.PrimState.{PrimState}
 use Rattle.sf_state.specs.declared.state.Live.{Live}
 use Rattle.sf_state.specs.Standing.{Recalls, Settles, Ready}
 use Rattle.sf_parts.specs.declared.meter.Meter.{Meter}
+use Rattle.sf_parts.specs.declared.meter.Mark.{Mark}
+use Rattle.sf_parts.specs.declared.meter.Spent.{Spent as SpentBetween}
 use Rattle.sf_parts.specs.Meters.{entered_of, height_of, readings}
 
 -- the fault of an expression, as that of the sample
@@ -42,6 +44,19 @@ kept (Err e) f = Err f
 pub data Ticked : Meter → Meter → ℕ → Result ℕ Fault → Type 0 where
   ticked : {m n : Meter} {depth inside : ℕ} → Ticks m n depth inside → Ticked m n depth (Ok inside)
   refused : {m n : Meter} {depth : ℕ} → (1000000 ≤ entered_of m) ⊎ (1600 ≤ depth) → entered_of n ≡ entered_of m → height_of n ≡ height_of m → Ticked m n depth (Err Large)
+
+-- what a meter counted and recorded since it stood there
+pub record IsSince (k : Mark) (n : Meter) (g : SpentBetween) : Type 0 where
+  pub entered : g.entered ≡ entered_of n - k.entered
+  pub first : g.first ≡ k.recorded
+  pub behind : g.behind ≡ length (readings n)
+
+-- A meter counts and records once more what it did before; or why it doesn't.
+pub data CountsAgain (m : Meter) (g : SpentBetween) (n : Meter) : Result SpentBetween Fault → Type 0 where
+  repeated : entered_of n ≡ entered_of m + g.entered → height_of n ≡ height_of m
+      → (g.first ≤ g.behind → g.behind ≤ length (readings m) → readings n ≡ readings m ++ slice_range (readings m) g.first g.behind) → CountsAgain m g n (Ok g)
+  too_often : 1000000 < entered_of m + g.entered → entered_of n ≡ entered_of m → height_of n ≡ height_of m → CountsAgain m g n (Err Large)
+  not_repeated : entered_of n ≡ entered_of m → height_of n ≡ height_of m → CountsAgain m g n (Err Memory)
 
 -- the meter counted this cost of a part that stands inside depth nodes
 pub record Spent (m n : Meter) (depth : ℕ) (k : Cost) (r : Readings) : Type 0 where

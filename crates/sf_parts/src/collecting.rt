@@ -170,8 +170,12 @@ fn is_kept<R: Holds>(
     }
 }
 
-// Whether a condition is met.
-fn is_met<R: Holds>(context: &SampleContext<R>, code: &OpenCode, names: &Env) -> Result<bool, Fault>
+/// Whether a condition is met.
+pub(crate) fn is_met<R: Holds>(
+    context: &SampleContext<R>,
+    code: &OpenCode,
+    names: &Env,
+) -> Result<bool, Fault>
     ensures { let φ = R.answers context.now.functions.now in (j : Expression) (e : Environment) → IsCodeOf (plan_expressions (plan_in context.now)) j code.now → IsNames φ (plan_in context.now) names.now e →
         Makes (λ b v. b ≡ is_high_data v) (eval j (scope_around φ e)) result }
 {
@@ -188,8 +192,8 @@ fn is_high(value: &Value) -> bool
     is_true(value).unwrap_or(false)
 }
 
-// The key that a value is; what is none is the key 0.
-fn as_key(value: Value) -> Key
+/// The key that a value is; what is none is the key 0.
+pub(crate) fn as_key(value: Value) -> Key
     ensures { key_of result ≡ key_of_data value }
 {
     match value.into_form() {

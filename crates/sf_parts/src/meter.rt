@@ -1,7 +1,8 @@
 //! Counts of nodes, and what probes record.
-ghost use Rattle.std.specs.Prelude.{◌≤◌};
+ghost use Rattle.std.specs.Prelude.{◌≡◌, ◌≤◌, ◌++◌, OnOk, length, slice_range, map};
+ghost use Rattle.sf_probe.specs.Readings.{reading_of, readings_of};
 
-use sf_probe::Readings;
+use sf_probe::{Reading, Readings};
 use sf_value::{Fault, Value};
 use std::alloc::{AllocError, Global};
 use std::mem;
@@ -27,6 +28,26 @@ pub struct Meter {
     ghost low: { height ≤ 1600 },
 }
 
+/// Where the meter of a sample stood.
+#[derive(Clone, Copy)]
+pub struct Mark {
+    /// How many nodes the sample had entered.
+    pub entered: u64,
+    /// How many readings there were.
+    pub recorded: usize,
+}
+
+/// What the meter of a sample counted and recorded between two of its parts.
+#[derive(Clone, Copy)]
+pub struct Spent {
+    /// How many nodes.
+    pub entered: u64,
+    /// The readings from this one on.
+    pub first: usize,
+    /// As far as this one, which is none of them.
+    pub behind: usize,
+}
+
 impl Drop for Meter {
     fn drop(self) {
         let Meter {
@@ -43,7 +64,7 @@ impl Meter {
     ghost use Rattle.std.specs.Prelude.{◌≡◌, ◌<◌, ◌++◌, [], ◌∷◌, IfOk, OnOk, string_bytes};
     ghost use Rattle.sf_probe.specs.Readings.{readings_of};
     ghost use Rattle.sf_parts.specs.Meters.{entered_of, height_of, fault_of, readings as recorded_in};
-    ghost use Rattle.sf_parts.specs.Answering.{Ticked, kept};
+    ghost use Rattle.sf_parts.specs.Answering.{Ticked, CountsAgain, IsSince, kept, left_or};
 
     /// A meter at zero, without readings. It takes no memory.
     #[tactic(auto, unfolding(crate::specs::Meters::readings))]
@@ -115,6 +136,53 @@ impl Meter {
         Stop
     }
 
+    /// Where it stands.
+    #[tactic(auto, unfolding(crate::specs::Meters::readings))]
+    #[inline(always)]
+    pub fn mark(&self) -> Mark
+        ensures entered { result.entered ≡ entered_of self.now }
+        ensures recorded { result.recorded ≡ length (recorded_in self.now) }
+    {
+        Mark {
+            entered: self.entered,
+            recorded: self.readings.len(),
+        }
+    }
+
+    /// What it counted and recorded since it stood there.
+    #[tactic(auto, unfolding(crate::specs::Meters::readings))]
+    #[inline(always)]
+    pub fn since(&self, mark: Mark) -> Spent
+        ensures { IsSince mark self.now result }
+    {
+        Spent {
+            entered: self.entered.saturating_sub(mark.entered),
+            first: mark.recorded,
+            behind: self.readings.len(),
+        }
+    }
+
+    /// Counts and records once more what it did before. It stops, with `Large`, where that makes more nodes than a sample may
+    /// enter, or for want of memory.
+    #[tactic(auto, unfolding(crate::specs::Meters::readings))]
+    #[inline(always)]
+    pub fn repeat(&mut self, alloc: Global, spent: &Spent) -> Result<(), Stop>
+        ensures { CountsAgain self.old spent.now self.new (left_or result spent.now (fault_of self.new)) }
+    {
+        if spent.entered > MOST_NODES - self.entered {
+            return Err(self.stop(Fault::Large));
+        }
+        if spent.first < spent.behind {
+            let Ok(()) = record_again(alloc, &mut self.readings, spent) else {
+                return Err(self.stop(Fault::Memory));
+            };
+            self.entered += spent.entered;
+            return Ok(());
+        }
+        self.entered += spent.entered;
+        Ok(())
+    }
+
     /// One more node, inside `depth` others. Answers how many its parts stand inside. It stops, with `Large`, at the 1,000,001st
     /// node of a sample and at more than 1,600 one inside another.
     pub fn tick(&mut self, depth: u64) -> Result<u64, Stop>
@@ -132,4 +200,41 @@ impl Meter {
         }
         Ok(inside)
     }
+}
+
+// Adds readings once more behind the others.
+#[cold]
+#[inline(never)]
+fn record_again(alloc: Global, readings: &mut Readings, spent: &Spent) -> Result<(), AllocError>
+    ensures { OnOk result (spent.now.first ≤ spent.now.behind → spent.now.behind ≤ length (readings_of readings.old) →
+        readings_of readings.new ≡ readings_of readings.old ++ slice_range (readings_of readings.old) spent.now.first spent.now.behind) }
+{
+    let items = readings.as_slice();
+    let (first, behind) = (spent.first, spent.behind);
+    if first > behind {
+        return Ok(());
+    }
+    if behind > items.len() {
+        return Ok(());
+    }
+    let part = &items[first..behind];
+    let mut more = Readings::new(alloc);
+    copy_readings(alloc, &mut more, part)?;
+    copy_readings(alloc, readings, more.as_slice())
+}
+
+// Adds copies of readings behind others.
+fn copy_readings(
+    alloc: Global,
+    readings: &mut Readings,
+    items: &[Reading],
+) -> Result<(), AllocError>
+    ensures { OnOk result (readings_of readings.new ≡ readings_of readings.old ++ map reading_of items.now) }
+{
+    for reading in items {
+        let name = reading.name.clone()?;
+        let value = reading.value.clone_in(alloc)?;
+        readings.push(name, value)?;
+    }
+    Ok(())
 }

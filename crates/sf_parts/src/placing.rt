@@ -28,7 +28,7 @@ pub(crate) fn with_member(
     let mut own = own_states(alloc, states)?;
     match keys.place(&key) {
         Some(at) => {
-            put_state(&mut own, at, state);
+            put(&mut own, at, state);
             let states = Rc::new(alloc, own)?;
             Ok(Gathered { keys, states, wait })
         }
@@ -65,27 +65,27 @@ fn without_place(alloc: Global, members: Gathered, at: usize) -> Result<Gathered
     let mut less = own_keys(alloc, keys)?;
     let mut own = own_states(alloc, states)?;
     less.remove(at);
-    take_state(&mut own, at);
+    take_out(&mut own, at);
     let keys = Rc::new(alloc, less)?;
     let states = Rc::new(alloc, own)?;
     Ok(Gathered { keys, states, wait })
 }
 
-// Puts a state in the place of another, if one is there.
-fn put_state(states: &mut Vec<State>, at: usize, state: State)
-    ensures { at < length states.old.items → states.new.items ≡ set states.old.items at state }
+/// Puts an item in the place of another, if one is there.
+pub(crate) fn put<T: Drop>(items: &mut Vec<T>, at: usize, item: T)
+    ensures { items.new.items ≡ set items.old.items at item }
 {
-    if at < states.len() {
-        states[at] = state;
+    if at < items.len() {
+        items[at] = item;
     }
 }
 
-// Takes the state at a place out, if one is there.
-fn take_state(states: &mut Vec<State>, at: usize)
-    ensures { at < length states.old.items → states.new.items ≡ remove states.old.items at }
+/// Takes the item at a place out, if one is there.
+pub(crate) fn take_out<T: Drop>(items: &mut Vec<T>, at: usize)
+    ensures { items.new.items ≡ remove items.old.items at }
 {
-    if at < states.len() {
-        states.remove(at);
+    if at < items.len() {
+        items.remove(at);
     }
 }
 

@@ -236,10 +236,8 @@ fn run_on_side<R: Holds>(
 ) -> Result<(), EvalFault>
     ensures { EvaluatesAs (λ u. value.new) result (on_part side (links_worth links.now) (R.answers functions.now) value.old) }
 {
-    let mut node = mem::replace(value, Value::int(0)).into_own_pair(alloc)?;
-    let Some(halves) = Rc::get_mut(&mut node) else {
-        return Err(EvalFault::Memory);
-    };
+    let mut node = mem::replace(value, Value::int(0)).into_pair(alloc)?;
+    let halves = Rc::make_mut(&mut node)?;
     match side {
         Side::First => run_links(alloc, links, functions, &mut halves.first)?,
         Side::Second => run_links(alloc, links, functions, &mut halves.second)?,

@@ -9,6 +9,5 @@ pub use env::{Binding, Call, Collected, Env, Given, Handed, NamesIn, Running};
 pub use feedback::Feedback;
 pub use state::{
     Editing, Frozen, Gathered, Gathering, Keeping, Kept, Live, Process, Releasing, State, Switch,
-    Wrap, hold_back_members, own_states, unshare, unshare_gathering, unshare_keeping,
-    unshare_states, unshare_switch,
+    Wrap, hold_back_members, own_states, unshare_states,
 };

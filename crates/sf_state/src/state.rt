@@ -940,68 +940,6 @@ fn put_list(alloc: Global, states: &mut Rc<Vec<State>>) -> Result<(), AllocError
     Ok(())
 }
 
-/// Makes a node its owner's alone: where it is shared, a copy takes its place, and the other owners keep the node. After
-/// an error, which is a want of memory, it is shared as before.
-#[inline(always)]
-pub fn unshare(alloc: Global, node: &mut Rc<Live>) -> Result<(), AllocError>
-    ensures { (φ : AnswersByName) (p : Plan) (P : ProcessOf) (x : Data) (L : Life) → Ready φ p node.old.value P x L → Ready φ p node.new.value P x L }
-{
-    if Rc::strong_count(node) == 1 {
-        return Ok(());
-    }
-    put_copy(alloc, node)
-}
-
-// Puts a copy in the place of a node.
-#[cold]
-#[inline(never)]
-fn put_copy(alloc: Global, node: &mut Rc<Live>) -> Result<(), AllocError>
-    ensures { (φ : AnswersByName) (p : Plan) (P : ProcessOf) (x : Data) (L : Life) → Ready φ p node.old.value P x L → Ready φ p node.new.value P x L }
-{
-    let copy = node.clone_in(alloc)?;
-    *node = Rc::new(alloc, copy)?;
-    Ok(())
-}
-
-/// Makes the node of a switch its owner's alone, likewise.
-#[inline(always)]
-pub fn unshare_switch(alloc: Global, node: &mut Rc<Switch>) -> Result<(), AllocError>
-    ensures { (φ : AnswersByName) (p : Plan) (P : ProcessOf) (L : Life) → Waits φ p node.old.value P L → Waits φ p node.new.value P L }
-{
-    if Rc::strong_count(node) == 1 {
-        return Ok(());
-    }
-    let own = Rc::new(alloc, node.clone_in(alloc)?)?;
-    *node = own;
-    Ok(())
-}
-
-/// Makes the node of a switch that keeps its source its owner's alone, likewise.
-#[inline(always)]
-pub fn unshare_keeping(alloc: Global, node: &mut Rc<Keeping>) -> Result<(), AllocError>
-    ensures { (φ : AnswersByName) (p : Plan) (P : ProcessOf) (L : Life) → WaitsKeeping φ p node.old.value P L → WaitsKeeping φ p node.new.value P L }
-{
-    if Rc::strong_count(node) == 1 {
-        return Ok(());
-    }
-    let own = Rc::new(alloc, node.clone_in(alloc)?)?;
-    *node = own;
-    Ok(())
-}
-
-/// Makes the node of members that wait its owner's alone, likewise.
-#[inline(always)]
-pub fn unshare_gathering(alloc: Global, node: &mut Rc<Gathering>) -> Result<(), AllocError>
-    ensures { (φ : AnswersByName) (p : Plan) (P : ProcessOf) (L : Life) → WaitsGathered φ p node.old.value P L → WaitsGathered φ p node.new.value P L }
-{
-    if Rc::strong_count(node) == 1 {
-        return Ok(());
-    }
-    let own = Rc::new(alloc, node.clone_in(alloc)?)?;
-    *node = own;
-    Ok(())
-}
-
 impl Wrap {
     ghost use Rattle.sf_term.specs.Trees.{Term};
     ghost use Rattle.sf_mean.specs.Meaning.{Network, Made};

@@ -1,5 +1,5 @@
 -- What each function of a sample answers, from what it calls.
-use Rattle.std.proofs.Common.{◌≡◌, ℕ, ◌+◌, ◌≤◌, List, [], ◌∷◌, ◌++◌, Result, Ok, Err, sym, ap, ◌∙◌, subst, arith}
+use Rattle.std.proofs.Common.{◌≡◌, ℕ, ◌+◌, ◌≤◌, List, [], ◌∷◌, ◌++◌, Option, Result, Ok, Err, sym, ap, ◌∙◌, subst, arith}
 use Rattle.sf_value.specs.Values.{Data}
 use Rattle.sf_value.specs.declared.fault.Fault.{Fault}
 use Rattle.sf_probe.specs.declared.reading.Readings as declared
@@ -34,7 +34,7 @@ use Rattle.sf_parts.specs.Meters.{entered_of, height_of, readings}
 use Rattle.sf_parts.specs.Answering.{Rel, Ticks, Ticked, ticked, refused, Spent, Within, StopsFor, faults, large, memory, Answers, answers, fails, PrimSteps, LiveSteps, left_or}
 use Rattle.sf_parts.specs.Beginning.{Prepared, primitive_prepared, live_prepared, switch_prepared, keeping_prepared, BeginsAs, begins_itself, gathering_prepared}
 use Rattle.sf_parts.proofs.Costs.{memory_exit, counts, begin_stops}
-use Rattle.sf_step.specs.Sampling.{PartSteps, StateSteps, CountedSteps}
+use Rattle.sf_step.specs.Sampling.{PartSteps, StateSteps, CountedSteps, Waiting, WaitingSteps}
 use Rattle.sf_step.proofs.Parts.{counted, then_on, with_change, over_spent, both_spent, fails_alike, over_fails, change_fails, then_fails, rest_fails, spent_within, answered, failed}
 use Rattle.sf_step.proofs.Forms.{left_and, right_and, single_gives, gave_outputs, form_alike, join_alike, wrap_alike, wraps_on}
 use Rattle.sf_step.specs.Routing.{left_input, right_input, part_input, wrap_value, kept_after}
@@ -66,6 +66,16 @@ module _ (φ : AnswersByName) (p : Plan) where
   pub late_memory : {l l' : Live} {s : Step} {v : Data} {n n' n'' : Meter} {inside : ℕ} {f : Fault} → LiveSteps φ p l s (Ok (l', v)) n n' inside → entered_of n'' ≡ entered_of n' → height_of n'' ≡ height_of n' → f ≡ Memory
       → LiveSteps φ p l s (Err f) n n'' inside
   late_memory hs en hn e m depth t P L R = let w = answered (hs m depth t P L R) in memory_exit e (spent_within (single_gives net P _) w.given w.spent en hn)
+
+  module _ {A : Type 0} (W : Waiting A) {names : Env} {k : A} {s : Step} {n n' : Meter} {inside : ℕ} where
+    -- the same of a switch of some kind
+    pub late_waiting : {o : Option State} {k' : A} {v : Data} {n'' : Meter} {f : Fault} → WaitingSteps φ p W names k s (Ok ((o, k'), v)) n n' inside → entered_of n'' ≡ entered_of n' → height_of n'' ≡ height_of n' → f ≡ Memory
+        → WaitingSteps φ p W names k s (Err f) n n'' inside
+    late_waiting hs en hn e m depth T t env L N S = let w = answered (hs m depth T t env L N S) in memory_exit e (spent_within (single_gives net (closure t env) _) w.given w.spent en hn)
+
+    -- a switch steps as a copy of it
+    pub waits_alike : {own : A} {r : Result ((Option State × A) × Data) Fault} → ((P : Process) (L : Life) → W k P L → W own P L) → WaitingSteps φ p W names own s r n n' inside → WaitingSteps φ p W names k s r n n' inside
+    waits_alike f hs m depth T t env L N S = hs m depth T t env L N (f _ _ S)
 
   -- ## Joins
 

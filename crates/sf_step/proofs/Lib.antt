@@ -5,6 +5,7 @@ pub mod Exits
 pub mod Stages
 pub mod Members
 pub mod Releasing
+pub mod Turns
 pub mod Editing
 pub mod Switches
 pub mod Recurring

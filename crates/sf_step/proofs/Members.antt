@@ -12,11 +12,9 @@ use Rattle.sf_value.specs.declared.fault.Fault.{Fault}
 use Rattle.sf_value.specs.declared.fault.Fault.TheVariants.{Memory}
 use Rattle.sf_func.specs.Registries.{AnswersByName}
 use Rattle.sf_term.specs.Trees.{Collection, gathered}
-use Rattle.sf_term.specs.declared.form.Observation.{Observation}
-use Rattle.sf_term.specs.declared.form.Observation.TheVariants.{Immediate}
 use Rattle.sf_mean.specs.Collections.{with_row}
 use Rattle.sf_mean.specs.Lives.{Step, step, Life, Process, frozen, Environment, Members, member, first_input}
-use Rattle.sf_mean.specs.Meaning.{Network, Outcome, gave, faulted, combined, Cost, no_cost, both_costs, members_made, Gives, gives, and_gave, of_form, Form, of_gathered, Each, no_more, one_more, Others, others_go_on, others_stop, Tables, and_table, switched_value}
+use Rattle.sf_mean.specs.Meaning.{Network, Outcome, gave, faulted, combined, Cost, no_cost, both_costs, members_made, Gives, gives, and_gave, of_form, Form, of_gathered, Each, no_more, one_more, Others, others_go_on, others_stop, Tables, and_table}
 use Rattle.sf_mean.proofs.Once.{once_each}
 use Rattle.sf_law.specs.declared.plan.Plan.{Plan}
 use Rattle.sf_law.specs.Arena.{network_of_plan}
@@ -82,7 +80,7 @@ module _ (φ : AnswersByName) (p : Plan) (w : Option ℕ) where
   behind done ys (Err f) = Err f
 
   -- none are left
-  nobody_steps : (d : ℕ) (x : Data) (n : Meter) (inside : ℕ) → EachAt [] d x (Ok ([], [])) n n inside
+  pub nobody_steps : (d : ℕ) (x : Data) (n : Meter) (inside : ℕ) → EachAt [] d x (Ok ([], [])) n n inside
   nobody_steps d x n inside low ms L none_stands = answers no_more (record { entered = omega arith; high = omega (arith, low); recorded = sym (append-nil _) }) none_stands
 
   -- memory runs out before the next one
@@ -96,11 +94,11 @@ module _ (φ : AnswersByName) (p : Plan) (w : Option ℕ) where
 
   module _ (a : State) (d : ℕ) (x : Data) (m n : Meter) (inside : ℕ) where
     -- the next one fails
-    one_fails : (bs : List State) (f : Fault) → MemberSteps φ p w a (step d x) (Err f) m n inside → EachAt (a ∷ bs) d x (Err f) m n inside
+    pub one_fails : (bs : List State) (f : Fault) → MemberSteps φ p w a (step d x) (Err f) m n inside → EachAt (a ∷ bs) d x (Err f) m n inside
     one_fails bs f hs low ms L (one_stands {k = k} {P = P} {ms = qs} A S) = fails (fails_alike (members_alike net k P qs (step d x) L) (then_fails (failed (hs _ _ A))))
 
     -- it steps, and then the others
-    one_steps : (a' : State) (y : Data) → MemberSteps φ p w a (step d x) (Ok (a', y)) m n inside → (n' : Meter) (bs : List State) (r : Result (List State × List Data) Fault)
+    pub one_steps : (a' : State) (y : Data) → MemberSteps φ p w a (step d x) (Ok (a', y)) m n inside → (n' : Meter) (bs : List State) (r : Result (List State × List Data) Fault)
         → EachAt bs d x r n n' inside → EachAt (a ∷ bs) d x (behind (a' ∷ []) (y ∷ []) r) m n' inside
     one_steps a' y hs n' bs (Ok z) h low ms L (one_stands {k = k} {P = P} {ms = qs} A S) =
         let one = answered (hs _ _ A) in
@@ -125,7 +123,7 @@ module _ (φ : AnswersByName) (p : Plan) (w : Option ℕ) where
   behind_one done ys a y (Ok z) = ap₂ (λ (bs : List State) (ws : List Data). Ok (bs, ws)) (sym (append_assoc done (a ∷ []) z.0)) (sym (append_assoc ys (y ∷ []) z.1))
   behind_one done ys a y (Err f) = refl
 
-  left_from : (now : List State) (i : ℕ) (any : State) → i < length now → drop i now ≡ get_or now i any ∷ drop (i + 1) now
+  pub left_from : (now : List State) (i : ℕ) (any : State) → i < length now → drop i now ≡ get_or now i any ∷ drop (i + 1) now
   left_from now i any short = let more : suc i ≡ i + 1 = omega arith in drop-cons now i any short ∙ ap (λ k. get_or now i any ∷ drop k now) more
 
   module _ (all : List State) (d : ℕ) (x : Data) (m : Meter) (now : List State) (i : ℕ) (ys : List Data) (n : Meter) (inside : ℕ) (any : State) (short : i < length now) (c : Continues all d x m (take i now) ys (drop i now) n inside) where
@@ -161,25 +159,24 @@ module _ (φ : AnswersByName) (p : Plan) (w : Option ℕ) where
 
 -- ## Members that run, or wait
 
--- an edit that shows at once shows nothing of what was before
-pub at_once : {w : Observation} (a b z : Data) → w ≡ Immediate → switched_value w a z ≡ switched_value w b z
-at_once a b z e = ap (λ (w : Observation). switched_value w a z) e ∙ sym (ap (λ (w : Observation). switched_value w b z) e)
-
 -- a `?` that passes a failure on
 pub pass_with : {φ : AnswersByName} {p : Plan} {w : Option ℕ} {bs : List State} {s : Step} {E : Type 0} {m n : Meter} {inside : ℕ} {f : Fault} (r : Result (Vec Value Global) E) (cs : List State) → IsErr r
     → EachSteps φ p w bs s (Err f) m n inside → EachSteps φ p w bs s (left_with r cs f) m n inside
 pass_with (Ok ys) cs e h = absurd cc
 pass_with (Err q) cs e h = h
 
-pub pass_each : {φ : AnswersByName} {p : Plan} {w : Option ℕ} {bs : List State} {s : Step} {A E : Type 0} {m n : Meter} {inside : ℕ} {f : Fault} (r : Result A E) (y : List State × List Data) → IsErr r
-    → EachSteps φ p w bs s (Err f) m n inside → EachSteps φ p w bs s (left_or r y f) m n inside
-pass_each (Ok a) y e h = absurd cc
-pass_each (Err q) y e h = h
-
 module _ (φ : AnswersByName) (p : Plan) where
   -- states step as those that stand for all that they stand for
   pub list_alike : {w : Option ℕ} {bs cs : List State} {s : Step} {r : Result (List State × List Data) Fault} {m n : Meter} {inside : ℕ} → AllFollow φ p bs cs → EachSteps φ p w cs s r m n inside → EachSteps φ p w bs s r m n inside
   list_alike fs h low ms L S = h low ms L (each_follows φ p fs S)
+
+  -- memory runs out after they have been stepped
+  pub late_list : {w : Option ℕ} {bs cs : List State} {ys : List Data} {s : Step} {f : Fault} {m n n2 : Meter} {inside : ℕ} → EachSteps φ p w bs s (Ok (cs, ys)) m n inside → entered_of n2 ≡ entered_of n → height_of n2 ≡ height_of n → f ≡ Memory
+      → EachSteps φ p w bs s (Err f) m n2 inside
+  late_list {s = s} {m = m} {n2 = n2} {inside = inside} hs en hn e low ms L S =
+      let one = answered (hs low ms L S) in
+      let single_each = single (λ a b j k G H. once_each (network_of_plan φ p) G H) in
+      fails (subst (λ (f : Fault). StopsFor (Each (network_of_plan φ p) ms s L) f m n2 inside) (sym e) (memory (spent_within single_each one.given one.spent en hn)))
 
   -- what is awake has lived, and what isn't hasn't
   pub awake_lived : (a : State) → is_awake a ≡ true → HasLived φ p a
@@ -232,12 +229,6 @@ module _ (φ : AnswersByName) (p : Plan) where
   pub members_fail : (g : Gathered) (d : ℕ) (x : Data) (m n : Meter) (inside : ℕ) (f : Fault) → EachSteps φ p g.wait g.states.value.items (step d x) (Err f) m n inside
       → inside ≤ height_of m → (ms : Members) (L : Life) → Gathers φ p (held_in g) ms L → StopsFor (Each (network_of_plan φ p) ms (step d x) L) f m n inside
   members_fail g d x m n inside f hs low ms L (gathers K S) = failed (hs low ms L S)
-
-  -- no table is made of their values
-  pub members_unseen : {A E : Type 0} (r : Result A E) (g h : Gathered) (d : ℕ) (x : Data) (m n : Meter) (inside : ℕ) (ys : List Data) (f : Fault) → h.keys.value ≡ g.keys.value → h.wait ≡ None
-      → EachSteps φ p g.wait g.states.value.items (step d x) (left_or r (h.states.value.items, ys) f) m n inside → MembersSteps φ p g (step d x) (left_or r (h, table (rows_under g.keys.value ys)) f) m n inside
-  members_unseen (Ok a) g h d x m n inside ys f keys runs hs = members_step g h d x m n inside ys (table (rows_under g.keys.value ys)) refl keys runs hs
-  members_unseen (Err q) g h d x m n inside ys f keys runs hs = λ low ms L G. fails (members_fail g d x m n inside f hs low ms L G)
 
   -- memory runs out for their table
   pub members_end : (g : Gathered) (d : ℕ) (x : Data) (m n n2 : Meter) (inside : ℕ) (cs : List State) (ys : List Data) {f : Fault} → f ≡ Memory → entered_of n2 ≡ entered_of n → height_of n2 ≡ height_of n

@@ -1,7 +1,8 @@
 -- Parts that are stepped one after another.
-use Rattle.std.proofs.Common.{◌≡◌, ℕ, ◌+◌, ◌≤◌, ◌++◌, Result, Ok, Err, sym, ap, ◌∙◌, subst, append_assoc, arith}
+use Rattle.std.proofs.Common.{◌≡◌, ℕ, ◌+◌, ◌≤◌, ◌++◌, Result, Ok, Err, sym, ap, ◌∙◌, subst, append_assoc, arith, ◌⊎◌, inl, inr}
 use Rattle.std.specs.Prelude.{IsErr}
 use Rattle.sf_value.specs.Values.{Data}
+use Rattle.sf_value.specs.declared.value.Pair.{Pair}
 use Rattle.sf_value.specs.declared.fault.ValueFault.{ValueFault}
 use Rattle.sf_value.specs.declared.fault.Fault.{Fault}
 use Rattle.sf_expr.specs.Evaluation.{Evaluated}
@@ -116,8 +117,8 @@ then_fails {R} {g} {stop} {S} {f} {m} {n} {depth} (large h w) = large go (then_w
     go o k (then_stop G) a b = h _ _ G (omega arith) (omega arith)
 then_fails (memory w) = memory (then_within w)
 
-one : {R : Rel} {a b : Outcome} {j k : Cost} → Single R → R a j → R b k → (a ≡ b) × (j ≡ k)
-one (single f) G H = f _ _ _ _ G H
+pub same_once : {R : Rel} {a b : Outcome} {j k : Cost} → Single R → R a j → R b k → (a ≡ b) × (j ≡ k)
+same_once (single f) G H = f _ _ _ _ G H
 
 -- the first part gives a value, and the other one fails
 module _ {R : Rel} {g : Data → Data → Data} {stop : Cost} (S : Data → Rel) {y : Data} {r : Readings} {k1 : Cost} (u : Single R) (G-one : R (gave y r) k1) where
@@ -126,9 +127,9 @@ module _ {R : Rel} {g : Data → Data → Data} {stop : Cost} (S : Data → Rel)
     where
       go : (o : Outcome) (k : Cost) → Then R g stop S o k → AtMost m n' depth k
       go o k (then_on {y = z} {o = o'} {k = k'} {l = l} G H) =
-          let e = one u G G-one in
+          let e = same_once u G G-one in
           subst (λ (k : Cost). AtMost m n' depth (both_costs k l)) (sym e.1) (both_most s (w.most o' l (subst (λ v. S v o' l) (ap value_in e.0) H)))
-      go o k (then_stop G) = let e = (one u G G-one).0 in cc
+      go o k (then_stop G) = let e = (same_once u G G-one).0 in cc
 
   pub rest_fails : {f : Fault} {m n n' : Meter} {depth : ℕ} → Spent m n depth k1 r → StopsFor (S y) f n n' depth → StopsFor (Then R g stop S) f m n' depth
   rest_fails s (faults G b) = faults (then_on G-one G) (both_most s b)
@@ -136,17 +137,17 @@ module _ {R : Rel} {g : Data → Data → Data} {stop : Cost} (S : Data → Rel)
     where
       go : (o : Outcome) (k : Cost) → Then R g stop S o k → entered_of m + count k ≤ 1000000 → depth + height k ≤ 1600 → ⊥
       go o k (then_on {y = z} {o = o'} {l = l} G H) a b =
-          let e = one u G G-one in
+          let e = same_once u G G-one in
           let c = ap count e.1 in let d = ap height e.1 in let i = s.entered in
           h o' l (subst (λ v. S v o' l) (ap value_in e.0) H) (omega arith) (omega arith)
-      go o k (then_stop G) a b = let e = (one u G G-one).0 in cc
+      go o k (then_stop G) a b = let e = (same_once u G G-one).0 in cc
   rest_fails s (memory w) = memory (rest_within s w)
 
 -- a value's cost is the one that there is, also where no more is counted after it
 pub spent_within : {R : Rel} {o : Outcome} {k : Cost} {r : Readings} {m n n' : Meter} {depth : ℕ} → Single R → R o k → Spent m n depth k r → entered_of n' ≡ entered_of n → height_of n' ≡ height_of n → Within R m n' depth
 spent_within {m = m} {n' = n'} {depth = depth} u G s en hn =
     let c = s.entered in let d = s.high in
-    record { most = λ p l H. subst (λ (k : Cost). AtMost m n' depth k) (sym (one u H G).1) (record { entered = omega arith; high = omega arith }) }
+    record { most = λ p l H. subst (λ (k : Cost). AtMost m n' depth k) (sym (same_once u H G).1) (record { entered = omega arith; high = omega arith }) }
 
 -- ## Exits
 
@@ -169,3 +170,8 @@ failed (fails h) = h
 pub pass_exit : {A B E : Type 0} {view : B → Data} {after : B → Type 0} {R : Rel} {m n : Meter} {depth : ℕ} {f : Fault} (r : Result A E) (b : B) → IsErr r → StopsFor R f m n depth → Answers view after R (left_or r b f) m n depth
 pass_exit (Ok a) b e h = absurd cc
 pass_exit (Err q) b e h = fails h
+
+-- what is written to is the halves of the pair: its node, or a copy
+pub own_halves : {a b : Pair} → (a ≡ b) ⊎ (a ≡ b) → a ≡ b
+own_halves (inl e) = e
+own_halves (inr e) = e

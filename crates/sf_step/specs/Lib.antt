@@ -1,3 +1,4 @@
+pub mod Edits
 pub mod Routing
 pub mod Sampling
 pub mod Stepping

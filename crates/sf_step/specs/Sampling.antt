@@ -7,9 +7,8 @@ use Rattle.sf_value.specs.View.{rows_under}
 use Rattle.sf_value.specs.declared.fault.Fault.{Fault}
 use Rattle.sf_func.specs.Registries.{AnswersByName}
 use Rattle.sf_term.specs.Trees.{Term}
-use Rattle.sf_term.specs.declared.form.Observation.{Observation}
 use Rattle.sf_mean.specs.Lives.{Step, Life, Process, closure, Environment, Members, first_input}
-use Rattle.sf_mean.specs.Meaning.{Gives, Each, switched_value}
+use Rattle.sf_mean.specs.Meaning.{Gives, Each}
 use Rattle.sf_law.specs.declared.plan.Plan.{Plan}
 use Rattle.sf_law.specs.Arena.{network_of_plan}
 use Rattle.sf_state.specs.declared.state.State.{State}
@@ -68,12 +67,6 @@ GatheringSteps φ p = WaitingSteps φ p (WaitsGathered φ p)
 abbrev pub MembersSteps : AnswersByName → Plan → Gathered → Step → Result (Gathered × Data) Fault → Meter → Meter → ℕ → Type 0
 MembersSteps φ p g s result m n inside = inside ≤ height_of m → (ms : Members) (L : Life) → Gathers φ p (held_in g) ms L
     → Answers (λ y. y.1) (λ y. Gathers φ p (held_in y.0) ms (s ∷ L)) (Each (network_of_plan φ p) ms s L) result m n inside
-
--- Members that give way at an edit step to a table. Where an edit shows it, this value shows the same.
-pub record ShownSteps (φ : AnswersByName) (p : Plan) (w : Observation) (v : Data) (g : Gathered) (s : Step) (result : Data → Result (Gathered × Data) Fault) (m n : Meter) (inside : ℕ) : Type 0 where
-  pub given : Data
-  pub shown : (z : Data) → switched_value w v z ≡ switched_value w given z
-  pub steps : MembersSteps φ p g s (result given) m n inside
 
 -- their states, which run or wait so long, step as they do, to values in their order; from then on they run
 abbrev pub EachSteps : AnswersByName → Plan → Option ℕ → List State → Step → Result (List State × List Data) Fault → Meter → Meter → ℕ → Type 0

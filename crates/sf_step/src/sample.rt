@@ -1,25 +1,27 @@
 //! One sample.
-ghost use Rattle.std.specs.Prelude.{◌≡◌, ◌≤◌, List, ◌∷◌, None, Some, IsTrue, IsFalse};
-ghost use Rattle.sf_value.specs.Values.{Data};
+ghost use Rattle.std.specs.Prelude.{◌≡◌, ◌≤◌, ◌∷◌, None, Some, Ok, length, IsTrue, IsFalse};
 ghost use Rattle.sf_parts.specs.Beginning.{is_awake, is_in_place};
 ghost use Rattle.sf_mean.specs.Lives.{step, Life, Process as ProcessOf};
 ghost use Rattle.sf_state.specs.Standing.{Stands};
 ghost use Rattle.sf_parts.specs.Answering.{LiveSteps, kept, left_or};
 ghost use Rattle.sf_parts.specs.Contexts.{plan_in, dt_in};
+ghost use Rattle.sf_parts.specs.Drafting.{drafted};
 ghost use Rattle.sf_parts.specs.Meters.{entered_of, height_of, fault_of as fault_in};
-ghost use Rattle.sf_step.specs.Sampling.{StateSteps, SwitchSteps, KeepingSteps, GatheringSteps, MembersSteps, EachSteps, MemberSteps, CountedSteps, ShownSteps, left_beside, left_with};
+ghost use Rattle.sf_step.specs.Sampling.{StateSteps, SwitchSteps, KeepingSteps, GatheringSteps, MembersSteps, EachSteps, MemberSteps, CountedSteps, left_beside, left_with};
+ghost use Rattle.sf_step.specs.Edits.{HaveStepped, HaveTurned, EditSteps, held_as_made, left_noted};
 ghost use Rattle.sf_step.specs.Stepping.{Steps};
 
 use sf_func::Holds;
 use sf_law::Plan;
 use sf_parts::{
-    Begun, Meter, SampleContext, Stop, begin, beside, collect, copies, hold_back, payload_of,
-    put_first, put_last, show, step_prim, step_probe, table_of, take_over, value_and_payload,
+    Begun, Draft, Meter, Noted, SampleContext, Stop, Turn, begin, beside, change_all, collect,
+    copies, draft_of, hold_back, payload_of, put_first, put_last, show, step_prim, step_probe,
+    table_after, table_before, table_of, take_over, value_and_payload,
 };
 use sf_probe::Readings;
 use sf_state::{
     Editing, Env, Feedback, Gathered, Gathering, Keeping, Live, Releasing, State, Switch, Wrap,
-    hold_back_members, unshare, unshare_gathering, unshare_keeping, unshare_states, unshare_switch,
+    hold_back_members, own_states, unshare_states,
 };
 use sf_term::{Join, Observation, Switching};
 use sf_value::{Fault, Value, ValueFault};
@@ -193,13 +195,36 @@ fn step_watching<R: Holds>(
     ensures { SwitchSteps (R.answers context.now.functions.now) (plan_in context.now) names.now node.old.value (step (dt_in context.now) value.old)
         (left_beside result node.new.value value.new (fault_in meter.new)) meter.old meter.new inside }
 {
-    let Ok(()) = unshare_switch(context.alloc, node) else {
-        return Err(meter.stop(Fault::Memory));
-    };
     match Rc::get_mut(node) {
         Some(switch) => step_switch(context, switch, names, inside, value, meter),
-        None => Err(meter.stop(Fault::Memory)),
+        None => step_watching_copy(context, node, names, inside, value, meter),
     }
+}
+
+// The same where other states share the node: a copy takes its place.
+#[cycle(step)]
+#[cold]
+#[inline(never)]
+fn step_watching_copy<R: Holds>(
+    context: &SampleContext<R>,
+    node: &mut Rc<Switch>,
+    names: &Env,
+    inside: u64,
+    value: &mut Value,
+    meter: &mut Meter,
+) -> Result<Option<State>, Stop>
+    ensures { SwitchSteps (R.answers context.now.functions.now) (plan_in context.now) names.now node.old.value (step (dt_in context.now) value.old)
+        (left_beside result node.new.value value.new (fault_in meter.new)) meter.old meter.new inside }
+{
+    let Ok(mut own) = node.clone_in(context.alloc) else {
+        return Err(meter.stop(Fault::Memory));
+    };
+    let over = step_switch(context, &mut own, names, inside, value, meter)?;
+    let Ok(copy) = Rc::new(context.alloc, own) else {
+        return Err(meter.stop(Fault::Memory));
+    };
+    *node = copy;
+    Ok(over)
 }
 
 // The same of a switch that keeps its source.
@@ -216,13 +241,36 @@ fn step_observing<R: Holds>(
     ensures { KeepingSteps (R.answers context.now.functions.now) (plan_in context.now) names.now node.old.value (step (dt_in context.now) value.old)
         (left_beside result node.new.value value.new (fault_in meter.new)) meter.old meter.new inside }
 {
-    let Ok(()) = unshare_keeping(context.alloc, node) else {
-        return Err(meter.stop(Fault::Memory));
-    };
     match Rc::get_mut(node) {
         Some(keeping) => step_keeping(context, keeping, names, inside, value, meter),
-        None => Err(meter.stop(Fault::Memory)),
+        None => step_observing_copy(context, node, names, inside, value, meter),
     }
+}
+
+// The same where other states share the node: a copy takes its place.
+#[cycle(step)]
+#[cold]
+#[inline(never)]
+fn step_observing_copy<R: Holds>(
+    context: &SampleContext<R>,
+    node: &mut Rc<Keeping>,
+    names: &Env,
+    inside: u64,
+    value: &mut Value,
+    meter: &mut Meter,
+) -> Result<Option<State>, Stop>
+    ensures { KeepingSteps (R.answers context.now.functions.now) (plan_in context.now) names.now node.old.value (step (dt_in context.now) value.old)
+        (left_beside result node.new.value value.new (fault_in meter.new)) meter.old meter.new inside }
+{
+    let Ok(mut own) = node.clone_in(context.alloc) else {
+        return Err(meter.stop(Fault::Memory));
+    };
+    let over = step_keeping(context, &mut own, names, inside, value, meter)?;
+    let Ok(copy) = Rc::new(context.alloc, own) else {
+        return Err(meter.stop(Fault::Memory));
+    };
+    *node = copy;
+    Ok(over)
 }
 
 // The same of members that wait.
@@ -239,13 +287,36 @@ fn step_gathering<R: Holds>(
     ensures { GatheringSteps (R.answers context.now.functions.now) (plan_in context.now) names.now node.old.value (step (dt_in context.now) value.old)
         (left_beside result node.new.value value.new (fault_in meter.new)) meter.old meter.new inside }
 {
-    let Ok(()) = unshare_gathering(context.alloc, node) else {
-        return Err(meter.stop(Fault::Memory));
-    };
     match Rc::get_mut(node) {
         Some(gathering) => step_members_waiting(context, gathering, names, inside, value, meter),
-        None => Err(meter.stop(Fault::Memory)),
+        None => step_gathering_copy(context, node, names, inside, value, meter),
     }
+}
+
+// The same where other states share the node: a copy takes its place.
+#[cycle(step)]
+#[cold]
+#[inline(never)]
+fn step_gathering_copy<R: Holds>(
+    context: &SampleContext<R>,
+    node: &mut Rc<Gathering>,
+    names: &Env,
+    inside: u64,
+    value: &mut Value,
+    meter: &mut Meter,
+) -> Result<Option<State>, Stop>
+    ensures { GatheringSteps (R.answers context.now.functions.now) (plan_in context.now) names.now node.old.value (step (dt_in context.now) value.old)
+        (left_beside result node.new.value value.new (fault_in meter.new)) meter.old meter.new inside }
+{
+    let Ok(mut own) = node.clone_in(context.alloc) else {
+        return Err(meter.stop(Fault::Memory));
+    };
+    let over = step_members_waiting(context, &mut own, names, inside, value, meter)?;
+    let Ok(copy) = Rc::new(context.alloc, own) else {
+        return Err(meter.stop(Fault::Memory));
+    };
+    *node = copy;
+    Ok(over)
 }
 
 // The same of the node's content.
@@ -354,51 +425,167 @@ fn step_editing<R: Holds>(
     match occurring {
         None => step_members(context, &mut editing.members, inside, value, meter),
         Some(payload) => {
-            let Ok(mut begun) = value.clone_in(alloc) else {
-                return Err(meter.stop(Fault::Memory));
-            };
             let Ok(around) = editing.inside(alloc, context.plan, names, context.dt, payload) else {
                 return Err(meter.stop(Fault::Memory));
             };
+            let shown = editing.shown;
+            match draft_of(context, &*editing, &*editing.edit, &around) {
+                Ok(Some(draft)) => {
+                    drop(around);
+                    let members = &mut editing.members;
+                    return step_draft(context, shown, members, draft, inside, value, meter);
+                }
+                Err(Fault::Memory) => return Err(meter.stop(Fault::Memory)),
+                // (what other members it makes, or its fault, is found once more)
+                _ => {}
+            }
             let made = collect(context, &*editing.edit, &around);
             drop(around);
-            let shown = editing.shown;
-            step_old(context, shown, &mut editing.members, inside, value, meter)?;
-            match made {
-                Err(fault) => Err(meter.stop(fault)),
-                Ok(mut fresh) => {
-                    step_members(context, &mut fresh, inside, &mut begun, meter)?;
-                    editing.members = fresh;
-                    show(shown, value, begun);
-                    Ok(())
-                }
-            }
+            let members = &mut editing.members;
+            step_made(context, shown, members, made, inside, value, meter)
         }
     }
 }
 
-// The last sample of members that give way to those of an edit: their table takes the value's place, if it shows.
+// The sample at which members give way to those of an edit that are others, or to its fault: both are stepped.
 #[cycle(step)]
-#[inline(always)]
-fn step_old<R: Holds>(
+#[inline(never)]
+fn step_made<R: Holds>(
     context: &SampleContext<R>,
     shown: Observation,
     members: &mut Gathered,
+    made: Result<Gathered, Fault>,
     inside: u64,
     value: &mut Value,
     meter: &mut Meter,
 ) -> Result<(), Stop>
-    ensures { ShownSteps (R.answers context.now.functions.now) (plan_in context.now) shown value.new members.old (step (dt_in context.now) value.old)
-        (λ y. left_or result (members.new, y) (fault_in meter.new)) meter.old meter.new inside }
+    ensures { EditSteps (R.answers context.now.functions.now) (plan_in context.now) members.old (held_as_made made) shown (step (dt_in context.now) value.old)
+        (left_or result (members.new, value.new) (fault_in meter.new)) meter.old meter.new inside }
 {
-    match shown {
-        Observation::Delayed => step_members(context, members, inside, value, meter),
-        Observation::Immediate => {
-            let wait = members.wait;
-            members.wait = None;
-            step_unseen(context, wait, &mut members.states, inside, &*value, meter)
+    let Ok(mut begun) = value.clone_in(context.alloc) else {
+        return Err(meter.stop(Fault::Memory));
+    };
+    step_members(context, members, inside, value, meter)?;
+    match made {
+        Err(fault) => Err(meter.stop(fault)),
+        Ok(mut fresh) => {
+            step_members(context, &mut fresh, inside, &mut begun, meter)?;
+            *members = fresh;
+            show(shown, value, begun);
+            Ok(())
         }
     }
+}
+
+// The sample at which members give way to those of an edit, of which some stay: each that ran is stepped once, where it stands.
+// What it gave is given again by one that stays, and counts again.
+#[cycle(step)]
+#[inline(never)]
+fn step_draft<R: Holds>(
+    context: &SampleContext<R>,
+    shown: Observation,
+    members: &mut Gathered,
+    draft: Draft,
+    inside: u64,
+    value: &mut Value,
+    meter: &mut Meter,
+) -> Result<(), Stop>
+    ensures { EditSteps (R.answers context.now.functions.now) (plan_in context.now) members.old (Ok (drafted members.old (dt_in context.now) draft)) shown (step (dt_in context.now) value.old)
+        (left_or result (members.new, value.new) (fault_in meter.new)) meter.old meter.new inside }
+{
+    let alloc = context.alloc;
+    let wait = members.wait;
+    let Ok(()) = unshare_states(alloc, &mut members.states) else {
+        return Err(meter.stop(Fault::Memory));
+    };
+    let Some(states) = Rc::get_mut(&mut members.states) else {
+        return Err(meter.stop(Fault::Memory));
+    };
+    let noted = step_noted(context, wait, states, inside, &*value, meter)?;
+    let Noted { outputs, mut turns } = noted;
+    let Ok((before, mut outputs)) = table_before(alloc, shown, &members.keys, outputs) else {
+        return Err(meter.stop(Fault::Memory));
+    };
+    let Draft { keys, changes } = draft;
+    let Ok(keys) = Rc::new(alloc, keys) else {
+        return Err(meter.stop(Fault::Memory));
+    };
+    let Ok(()) = change_all(alloc, &*value, changes, states, &mut outputs, &mut turns) else {
+        return Err(meter.stop(Fault::Memory));
+    };
+    let later = wait.unwrap_or(context.dt);
+    step_again(context, later, states, &mut outputs, &turns, inside, meter)?;
+    members.wait = None;
+    members.keys = keys;
+    match table_after(alloc, before, &members.keys, outputs) {
+        Ok(rows) => {
+            *value = rows;
+            Ok(())
+        }
+        Err(_) => Err(meter.stop(Fault::Memory)),
+    }
+}
+
+// The next sample of members that run, or wait so long: what each gave, and what the meter counted of it.
+#[cycle(step)]
+#[inline(never)]
+fn step_noted<R: Holds>(
+    context: &SampleContext<R>,
+    wait: Option<u64>,
+    states: &mut Vec<State>,
+    inside: u64,
+    value: &Value,
+    meter: &mut Meter,
+) -> Result<Noted, Stop>
+    ensures { HaveStepped (R.answers context.now.functions.now) (plan_in context.now) wait (step (dt_in context.now) value.now) inside meter.old states.old.items
+        (left_noted result states.new.items (fault_in meter.new)) meter.new }
+{
+    let alloc = context.alloc;
+    let Ok(mut outputs) = Vec::with_capacity(alloc, states.len()) else {
+        return Err(meter.stop(Fault::Memory));
+    };
+    let Ok(mut turns) = Vec::with_capacity(alloc, states.len()) else {
+        return Err(meter.stop(Fault::Memory));
+    };
+    for ran in states.iter_mut() {
+        let Ok(mut output) = value.clone_in(alloc) else {
+            return Err(meter.stop(Fault::Memory));
+        };
+        let mark = meter.mark();
+        step_member(context, wait, ran, inside, &mut output, meter)?;
+        outputs.push_reserved(output);
+        turns.push_reserved(Turn::Stays(meter.since(mark)));
+    }
+    Ok(Noted { outputs, turns })
+}
+
+// The first sample of the members of an edit: one that stays has been stepped; one that begins stands before its input.
+#[cycle(step)]
+#[inline(never)]
+fn step_again<R: Holds>(
+    context: &SampleContext<R>,
+    wait: u64,
+    states: &mut Vec<State>,
+    outputs: &mut Vec<Value>,
+    turns: &[Turn],
+    inside: u64,
+    meter: &mut Meter,
+) -> Result<(), Stop>
+    requires states { length states.old.items ≡ length turns.now }
+    requires outputs { length outputs.old.items ≡ length turns.now }
+    ensures { HaveTurned (R.answers context.now.functions.now) (plan_in context.now) wait (dt_in context.now) inside meter.old states.old.items outputs.old.items turns.now
+        (left_or result (states.new.items, outputs.new.items) (fault_in meter.new)) meter.new }
+{
+    for at in 0..turns.len() {
+        match &turns[at] {
+            Turn::Stays(spent) => meter.repeat(context.alloc, spent)?,
+            Turn::Begins => {
+                let output = &mut outputs[at];
+                step_waiting(context, wait, &mut states[at], inside, output, meter)?;
+            }
+        }
+    }
+    Ok(())
 }
 
 // The next sample of members, each on the same input, in order: the table of their values takes its place. From then on they
@@ -441,13 +628,39 @@ fn step_list<R: Holds>(
     ensures { EachSteps (R.answers context.now.functions.now) (plan_in context.now) wait list.old.value.items (step (dt_in context.now) value.now)
         (left_with result list.new.value.items (fault_in meter.new)) meter.old meter.new inside }
 {
-    let Ok(()) = unshare_states(context.alloc, list) else {
-        return Err(meter.stop(Fault::Memory));
-    };
     match Rc::get_mut(list) {
         Some(states) => step_each(context, wait, states, inside, value, meter),
-        None => Err(meter.stop(Fault::Memory)),
+        None => step_list_copy(context, wait, list, inside, value, meter),
     }
+}
+
+// The same where others share the list: one over the same nodes takes its place.
+#[cycle(step)]
+#[cold]
+#[inline(never)]
+fn step_list_copy<R: Holds>(
+    context: &SampleContext<R>,
+    wait: Option<u64>,
+    list: &mut Rc<Vec<State>>,
+    inside: u64,
+    value: &Value,
+    meter: &mut Meter,
+) -> Result<Vec<Value>, Stop>
+    ensures { EachSteps (R.answers context.now.functions.now) (plan_in context.now) wait list.old.value.items (step (dt_in context.now) value.now)
+        (left_with result list.new.value.items (fault_in meter.new)) meter.old meter.new inside }
+{
+    let Ok(shared) = list.clone() else {
+        return Err(meter.stop(Fault::Memory));
+    };
+    let Ok(mut own) = own_states(context.alloc, shared) else {
+        return Err(meter.stop(Fault::Memory));
+    };
+    let values = step_each(context, wait, &mut own, inside, value, meter)?;
+    let Ok(copy) = Rc::new(context.alloc, own) else {
+        return Err(meter.stop(Fault::Memory));
+    };
+    *list = copy;
+    Ok(values)
 }
 
 // The same of a list that is their own.
@@ -475,52 +688,6 @@ fn step_each<R: Holds>(
         outputs.push_reserved(output);
     }
     Ok(outputs)
-}
-
-// The same where no table is made of their values.
-#[cycle(step)]
-#[inline(never)]
-fn step_unseen<R: Holds>(
-    context: &SampleContext<R>,
-    wait: Option<u64>,
-    list: &mut Rc<Vec<State>>,
-    inside: u64,
-    value: &Value,
-    meter: &mut Meter,
-) -> Result<(), Stop>
-    ensures { (ys : List Data) × EachSteps (R.answers context.now.functions.now) (plan_in context.now) wait list.old.value.items (step (dt_in context.now) value.now)
-        (left_or result (list.new.value.items, ys) (fault_in meter.new)) meter.old meter.new inside }
-{
-    let Ok(()) = unshare_states(context.alloc, list) else {
-        return Err(meter.stop(Fault::Memory));
-    };
-    match Rc::get_mut(list) {
-        Some(states) => step_each_unseen(context, wait, states, inside, value, meter),
-        None => Err(meter.stop(Fault::Memory)),
-    }
-}
-
-// The same of a list that is their own.
-#[cycle(step)]
-#[inline(always)]
-fn step_each_unseen<R: Holds>(
-    context: &SampleContext<R>,
-    wait: Option<u64>,
-    states: &mut Vec<State>,
-    inside: u64,
-    value: &Value,
-    meter: &mut Meter,
-) -> Result<(), Stop>
-    ensures { (ys : List Data) × EachSteps (R.answers context.now.functions.now) (plan_in context.now) wait states.old.items (step (dt_in context.now) value.now)
-        (left_or result (states.new.items, ys) (fault_in meter.new)) meter.old meter.new inside }
-{
-    for member in states.iter_mut() {
-        let Ok(mut output) = value.clone_in(context.alloc) else {
-            return Err(meter.stop(Fault::Memory));
-        };
-        step_member(context, wait, member, inside, &mut output, meter)?;
-    }
-    Ok(())
 }
 
 // The next sample of a member: where members wait since they were frozen, its first from then on.
@@ -779,13 +946,35 @@ fn step_node<R: Holds>(
     ensures { LiveSteps (R.answers context.now.functions.now) (plan_in context.now) node.old.value (step (dt_in context.now) value.old)
         (left_or result (node.new.value, value.new) (fault_in meter.new)) meter.old meter.new inside }
 {
-    let Ok(()) = unshare(context.alloc, node) else {
-        return Err(meter.stop(Fault::Memory));
-    };
     match Rc::get_mut(node) {
         Some(live) => step_live(context, live, inside, value, meter),
-        None => Err(meter.stop(Fault::Memory)),
+        None => step_node_copy(context, node, inside, value, meter),
     }
+}
+
+// The same where other states share the node: a copy takes its place.
+#[cycle(step)]
+#[cold]
+#[inline(never)]
+fn step_node_copy<R: Holds>(
+    context: &SampleContext<R>,
+    node: &mut Rc<Live>,
+    inside: u64,
+    value: &mut Value,
+    meter: &mut Meter,
+) -> Result<(), Stop>
+    ensures { LiveSteps (R.answers context.now.functions.now) (plan_in context.now) node.old.value (step (dt_in context.now) value.old)
+        (left_or result (node.new.value, value.new) (fault_in meter.new)) meter.old meter.new inside }
+{
+    let Ok(mut own) = node.clone_in(context.alloc) else {
+        return Err(meter.stop(Fault::Memory));
+    };
+    step_live(context, &mut own, inside, value, meter)?;
+    let Ok(copy) = Rc::new(context.alloc, own) else {
+        return Err(meter.stop(Fault::Memory));
+    };
+    *node = copy;
+    Ok(())
 }
 
 // The same of the node's content, which is its own.
@@ -856,10 +1045,10 @@ fn step_parallel<R: Holds>(
         (left_or result (Live.Join Join.InParallel left.new right.new, value.new) (fault_in meter.new)) meter.old meter.new inside }
 {
     let input = mem::replace(value, Value::int(0));
-    let Ok(mut node) = input.into_own_pair(context.alloc) else {
+    let Ok(mut node) = input.into_pair(context.alloc) else {
         return Err(meter.stop(Fault::Memory));
     };
-    let Some(halves) = Rc::get_mut(&mut node) else {
+    let Ok(halves) = Rc::make_mut(&mut node) else {
         return Err(meter.stop(Fault::Memory));
     };
     step_state(context, left, inside, &mut halves.first, meter)?;
@@ -928,10 +1117,10 @@ fn step_first<R: Holds>(
         (left_or result (Live.Wrap Wrap.First part.new, value.new) (fault_in meter.new)) meter.old meter.new inside }
 {
     let input = mem::replace(value, Value::int(0));
-    let Ok(mut node) = input.into_own_pair(context.alloc) else {
+    let Ok(mut node) = input.into_pair(context.alloc) else {
         return Err(meter.stop(Fault::Memory));
     };
-    let Some(halves) = Rc::get_mut(&mut node) else {
+    let Ok(halves) = Rc::make_mut(&mut node) else {
         return Err(meter.stop(Fault::Memory));
     };
     step_state(context, part, inside, &mut halves.first, meter)?;
@@ -953,10 +1142,10 @@ fn step_second<R: Holds>(
         (left_or result (Live.Wrap Wrap.Second part.new, value.new) (fault_in meter.new)) meter.old meter.new inside }
 {
     let input = mem::replace(value, Value::int(0));
-    let Ok(mut node) = input.into_own_pair(context.alloc) else {
+    let Ok(mut node) = input.into_pair(context.alloc) else {
         return Err(meter.stop(Fault::Memory));
     };
-    let Some(halves) = Rc::get_mut(&mut node) else {
+    let Ok(halves) = Rc::make_mut(&mut node) else {
         return Err(meter.stop(Fault::Memory));
     };
     step_state(context, part, inside, &mut halves.second, meter)?;

@@ -1,6 +1,6 @@
 -- What builders keep of a program.
 use Rattle.std.specs.Prelude.{slice_index_or}
-use Rattle.std.proofs.Common.{◌≡◌, ◌↔◌, ℕ, zero, suc, ◌^◌, ◌-◌, max, min, ◌<◌, ◌≤◌, List, [], ◌∷◌, ◌++◌, length, get_or, map, Bool, true, false, cond, Result, Ok, Err, IfOk, OnOk, OnErr, refl, sym, ◌∙◌, ap, subst, arith, ◌⊎◌, inl, inr, All}
+use Rattle.std.proofs.Common.{◌≡◌, ℕ, zero, suc, ◌^◌, ◌-◌, max, min, ◌<◌, ◌≤◌, List, [], ◌∷◌, ◌++◌, length, get_or, map, Bool, true, false, cond, Result, Ok, Err, IfOk, OnOk, refl, sym, ◌∙◌, ap, subst, arith, ◌⊎◌, inl, inr, All}
 use mathlib.Core.Path.{ap₂}
 use Rattle.std.proofs.lemmas.List.{map-append, get_or_past}
 use Rattle.std.proofs.lemmas.List.Elements.{All-nil, All-cons, All-head, All-tail, All-weaker}
@@ -20,11 +20,10 @@ use Rattle.sf_value.specs.Values.{Name}
 use Rattle.sf_expr.specs.declared.exprs.ExprNode.{ExprNode}
 use Rattle.sf_expr.specs.declared.exprs.Exprs.{Exprs}
 use Rattle.sf_expr.specs.Patterns.{PlacedPattern, pattern_of}
-use Rattle.sf_expr.specs.Expressions.{Literal, Expression}
+use Rattle.sf_expr.specs.Expressions.{Literal, Expression, depth as expression_depth}
 use Rattle.sf_expr.specs.Arena.{expression, name_at, HoldsName, next_name, count_of, function_count, name_count, pattern_count, Holds, HoldsFunction as HoldsFunctionIn, function_at, pattern_at as pattern_at_in, body_at as body_at_in, node_at as value_node_at, spot_at as value_spot_at, Keeps as KeepsExpressions, Adds as AddsToExpressions, AddsName, AddsConstant, HoldsPattern, placed_at, next_pattern, AddsPattern, expression_of, AddsFunction as AddsFunctionIn, IsUnchanged as ExpressionsUnchanged}
 use Rattle.sf_expr.proofs.Entered.{below_holds, holds_below, below_function, function_below, name_below, below_name, constant_below, below_constant, pattern_below, below_pattern, few_expressions, adds_keeps as expressions_kept, unchanged_keeps as unchanged_expressions_kept, keeps_trans as expressions_kept_trans}
 use Rattle.sf_term.specs.declared.refusal.BuildRefusal.{BuildRefusal}
-use Rattle.sf_term.specs.declared.refusal.BuildRefusal.TheVariants.{TooDeep}
 use Rattle.sf_term.specs.declared.node.TermId.{TermId}
 use Rattle.sf_term.specs.declared.node.ArgumentsId.{ArgumentsId}
 use Rattle.sf_term.specs.declared.node.Argument.{Argument}
@@ -46,7 +45,9 @@ use Rattle.sf_term.specs.Trees.{named_term, Term, reference, call, value_argumen
 use Rattle.sf_term.specs.Headers.{Header, bodies_end}
 use Rattle.sf_term.specs.Entries.{StoredLists, absent_collection, collections_in, collection_listed, stored_over, stored_terms, stored_expressions, stored_functions, stored_names, collections_end, arguments_over, terms_end, expressions_end, identity_term, term_over, needs_terms, identity_entry, term_entry, term_made, terms_made, term_entered}
 use Rattle.sf_term.specs.Arena.{term_number, expressions_of, base_of, lists_of, HoldsCollection, HoldsMembers, HoldsWhole, collection_under, collection_of, collection_at, CollectionBelow, HoldsArguments, HoldsArgument, ArgumentBelow, arguments_under, arguments_of, next_arguments, term_count, expression_count, HoldsTerm, HoldsExpression, ProgramHoldsFunction, HoldsPatternIn, function_pattern_at, function_body_at, pattern_under, function_in, tree, expression_under, term_entry_of, term_node_at, expression_node_at, term_spot_at, expression_spot_at, term_of, headers_of, template_in, TermPartsBelow, HoldsTermParts, KeepsTrees, KeepsProgram, AddsTerm, AddsExpression, AddsProgramFunction, AddsTemplate, IsSameProgram}
-use Rattle.sf_term.proofs.Entered.{term-built, term-same, NeedsAreThere, MoreLists, lists_copied}
+use Rattle.sf_term.specs.Building.{IsBuilt, BuildsTerm, BuildsExpression, NoNames, HasPattern, PutsBoth}
+use Rattle.sf_term.proofs.Refused.{room_as, due_as}
+use Rattle.sf_term.proofs.Entered.{term-built, term-same, NeedsAreThere, MoreLists, same_lists}
 
 -- what a collection needs is there where what it names is held
 pub members_end : (p : Program) (c : CollExpr) → HoldsMembers p c
@@ -538,11 +539,6 @@ pub term_past : (p : Program) (t : TermId) → term_count p ≤ term_number t �
 unfolding term_count tree tree_at
 term_past p t h = get_or_past (terms_made (base_of p) (entries_of p.terms)) t.0 identity_term (omega (arith, trees-length (term_made (base_of p)) (entries_of p.terms)))
 
--- what holds in any case holds where there is an error
-pub on_any_err : {A E P : Type 0} (r : Result A E) → P → OnErr r P
-on_any_err (Ok x) p = tt
-on_any_err (Err e) p = p
-
 -- a program holds what stands below its count
 pub holds_below_count : (p : Program) (t : TermId) → HoldsTerm p t → term_number t < term_count p
 unfolding HoldsTerm term_count
@@ -765,55 +761,51 @@ term_pattern_there a b c (Ok id) q p n t s next within is adds =
     (adds.kept.trees.holds_patterns q within, adds.kept.trees.placed q within ∙ is)
 term_pattern_there a b c (Err f) q p n t s next within is adds = tt
 
--- a term is too deep where it is too deep in a program that shows the same
-pub deep_after : (a b : Program) (r : Result TermId BuildRefusal) (n : Node) (t : Term) → IsSameProgram a b → term_of b n ≡ t
-    → (r ≡ Err TooDeep ↔ (term_count b < 100000) × (64 < term_depth (term_of b n))) → r ≡ Err TooDeep ↔ (term_count a < 100000) × (64 < term_depth t)
-deep_after a b r n t same made h =
-    let depth = ap term_depth made in
-    (λ e. let g = h.0 e in (omega (arith, g.0, same.term_counted), omega (arith, g.1, depth)), λ g. h.1 (omega (arith, g.0, same.term_counted), omega (arith, g.1, depth)))
+-- what is built behind what was put there is built, if its names are names
+pub follows : {A Named : Type 0} {M N : A → Type 0} (a b c : Program) (r : Result A BuildRefusal) (others inner count whole : ℕ) → Named → others ≡ count → min inner 65 ≡ min whole 65 → IsSameProgram a b → IfOk r N → IsBuilt b c r M others inner NoNames → IsBuilt a c r N count whole Named
+follows {A} {Named} a b c (Ok x) others inner count whole named counted deep same made built = record {
+  ok = made;
+  refused = record { room = room_as others inner count whole NoNames Named counted deep (λ u. named, λ n. tt) built.refused.room; due = tt };
+  err = tt;
+}
+follows {A} {Named} a b c (Err f) others inner count whole named counted deep same made built = record {
+  ok = tt;
+  refused = record { room = tt; due = due_as others inner count whole NoNames Named f counted deep (λ u. named, λ n. tt) built.refused.due };
+  err = unchanged_trans a b c same built.err;
+}
+
+pub term_follows : {I Named : Type 0} (a b c : Program) (r : Result TermId BuildRefusal) (m next : I) (n : I → Node) (t : Term) (s : Spot) → Named → m ≡ next → IsSameProgram a b → term_of b (n m) ≡ t → BuildsTerm b c r (n m) (term_of b (n m)) s NoNames → BuildsTerm a c r (n next) t s Named
+term_follows a b c r m next n t s named there same is built =
+    follows a b c r (term_count b) (term_depth (term_of b (n m))) (term_count a) (term_depth t) named same.term_counted (ap (λ (t : Term). min (term_depth t) 65) is) same (term_with a b c r m next n t s there same is built.ok) built
+
+pub expression_follows : {I Named : Type 0} (a b c : Program) (r : Result ExprId BuildRefusal) (m next : I) (n : I → ExprNode) (e : Expression) (s : Spot) → Named → m ≡ next → IsSameProgram a b → expression_of b.expressions (n m) ≡ e → BuildsExpression b c r (n m) (expression_of b.expressions (n m)) s NoNames → BuildsExpression a c r (n next) e s Named
+expression_follows a b c r m next n e s named there same is built =
+    follows a b c r (expression_count b) (expression_depth (expression_of b.expressions (n m))) (expression_count a) (expression_depth e) named same.expression_counted (ap (λ (e : Expression). min (expression_depth e) 65) is) same (adds_with a b c r m next n e s there same is built.ok) built
+
+-- a program shows the same as itself
+pub same_self : (p : Program) → IsSameProgram p p
+same_self p = unchanged p p (same_expressions p.expressions) (same_lists _) refl refl
 
 -- the term of a switch, whose pattern is put beside the expressions
-switch_made : (a b : Program) (q : PatternId) (p : PlacedPattern) (w : Switching) (i j : TermId) → AddsPattern a.expressions b.expressions q p → MoreLists (lists_of a) (lists_of b) → entries_of b.terms ≡ entries_of a.terms → headers_of b ≡ headers_of a
+pub switch_made : (a b : Program) (q : PatternId) (p : PlacedPattern) (w : Switching) (i j : TermId) → AddsPattern a.expressions b.expressions q p → IsSameProgram a b
     → term_of b (nodes.Switching (record { form = w; source = i; pattern = q; body = j })) ≡ switching w (tree a i) (pattern_of p) (tree a j)
 unfolding pattern_under
-switch_made a b q p w i j added m terms headers =
-    let same = put_beside a b (pattern_beside _ _ _ _ added) m terms headers in
-    rw (same.trees i, same.trees j, added.is) refl
+switch_made a b q p w i j added same = rw (same.trees i, same.trees j, added.is) refl
 
-pub adds_switch : (a b c : Program) (r : Result TermId BuildRefusal) (q : PatternId) (p : PlacedPattern) (w : Switching) (i j : TermId) (s : Spot) → AddsPattern a.expressions b.expressions q p → MoreLists (lists_of a) (lists_of b) → entries_of b.terms ≡ entries_of a.terms → headers_of b ≡ headers_of a
-    → IfOk r (λ id. AddsTerm b c id (nodes.Switching (record { form = w; source = i; pattern = q; body = j })) (term_of b (nodes.Switching (record { form = w; source = i; pattern = q; body = j }))) s)
-    → IfOk r (λ id. AddsTerm a c id (nodes.Switching (record { form = w; source = i; pattern = next_pattern a.expressions; body = j })) (switching w (tree a i) (pattern_of p) (tree a j)) s)
-adds_switch a b c r q p w i j s added m terms headers adds =
-    term_with a b c r q (next_pattern a.expressions) (λ (q : PatternId). nodes.Switching (record { form = w; source = i; pattern = q; body = j })) _ s added.next (put_beside a b (pattern_beside _ _ _ _ added) m terms headers) (switch_made a b q p w i j added m terms headers) adds
-
--- it is too deep where its parts are
-pub switch_deep : (a b : Program) (r : Result TermId BuildRefusal) (q : PatternId) (p : PlacedPattern) (w : Switching) (i j : TermId) → AddsPattern a.expressions b.expressions q p → MoreLists (lists_of a) (lists_of b) → entries_of b.terms ≡ entries_of a.terms → headers_of b ≡ headers_of a
-    → (r ≡ Err TooDeep ↔ (term_count b < 100000) × (64 < term_depth (term_of b (nodes.Switching (record { form = w; source = i; pattern = q; body = j })))))
-    → r ≡ Err TooDeep ↔ (term_count a < 100000) × (64 < term_depth (switching w (tree a i) (pattern_of p) (tree a j)))
-switch_deep a b r q p w i j added m terms headers h =
-    deep_after a b r (nodes.Switching (record { form = w; source = i; pattern = q; body = j })) _ (put_beside a b (pattern_beside _ _ _ _ added) m terms headers) (switch_made a b q p w i j added m terms headers) h
-
--- A name was put beside the expressions, and a pattern behind it.
-pub record AddsNameAndPattern (x y : Exprs) (n : NameId) (g : Name) (q : PatternId) (p : PlacedPattern) : Type 0 where
-  pub beside : AddsBeside x y
-  pub name_next : n ≡ next_name x
-  pub pattern_next : q ≡ next_pattern x
-  pub name_within : HoldsName y n
-  pub pattern_within : HoldsPattern y q
-  pub name_is : name_at y n ≡ g
-  pub pattern_is : placed_at y q ≡ p
-
-pub name_and_pattern : (x y z : Exprs) (n : NameId) (g : Name) (q : PatternId) (p : PlacedPattern) → AddsName x y n g → AddsPattern y z q p → AddsNameAndPattern x z n g q p
+-- a name was put beside the expressions, and a pattern behind it
+pub name_and_pattern : (x y z : Exprs) (n : NameId) (g : Name) (q : PatternId) (p : PlacedPattern) → AddsName x y n g → AddsPattern y z q p → PutsBoth x z (n, q) g p
 unfolding next_pattern pattern_count
 name_and_pattern x y z n g q p a b = record {
-  beside = beside_trans x y z (name_beside x y n g a) (pattern_beside y z q p b);
-  name_next = a.next;
-  pattern_next = b.next ∙ ap (λ k. record { 0 = k }) a.pattern_counted;
-  name_within = b.kept.holds_names n a.within;
-  pattern_within = b.within;
+  next = ap₂ (λ (i : NameId) (j : PatternId). (i, j)) a.next (b.next ∙ ap (λ k. record { 0 = k }) a.pattern_counted);
+  holds_name = b.kept.holds_names n a.within;
+  holds_pattern = b.within;
   name_is = b.kept.names n a.within ∙ a.is;
   pattern_is = b.is;
 }
+
+-- and that pattern is there
+pub both_there : (a b c : Program) (r : Result TermId BuildRefusal) (ids : NameId × PatternId) (g : Name) (p : PlacedPattern) (n : Node) (t : Term) (s : Spot) → PutsBoth a.expressions b.expressions ids g p → IfOk r (λ id. AddsTerm b c id n t s) → OnOk r (HasPattern c (next_pattern a.expressions) p)
+both_there a b c r ids g p n t s put adds = term_pattern_there a b c r ids.1 p n t s (ap (λ (k : NameId × PatternId). k.1) put.next) put.holds_pattern put.pattern_is adds
 
 -- the members of a name that was put there
 pub used_next : (n k : NameId) (r s : Spot) → n ≡ k → ◌≡◌ {A = CollExpr} (collections.Used n r s) (collections.Used k r s)
@@ -848,75 +840,22 @@ collection_at_after : (a b : Program) (i : CollectionId) → IsSameProgram a b �
 collection_at_after a b i same h = (collection_at_kept a b i (unchanged_keeps a b same).trees h).0
 
 -- the term of a switch that knows its source by a name, whose name and pattern are put beside the expressions
-keeping_made : (a b : Program) (n : NameId) (g : Name) (q : PatternId) (p : PlacedPattern) (w : Observation) (i o j : TermId) (at : Spot) → AddsNameAndPattern a.expressions b.expressions n g q p → MoreLists (lists_of a) (lists_of b) → entries_of b.terms ≡ entries_of a.terms → headers_of b ≡ headers_of a
-    → term_of b (nodes.Keeping (record { shown = w; source = i; observer = o; name = n; place = at; pattern = q; body = j })) ≡ keeping w (tree a i) (tree a o) g (pattern_of p) (tree a j)
+pub keeping_made : (a b : Program) (ids : NameId × PatternId) (g : Name) (p : PlacedPattern) (w : Observation) (i o j : TermId) (at : Spot) → PutsBoth a.expressions b.expressions ids g p → IsSameProgram a b
+    → term_of b (nodes.Keeping (record { shown = w; source = i; observer = o; name = ids.0; place = at; pattern = ids.1; body = j })) ≡ keeping w (tree a i) (tree a o) g (pattern_of p) (tree a j)
 unfolding pattern_under expressions_of
-keeping_made a b n g q p w i o j at added m terms headers =
-    let same = put_beside a b added.beside m terms headers in
-    rw (same.trees i, same.trees o, same.trees j, added.name_is, added.pattern_is) refl
+keeping_made a b ids g p w i o j at put same = rw (same.trees i, same.trees o, same.trees j, put.name_is, put.pattern_is) refl
 
 -- members that give way, likewise
-releasing_made : (a b : Program) (n : NameId) (g : Name) (q : PatternId) (p : PlacedPattern) (w : Observation) (i : CollectionId) (o j : TermId) (at : Spot) → HoldsWhole a i → AddsNameAndPattern a.expressions b.expressions n g q p → MoreLists (lists_of a) (lists_of b) → entries_of b.terms ≡ entries_of a.terms → headers_of b ≡ headers_of a
-    → term_of b (nodes.Releasing (record { shown = w; members = i; observer = o; name = n; place = at; pattern = q; body = j })) ≡ releasing w (collection_at a i) (tree a o) g (pattern_of p) (tree a j)
+pub releasing_made : (a b : Program) (ids : NameId × PatternId) (g : Name) (p : PlacedPattern) (w : Observation) (i : CollectionId) (o j : TermId) (at : Spot) → HoldsWhole a i → PutsBoth a.expressions b.expressions ids g p → IsSameProgram a b
+    → term_of b (nodes.Releasing (record { shown = w; members = i; observer = o; name = ids.0; place = at; pattern = ids.1; body = j })) ≡ releasing w (collection_at a i) (tree a o) g (pattern_of p) (tree a j)
 unfolding pattern_under expressions_of
-releasing_made a b n g q p w i o j at held added m terms headers =
-    let same = put_beside a b added.beside m terms headers in
-    rw (collection_at_after a b i same held, same.trees o, same.trees j, added.name_is, added.pattern_is) refl
+releasing_made a b ids g p w i o j at held put same = rw (collection_at_after a b i same held, same.trees o, same.trees j, put.name_is, put.pattern_is) refl
 
 -- members that are edited, likewise
-editing_made : (a b : Program) (n : NameId) (g : Name) (q : PatternId) (p : PlacedPattern) (w : Observation) (i j : CollectionId) (at : Spot) → HoldsWhole a i → HoldsWhole a j → AddsNameAndPattern a.expressions b.expressions n g q p → MoreLists (lists_of a) (lists_of b) → entries_of b.terms ≡ entries_of a.terms → headers_of b ≡ headers_of a
-    → term_of b (nodes.Editing (record { shown = w; members = i; name = n; place = at; pattern = q; edit = j })) ≡ editing w (collection_at a i) g (pattern_of p) (collection_at a j)
+pub editing_made : (a b : Program) (ids : NameId × PatternId) (g : Name) (p : PlacedPattern) (w : Observation) (i j : CollectionId) (at : Spot) → HoldsWhole a i → HoldsWhole a j → PutsBoth a.expressions b.expressions ids g p → IsSameProgram a b
+    → term_of b (nodes.Editing (record { shown = w; members = i; name = ids.0; place = at; pattern = ids.1; edit = j })) ≡ editing w (collection_at a i) g (pattern_of p) (collection_at a j)
 unfolding pattern_under expressions_of
-editing_made a b n g q p w i j at held edit added m terms headers =
-    let same = put_beside a b added.beside m terms headers in
-    rw (collection_at_after a b i same held, collection_at_after a b j same edit, added.name_is, added.pattern_is) refl
-
--- a node that names a name and a pattern that were put there
-adds_named : (a b c : Program) (r : Result TermId BuildRefusal) (n : NameId) (g : Name) (q : PatternId) (p : PlacedPattern) (node : NameId × PatternId → Node) (t : Term) (s : Spot) → AddsNameAndPattern a.expressions b.expressions n g q p → MoreLists (lists_of a) (lists_of b) → entries_of b.terms ≡ entries_of a.terms → headers_of b ≡ headers_of a → term_of b (node (n, q)) ≡ t
-    → IfOk r (λ id. AddsTerm b c id (node (n, q)) (term_of b (node (n, q))) s)
-    → IfOk r (λ id. AddsTerm a c id (node (next_name a.expressions, next_pattern a.expressions)) t s)
-adds_named a b c r n g q p node t s added m terms headers made adds =
-    let ids : ◌≡◌ {A = NameId × PatternId} (n, q) (next_name a.expressions, next_pattern a.expressions) = ap₂ (λ (x : NameId) (y : PatternId). (x, y)) added.name_next added.pattern_next in
-    term_with {I = NameId × PatternId} a b c r (n, q) (next_name a.expressions, next_pattern a.expressions) node t s ids (put_beside a b added.beside m terms headers) made adds
-
-pub adds_keeping : (a b c : Program) (r : Result TermId BuildRefusal) (n : NameId) (g : Name) (q : PatternId) (p : PlacedPattern) (w : Observation) (i o j : TermId) (at s : Spot) → AddsNameAndPattern a.expressions b.expressions n g q p → MoreLists (lists_of a) (lists_of b) → entries_of b.terms ≡ entries_of a.terms → headers_of b ≡ headers_of a
-    → IfOk r (λ id. AddsTerm b c id (nodes.Keeping (record { shown = w; source = i; observer = o; name = n; place = at; pattern = q; body = j })) (term_of b (nodes.Keeping (record { shown = w; source = i; observer = o; name = n; place = at; pattern = q; body = j }))) s)
-    → IfOk r (λ id. AddsTerm a c id (nodes.Keeping (record { shown = w; source = i; observer = o; name = next_name a.expressions; place = at; pattern = next_pattern a.expressions; body = j })) (keeping w (tree a i) (tree a o) g (pattern_of p) (tree a j)) s)
-adds_keeping a b c r n g q p w i o j at s added m terms headers adds =
-    adds_named a b c r n g q p (λ (k : NameId × PatternId). nodes.Keeping (record { shown = w; source = i; observer = o; name = k.0; place = at; pattern = k.1; body = j })) _ s added m terms headers (keeping_made a b n g q p w i o j at added m terms headers) adds
-
-pub adds_releasing : (a b c : Program) (r : Result TermId BuildRefusal) (n : NameId) (g : Name) (q : PatternId) (p : PlacedPattern) (w : Observation) (i : CollectionId) (o j : TermId) (at s : Spot) → HoldsWhole a i → AddsNameAndPattern a.expressions b.expressions n g q p → MoreLists (lists_of a) (lists_of b) → entries_of b.terms ≡ entries_of a.terms → headers_of b ≡ headers_of a
-    → IfOk r (λ id. AddsTerm b c id (nodes.Releasing (record { shown = w; members = i; observer = o; name = n; place = at; pattern = q; body = j })) (term_of b (nodes.Releasing (record { shown = w; members = i; observer = o; name = n; place = at; pattern = q; body = j }))) s)
-    → IfOk r (λ id. AddsTerm a c id (nodes.Releasing (record { shown = w; members = i; observer = o; name = next_name a.expressions; place = at; pattern = next_pattern a.expressions; body = j })) (releasing w (collection_at a i) (tree a o) g (pattern_of p) (tree a j)) s)
-adds_releasing a b c r n g q p w i o j at s held added m terms headers adds =
-    adds_named a b c r n g q p (λ (k : NameId × PatternId). nodes.Releasing (record { shown = w; members = i; observer = o; name = k.0; place = at; pattern = k.1; body = j })) _ s added m terms headers (releasing_made a b n g q p w i o j at held added m terms headers) adds
-
-pub adds_editing : (a b c : Program) (r : Result TermId BuildRefusal) (n : NameId) (g : Name) (q : PatternId) (p : PlacedPattern) (w : Observation) (i j : CollectionId) (at s : Spot) → HoldsWhole a i → HoldsWhole a j → AddsNameAndPattern a.expressions b.expressions n g q p → MoreLists (lists_of a) (lists_of b) → entries_of b.terms ≡ entries_of a.terms → headers_of b ≡ headers_of a
-    → IfOk r (λ id. AddsTerm b c id (nodes.Editing (record { shown = w; members = i; name = n; place = at; pattern = q; edit = j })) (term_of b (nodes.Editing (record { shown = w; members = i; name = n; place = at; pattern = q; edit = j }))) s)
-    → IfOk r (λ id. AddsTerm a c id (nodes.Editing (record { shown = w; members = i; name = next_name a.expressions; place = at; pattern = next_pattern a.expressions; edit = j })) (editing w (collection_at a i) g (pattern_of p) (collection_at a j)) s)
-adds_editing a b c r n g q p w i j at s held edit added m terms headers adds =
-    adds_named a b c r n g q p (λ (k : NameId × PatternId). nodes.Editing (record { shown = w; members = i; name = k.0; place = at; pattern = k.1; edit = j })) _ s added m terms headers (editing_made a b n g q p w i j at held edit added m terms headers) adds
-
-pub keeping_deep : (a b : Program) (r : Result TermId BuildRefusal) (n : NameId) (g : Name) (q : PatternId) (p : PlacedPattern) (w : Observation) (i o j : TermId) (at : Spot) → AddsNameAndPattern a.expressions b.expressions n g q p → MoreLists (lists_of a) (lists_of b) → entries_of b.terms ≡ entries_of a.terms → headers_of b ≡ headers_of a
-    → (r ≡ Err TooDeep ↔ (term_count b < 100000) × (64 < term_depth (term_of b (nodes.Keeping (record { shown = w; source = i; observer = o; name = n; place = at; pattern = q; body = j })))))
-    → r ≡ Err TooDeep ↔ (term_count a < 100000) × (64 < term_depth (keeping w (tree a i) (tree a o) g (pattern_of p) (tree a j)))
-keeping_deep a b r n g q p w i o j at added m terms headers h = deep_after a b r (nodes.Keeping (record { shown = w; source = i; observer = o; name = n; place = at; pattern = q; body = j })) _ (put_beside a b added.beside m terms headers) (keeping_made a b n g q p w i o j at added m terms headers) h
-
-pub releasing_deep : (a b : Program) (r : Result TermId BuildRefusal) (n : NameId) (g : Name) (q : PatternId) (p : PlacedPattern) (w : Observation) (i : CollectionId) (o j : TermId) (at : Spot) → HoldsWhole a i → AddsNameAndPattern a.expressions b.expressions n g q p → MoreLists (lists_of a) (lists_of b) → entries_of b.terms ≡ entries_of a.terms → headers_of b ≡ headers_of a
-    → (r ≡ Err TooDeep ↔ (term_count b < 100000) × (64 < term_depth (term_of b (nodes.Releasing (record { shown = w; members = i; observer = o; name = n; place = at; pattern = q; body = j })))))
-    → r ≡ Err TooDeep ↔ (term_count a < 100000) × (64 < term_depth (releasing w (collection_at a i) (tree a o) g (pattern_of p) (tree a j)))
-releasing_deep a b r n g q p w i o j at held added m terms headers h =
-    deep_after a b r (nodes.Releasing (record { shown = w; members = i; observer = o; name = n; place = at; pattern = q; body = j })) _ (put_beside a b added.beside m terms headers) (releasing_made a b n g q p w i o j at held added m terms headers) h
-
-pub editing_deep : (a b : Program) (r : Result TermId BuildRefusal) (n : NameId) (g : Name) (q : PatternId) (p : PlacedPattern) (w : Observation) (i j : CollectionId) (at : Spot) → HoldsWhole a i → HoldsWhole a j → AddsNameAndPattern a.expressions b.expressions n g q p → MoreLists (lists_of a) (lists_of b) → entries_of b.terms ≡ entries_of a.terms → headers_of b ≡ headers_of a
-    → (r ≡ Err TooDeep ↔ (term_count b < 100000) × (64 < term_depth (term_of b (nodes.Editing (record { shown = w; members = i; name = n; place = at; pattern = q; edit = j })))))
-    → r ≡ Err TooDeep ↔ (term_count a < 100000) × (64 < term_depth (editing w (collection_at a i) g (pattern_of p) (collection_at a j)))
-editing_deep a b r n g q p w i j at held edit added m terms headers h =
-    deep_after a b r (nodes.Editing (record { shown = w; members = i; name = n; place = at; pattern = q; edit = j })) _ (put_beside a b added.beside m terms headers) (editing_made a b n g q p w i j at held edit added m terms headers) h
-
-pub unchanged_after : {A E : Type 0} (a b c : Program) (r : Result A E) → IsSameProgram a b → OnErr r (IsSameProgram b c) → OnErr r (IsSameProgram a c)
-unchanged_after a b c (Ok x) u e = tt
-unchanged_after a b c (Err f) u e = unchanged_trans a b c u e
+editing_made a b ids g p w i j at held edit put same = rw (collection_at_after a b i same held, collection_at_after a b j same edit, put.name_is, put.pattern_is) refl
 
 -- arguments stand for the same where a program shows the same
 arguments_after : (a b : Program) (vs : List Argument) → IsSameProgram a b → All (HoldsArgument a) vs → arguments_of b vs ≡ arguments_of a vs
@@ -946,14 +885,14 @@ pub record PutsCall (a b : Program) (n : NameId) (g : Name) (l : ArgumentsId) (v
   pub arguments_within : HoldsArguments b l
   pub arguments_are : arguments_under b l ≡ vs
 
-pub puts_call : (a m b : Program) (n : NameId) (g : Name) (l : ArgumentsId) (vs : List Argument) → All (HoldsArgument a) vs → AddsName a.expressions m.expressions n g → m.arguments.items ≡ a.arguments.items → collections_in m.collections.items ≡ collections_in a.collections.items → entries_of m.terms ≡ entries_of a.terms → headers_of m ≡ headers_of a
+pub puts_call : (a m b : Program) (n : NameId) (g : Name) (l : ArgumentsId) (vs : List Argument) → All (HoldsArgument a) vs → AddsName a.expressions m.expressions n g → IsSameProgram a m → next_arguments m ≡ next_arguments a
     → l ≡ next_arguments m → HoldsArguments b l → arguments_under b l ≡ vs → IsSameProgram m b → expressions_of b ≡ expressions_of m → PutsCall a b n g l vs
-unfolding expressions_of next_arguments
-puts_call a m b n g l vs held added lists collections terms headers next within are same expressions = record {
+unfolding expressions_of
+puts_call a m b n g l vs held added first lists next within are same expressions = record {
   held = held;
-  same = unchanged_trans a m b (put_beside a m (name_beside _ _ _ _ added) (lists_copied _ _ lists collections) terms headers) same;
+  same = unchanged_trans a m b first same;
   name_next = added.next;
-  arguments_next = next ∙ ap (λ (us : List (List Argument)). record { 0 = length us }) lists;
+  arguments_next = next ∙ lists;
   name_within = subst (λ x. HoldsName x n) (sym expressions) added.within;
   name_is = ap (λ x. name_at x n) expressions ∙ added.is;
   arguments_within = within;
@@ -961,20 +900,14 @@ puts_call a m b n g l vs held added lists collections terms headers next within 
 }
 
 -- the term of a call whose name and arguments are put there
-call_made : (a b : Program) (n : NameId) (g : Name) (l : ArgumentsId) (vs : List Argument) → PutsCall a b n g l vs → term_of b (nodes.Call n l) ≡ reference (call g (arguments_of a vs))
+pub call_made : (a b : Program) (n : NameId) (g : Name) (l : ArgumentsId) (vs : List Argument) → PutsCall a b n g l vs → term_of b (nodes.Call n l) ≡ reference (call g (arguments_of a vs))
 call_made a b n g l vs p = ap₂ (λ k us. reference (call k us)) p.name_is (ap (arguments_of b) p.arguments_are ∙ arguments_after a b vs p.same p.held)
 
-pub adds_call : (a b c : Program) (r : Result TermId BuildRefusal) (n : NameId) (g : Name) (l : ArgumentsId) (vs : List Argument) (s : Spot) → PutsCall a b n g l vs
-    → IfOk r (λ id. AddsTerm b c id (nodes.Call n l) (term_of b (nodes.Call n l)) s)
-    → IfOk r (λ id. AddsTerm a c id (nodes.Call (next_name (expressions_of a)) (next_arguments a)) (reference (call g (arguments_of a vs))) s)
-adds_call a b c r n g l vs s p adds =
+pub call_follows : {Named : Type 0} (a b c : Program) (r : Result TermId BuildRefusal) (n : NameId) (g : Name) (l : ArgumentsId) (vs : List Argument) (s : Spot) → Named → PutsCall a b n g l vs → BuildsTerm b c r (nodes.Call n l) (term_of b (nodes.Call n l)) s NoNames
+    → BuildsTerm a c r (nodes.Call (next_name (expressions_of a)) (next_arguments a)) (reference (call g (arguments_of a vs))) s Named
+call_follows a b c r n g l vs s named p built =
     let ids : ◌≡◌ {A = NameId × ArgumentsId} (n, l) (next_name (expressions_of a), next_arguments a) = ap₂ (λ (x : NameId) (y : ArgumentsId). (x, y)) p.name_next p.arguments_next in
-    term_with {I = NameId × ArgumentsId} a b c r (n, l) (next_name (expressions_of a), next_arguments a) (λ (k : NameId × ArgumentsId). nodes.Call k.0 k.1) _ s ids p.same (call_made a b n g l vs p) adds
-
-pub call_deep : (a b : Program) (r : Result TermId BuildRefusal) (n : NameId) (g : Name) (l : ArgumentsId) (vs : List Argument) → PutsCall a b n g l vs
-    → (r ≡ Err TooDeep ↔ (term_count b < 100000) × (64 < term_depth (term_of b (nodes.Call n l))))
-    → r ≡ Err TooDeep ↔ (term_count a < 100000) × (64 < term_depth (reference (call g (arguments_of a vs))))
-call_deep a b r n g l vs p h = deep_after a b r (nodes.Call n l) _ p.same (call_made a b n g l vs p) h
+    term_follows {I = NameId × ArgumentsId} a b c r (n, l) (next_name (expressions_of a), next_arguments a) (λ (k : NameId × ArgumentsId). nodes.Call k.0 k.1) _ s named ids p.same (call_made a b n g l vs p) built
 
 -- and the arguments are there
 pub arguments_there : (a b c : Program) (r : Result TermId BuildRefusal) (n : NameId) (g : Name) (l : ArgumentsId) (vs : List Argument) (t : Term) (s : Spot) → PutsCall a b n g l vs

@@ -6,3 +6,4 @@ pub mod Entries
 pub mod Arena
 pub mod Names
 pub mod Refusals
+pub mod Building

@@ -1,12 +1,12 @@
 //! Programs: terms and templates, in an arena.
 ghost use Rattle.std.specs.Option.{option_map, unwrap_or};
-ghost use Rattle.std.specs.Prelude.{◌≡◌, ◌<◌, ◌≤◌, ◌↔◌, ◌^◌, ◌-◌, max, min, IfOk, IfErr, OnOk, OnErr, [], length, string_bytes, All};
+ghost use Rattle.std.specs.Prelude.{◌≡◌, ◌<◌, ◌≤◌, ◌^◌, ◌+◌, ◌-◌, max, min, IfOk, IfErr, OnOk, [], length, string_bytes, All};
 ghost use Rattle.sf_lex.specs.Words.{IsName};
 ghost use Rattle.sf_expr.specs.Expressions.{variable, literal, int_literal, paired, applied as applied_of, operation as operation_of, conditional as conditional_of};
 ghost use Rattle.sf_expr.specs.Expressions.{mapped as mapped_of, folded as folded_of, called as called_of, pattern_depth};
-ghost use Rattle.sf_expr.specs.Expressions.{function as function_of, depth as expression_depth_of, function_depth as function_depth_of};
+ghost use Rattle.sf_expr.specs.Expressions.{function as function_of, function_depth as function_depth_of};
 ghost use Rattle.sf_expr.specs.Patterns.{pattern_of};
-ghost use Rattle.sf_expr.specs.Arena.{next_name, next_constant, next_pattern, AddsPattern, expression_of, HoldsParts as HoldsExpressionParts};
+ghost use Rattle.sf_expr.specs.Arena.{next_name, next_constant, next_pattern, AddsName, AddsConstant, AddsPattern, expression_of, HoldsParts as HoldsExpressionParts};
 ghost use Rattle.sf_expr.specs.declared.exprs.ExprNode.TheVariants as expressions;
 ghost use Rattle.sf_term.specs.Headers.{bodies_end};
 ghost use Rattle.sf_arena.specs.Arenas.{entries_of};
@@ -18,16 +18,16 @@ ghost use Rattle.sf_term.specs.Trees.{primitive as primitive_of, never as never_
 use crate::argument::{StoredArguments, clone_lists};
 use crate::collection::{CollExpr, CollectionId, clone_collections};
 use crate::form::{Bare, Naming, Observation, Switching};
-use crate::names::{are_named, has_names};
+use crate::names::{are_all_named, are_both_named, has_names};
 use crate::node::{
     Argument, ArgumentsId, Editing, Keeping, Node, Primitive, Releasing, Switch, TermId,
 };
-use crate::refusal::BuildRefusal;
+use crate::refusal::{BuildRefusal, room};
 use crate::template::{Parameter, Template, clone_all};
 use sf_arena::{Arena, Entry};
 use sf_expr::{
-    Constant, ExprId, ExprNode, Exprs, Folded, Folding, FunctionId, Mapped, Mapping, Operator, Pat,
-    PatternId, Spot, Unary,
+    Constant, ConstantId, ExprId, ExprNode, Exprs, Folded, Folding, FunctionId, Mapped, Mapping,
+    NameId, Operator, Pat, PatternId, Spot, Unary,
 };
 use sf_lex::is_name;
 use sf_value::Ty;
@@ -66,10 +66,11 @@ impl Drop for Program {
 impl Program {
     ghost use Rattle.sf_term.specs.Arena.{term_count, expression_count, HoldsTerm, HoldsExpression};
     ghost use Rattle.sf_term.specs.Arena.{tree, expression_under, term_entry_of, term_node_at, term_spot_at, term_of, term_number};
-    ghost use Rattle.sf_term.specs.Arena.{expressions_of, headers_of, HoldsPatternIn, pattern_under, TermPartsBelow, HoldsTermParts};
+    ghost use Rattle.sf_term.specs.Arena.{expressions_of, headers_of, TermPartsBelow, HoldsTermParts};
     ghost use Rattle.sf_term.specs.Arena.{HoldsArgument, HoldsArguments, arguments_under, arguments_of, next_arguments};
     ghost use Rattle.sf_term.specs.Arena.{HoldsWhole, HoldsMembers, collection_under, collection_of, collection_at, AddsCollection, AddsUsed};
-    ghost use Rattle.sf_term.specs.Arena.{AddsTerm, AddsExpression, AddsProgramFunction, AddsTemplate, IsSameProgram, IsProgramCopy};
+    ghost use Rattle.sf_term.specs.Arena.{AddsProgramFunction, AddsTemplate, IsSameProgram, IsProgramCopy};
+    ghost use Rattle.sf_term.specs.Building.{NoNames, RefusesDue, IsBuilt, BuildsTerm, BuildsExpression, HasPattern, PutsBoth};
 
     /// No term, no expression and no template.
     #[tactic(auto, unfolding(crate::specs::Arena::term_count, crate::specs::Arena::expression_count, crate::specs::Arena::headers_of))]
@@ -228,15 +229,9 @@ impl Program {
     /// Adds the expression of a node, whose parts are held. Refused with `TooMany` where 100,000 expressions are there,
     /// then with `TooDeep` where more than 64 would stand one inside another, and with `Memory`. A refused call changes
     /// nothing.
-    #[tactic(auto, unfolding(crate::specs::Arena::expression_count, crate::specs::Arena::expressions_of, crate::specs::Arena::expression_under, crate::specs::Arena::HoldsExpression))]
     pub fn add_expression(&mut self, node: ExprNode, spot: Spot) -> Result<ExprId, BuildRefusal>
         requires { HoldsExpressionParts (expressions_of self.old) node }
-        ensures ok { IfOk result (λ id. AddsExpression self.old self.new id node (expression_of (expressions_of self.old) node) spot) }
-        ensures many { result ≡ Err BuildRefusal.TooMany ↔ 100000 ≤ expression_count self.old }
-        ensures deep { let whole = expression_of (expressions_of self.old) node in
-            result ≡ Err BuildRefusal.TooDeep ↔ (expression_count self.old < 100000) × (64 < expression_depth_of whole) }
-        ensures no_name { ¬ (result ≡ Err BuildRefusal.BadName) }
-        ensures err { OnErr result (IsSameProgram self.old self.new) }
+        ensures { BuildsExpression self.old self.new result node (expression_of (expressions_of self.old) node) spot NoNames }
     {
         match self.expressions.add(node, spot) {
             Ok(id) => Ok(id),
@@ -246,64 +241,36 @@ impl Program {
 
     /// Adds a number to the expressions. Refused with `TooMany` where 100,000 expressions are there, and with
     /// `Memory`. A refused call changes nothing.
-    #[tactic(auto, unfolding(crate::specs::Arena::expression_count, crate::specs::Arena::expressions_of, crate::specs::Arena::expression_under, crate::specs::Arena::HoldsExpression))]
     pub fn int(&mut self, n: i64, spot: Spot) -> Result<ExprId, BuildRefusal>
-        ensures ok { IfOk result (λ id. AddsExpression self.old self.new id (expressions.Int n) (literal (int_literal n)) spot) }
-        ensures many { result ≡ Err BuildRefusal.TooMany ↔ 100000 ≤ expression_count self.old }
-        ensures not_deep { ¬ (result ≡ Err BuildRefusal.TooDeep) }
-        ensures no_name { ¬ (result ≡ Err BuildRefusal.BadName) }
-        ensures err { OnErr result (IsSameProgram self.old self.new) }
+        ensures { BuildsExpression self.old self.new result (expressions.Int n) (literal (int_literal n)) spot NoNames }
     {
         self.add_expression(ExprNode::Int(n), spot)
     }
 
     /// Adds a name to the expressions. Refused with `TooMany` where 100,000 expressions are there, then with `BadName`
     /// where it is no name of the language, and with `Memory`. A refused call changes nothing.
-    #[tactic(auto, unfolding(crate::specs::Arena::expression_count, crate::specs::Arena::expressions_of, crate::specs::Arena::expression_under, crate::specs::Arena::HoldsExpression))]
     pub fn name(&mut self, name: String, spot: Spot) -> Result<ExprId, BuildRefusal>
-        ensures ok { let next = next_name (expressions_of self.old) in
-            IfOk result (λ id. AddsExpression self.old self.new id (expressions.Name next) (variable (string_bytes name)) spot) }
-        ensures named { OnOk result (IsName (string_bytes name)) }
-        ensures many { result ≡ Err BuildRefusal.TooMany ↔ 100000 ≤ expression_count self.old }
-        ensures not_deep { ¬ (result ≡ Err BuildRefusal.TooDeep) }
-        ensures bad_name { result ≡ Err BuildRefusal.BadName ↔ (expression_count self.old < 100000) × ¬ IsName (string_bytes name) }
-        ensures err { OnErr result (IsSameProgram self.old self.new) }
+        ensures { let next = next_name (expressions_of self.old) in
+            BuildsExpression self.old self.new result (expressions.Name next) (variable (string_bytes name)) spot (IsName (string_bytes name)) }
     {
-        if 100_000 <= self.expressions.len() {
-            return Err(BuildRefusal::TooMany);
-        }
-        if !is_name(name.as_bytes()) {
-            return Err(BuildRefusal::BadName);
-        }
-        match self.expressions.name(name) {
-            Ok(name) => self.add_expression(ExprNode::Name(name), spot),
-            Err(_) => Err(BuildRefusal::Memory),
-        }
+        let count = self.expressions.len();
+        let name = self.put_name(count, 0, name)?;
+        self.add_expression(ExprNode::Name(name), spot)
     }
 
     /// Adds a constant to the expressions. Refused with `TooMany` where 100,000 expressions are there, and with
     /// `Memory`. A refused call changes nothing.
-    #[tactic(auto, unfolding(crate::specs::Arena::expression_count, crate::specs::Arena::expressions_of, crate::specs::Arena::expression_under, crate::specs::Arena::HoldsExpression))]
     pub fn constant(&mut self, value: Constant, spot: Spot) -> Result<ExprId, BuildRefusal>
-        ensures ok { let next = next_constant (expressions_of self.old) in
-            IfOk result (λ id. AddsExpression self.old self.new id (expressions.Constant next) (literal value) spot) }
-        ensures many { result ≡ Err BuildRefusal.TooMany ↔ 100000 ≤ expression_count self.old }
-        ensures not_deep { ¬ (result ≡ Err BuildRefusal.TooDeep) }
-        ensures no_name { ¬ (result ≡ Err BuildRefusal.BadName) }
-        ensures err { OnErr result (IsSameProgram self.old self.new) }
+        ensures { let next = next_constant (expressions_of self.old) in
+            BuildsExpression self.old self.new result (expressions.Constant next) (literal value) spot NoNames }
     {
-        if 100_000 <= self.expressions.len() {
-            return Err(BuildRefusal::TooMany);
-        }
-        match self.expressions.constant(value) {
-            Ok(constant) => self.add_expression(ExprNode::Constant(constant), spot),
-            Err(_) => Err(BuildRefusal::Memory),
-        }
+        let count = self.expressions.len();
+        let constant = self.put_constant(count, value)?;
+        self.add_expression(ExprNode::Constant(constant), spot)
     }
 
     /// Adds a pair to the expressions. Refused with `TooMany` where 100,000 expressions are there, then with `TooDeep`
     /// where more than 64 would stand one inside another, and with `Memory`. A refused call changes nothing.
-    #[tactic(auto, unfolding(crate::specs::Arena::expression_count, crate::specs::Arena::expressions_of, crate::specs::Arena::expression_under, crate::specs::Arena::HoldsExpression))]
     pub fn pair(
         &mut self,
         first: ExprId,
@@ -312,13 +279,8 @@ impl Program {
     ) -> Result<ExprId, BuildRefusal>
         requires first_held { HoldsExpression self.old first }
         requires second_held { HoldsExpression self.old second }
-        ensures ok { let whole = paired (expression_under self.old first) (expression_under self.old second) in
-            IfOk result (λ id. AddsExpression self.old self.new id (expressions.Pair first second) whole spot) }
-        ensures many { result ≡ Err BuildRefusal.TooMany ↔ 100000 ≤ expression_count self.old }
-        ensures deep { let whole = paired (expression_under self.old first) (expression_under self.old second) in
-            result ≡ Err BuildRefusal.TooDeep ↔ (expression_count self.old < 100000) × (64 < expression_depth_of whole) }
-        ensures no_name { ¬ (result ≡ Err BuildRefusal.BadName) }
-        ensures err { OnErr result (IsSameProgram self.old self.new) }
+        ensures { let whole = paired (expression_under self.old first) (expression_under self.old second) in
+            BuildsExpression self.old self.new result (expressions.Pair first second) whole spot NoNames }
     {
         self.add_expression(ExprNode::Pair(first, second), spot)
     }
@@ -326,7 +288,6 @@ impl Program {
     /// Adds an operator between its operands to the expressions. Refused with `TooMany` where 100,000 expressions are
     /// there, then with `TooDeep` where more than 64 would stand one inside another, and with `Memory`. A refused call
     /// changes nothing.
-    #[tactic(auto, unfolding(crate::specs::Arena::expression_count, crate::specs::Arena::expressions_of, crate::specs::Arena::expression_under, crate::specs::Arena::HoldsExpression))]
     pub fn operation(
         &mut self,
         left: ExprId,
@@ -336,13 +297,8 @@ impl Program {
     ) -> Result<ExprId, BuildRefusal>
         requires left_held { HoldsExpression self.old left }
         requires right_held { HoldsExpression self.old right }
-        ensures ok { let whole = operation_of (expression_under self.old left) operator (expression_under self.old right) in
-            IfOk result (λ id. AddsExpression self.old self.new id (expressions.Operation left operator right) whole spot) }
-        ensures many { result ≡ Err BuildRefusal.TooMany ↔ 100000 ≤ expression_count self.old }
-        ensures deep { let whole = operation_of (expression_under self.old left) operator (expression_under self.old right) in
-            result ≡ Err BuildRefusal.TooDeep ↔ (expression_count self.old < 100000) × (64 < expression_depth_of whole) }
-        ensures no_name { ¬ (result ≡ Err BuildRefusal.BadName) }
-        ensures err { OnErr result (IsSameProgram self.old self.new) }
+        ensures { let whole = operation_of (expression_under self.old left) operator (expression_under self.old right) in
+            BuildsExpression self.old self.new result (expressions.Operation left operator right) whole spot NoNames }
     {
         self.add_expression(ExprNode::Operation(left, operator, right), spot)
     }
@@ -350,7 +306,6 @@ impl Program {
     /// Adds an operator on its operand to the expressions. Refused with `TooMany` where 100,000 expressions are there,
     /// then with `TooDeep` where more than 64 would stand one inside another, and with `Memory`. A refused call changes
     /// nothing.
-    #[tactic(auto, unfolding(crate::specs::Arena::expression_count, crate::specs::Arena::expressions_of, crate::specs::Arena::expression_under, crate::specs::Arena::HoldsExpression))]
     pub fn applied(
         &mut self,
         operator: Unary,
@@ -358,13 +313,8 @@ impl Program {
         spot: Spot,
     ) -> Result<ExprId, BuildRefusal>
         requires { HoldsExpression self.old part }
-        ensures ok { let whole = applied_of operator (expression_under self.old part) in
-            IfOk result (λ id. AddsExpression self.old self.new id (expressions.Applied operator part) whole spot) }
-        ensures many { result ≡ Err BuildRefusal.TooMany ↔ 100000 ≤ expression_count self.old }
-        ensures deep { let whole = applied_of operator (expression_under self.old part) in
-            result ≡ Err BuildRefusal.TooDeep ↔ (expression_count self.old < 100000) × (64 < expression_depth_of whole) }
-        ensures no_name { ¬ (result ≡ Err BuildRefusal.BadName) }
-        ensures err { OnErr result (IsSameProgram self.old self.new) }
+        ensures { let whole = applied_of operator (expression_under self.old part) in
+            BuildsExpression self.old self.new result (expressions.Applied operator part) whole spot NoNames }
     {
         self.add_expression(ExprNode::Applied(operator, part), spot)
     }
@@ -372,7 +322,6 @@ impl Program {
     /// Adds one of two by a condition to the expressions. Refused with `TooMany` where 100,000 expressions are there, then
     /// with `TooDeep` where more than 64 would stand one inside another, and with `Memory`. A refused call changes
     /// nothing.
-    #[tactic(auto, unfolding(crate::specs::Arena::expression_count, crate::specs::Arena::expressions_of, crate::specs::Arena::expression_under, crate::specs::Arena::HoldsExpression))]
     pub fn conditional(
         &mut self,
         condition: ExprId,
@@ -383,44 +332,83 @@ impl Program {
         requires condition_held { HoldsExpression self.old condition }
         requires first_held { HoldsExpression self.old first }
         requires second_held { HoldsExpression self.old second }
-        ensures ok { let whole = conditional_of (expression_under self.old condition) (expression_under self.old first) (expression_under self.old second) in
-            IfOk result (λ id. AddsExpression self.old self.new id (expressions.Conditional condition first second) whole spot) }
-        ensures many { result ≡ Err BuildRefusal.TooMany ↔ 100000 ≤ expression_count self.old }
-        ensures deep { let whole = conditional_of (expression_under self.old condition) (expression_under self.old first) (expression_under self.old second) in
-            result ≡ Err BuildRefusal.TooDeep ↔ (expression_count self.old < 100000) × (64 < expression_depth_of whole) }
-        ensures no_name { ¬ (result ≡ Err BuildRefusal.BadName) }
-        ensures err { OnErr result (IsSameProgram self.old self.new) }
+        ensures { let whole = conditional_of (expression_under self.old condition) (expression_under self.old first) (expression_under self.old second) in
+            BuildsExpression self.old self.new result (expressions.Conditional condition first second) whole spot NoNames }
     {
         self.add_expression(ExprNode::Conditional(condition, first, second), spot)
     }
 
-    // Puts the pattern of an expression beside the functions; `parts` is how many expressions stand one inside another in
-    // the expression's parts. Refused as the expression that is to be added behind it: with `TooMany`, then `TooDeep`,
-    // then `BadName`, and with `Memory`.
-    #[tactic(auto, unfolding(crate::specs::Arena::expression_count, crate::specs::Arena::expressions_of))]
-    fn place(&mut self, pattern: Pat, parts: u32) -> Result<PatternId, BuildRefusal>
-        ensures ok { IfOk result (λ q. AddsPattern (expressions_of self.old) (expressions_of self.new) q pattern) }
+    // Puts a name beside the expressions, for one more where `count` are there, whose parts stand `parts` one inside another.
+    // Refused as that one is.
+    #[tactic(auto, unfolding(crate::specs::Arena::expressions_of))]
+    fn put_name(&mut self, count: usize, parts: u32, name: String) -> Result<NameId, BuildRefusal>
+        ensures ok { IfOk result (λ n. AddsName (expressions_of self.old) (expressions_of self.new) n (string_bytes name)) }
+        ensures refused { RefusesDue result count (parts + 1) (IsName (string_bytes name)) }
         ensures same { IsSameProgram self.old self.new }
-        ensures named { OnOk result (HasNames (pattern_of pattern)) }
-        ensures many { result ≡ Err BuildRefusal.TooMany ↔ 100000 ≤ expression_count self.old }
-        ensures deep { let inner = max parts (pattern_depth (pattern_of pattern)) in
-            result ≡ Err BuildRefusal.TooDeep ↔ (expression_count self.old < 100000) × (64 ≤ inner) }
-        ensures bad_name { let inner = max parts (pattern_depth (pattern_of pattern)) in
-            result ≡ Err BuildRefusal.BadName ↔ (expression_count self.old < 100000) × (inner < 64) × ¬ HasNames (pattern_of pattern) }
+        ensures arguments { next_arguments self.new ≡ next_arguments self.old }
     {
-        if 100_000 <= self.expressions.len() {
-            return Err(BuildRefusal::TooMany);
+        room(count, parts.saturating_add(1), is_name(name.as_bytes()))?;
+        match self.expressions.name(name) {
+            Ok(id) => Ok(id),
+            Err(_) => Err(BuildRefusal::Memory),
         }
-        if 64 <= parts.max(pattern.depth()) {
-            return Err(BuildRefusal::TooDeep);
+    }
+
+    // Puts a constant there, likewise.
+    #[tactic(auto, unfolding(crate::specs::Arena::expressions_of))]
+    fn put_constant(&mut self, count: usize, value: Constant) -> Result<ConstantId, BuildRefusal>
+        ensures ok { IfOk result (λ n. AddsConstant (expressions_of self.old) (expressions_of self.new) n value) }
+        ensures refused { RefusesDue result count 1 NoNames }
+        ensures same { IsSameProgram self.old self.new }
+    {
+        room(count, 1, true)?;
+        match self.expressions.constant(value) {
+            Ok(id) => Ok(id),
+            Err(_) => Err(BuildRefusal::Memory),
         }
-        let named = has_names(&pattern);
-        if !named {
-            return Err(BuildRefusal::BadName);
-        }
+    }
+
+    // Puts a pattern there, which counts as one of the parts, likewise.
+    #[tactic(auto, unfolding(crate::specs::Arena::expressions_of))]
+    fn put_pattern(
+        &mut self,
+        count: usize,
+        parts: u32,
+        pattern: Pat,
+    ) -> Result<PatternId, BuildRefusal>
+        ensures ok { IfOk result (λ q. AddsPattern (expressions_of self.old) (expressions_of self.new) q pattern) }
+        ensures refused { RefusesDue result count (max parts (pattern_depth (pattern_of pattern)) + 1) (HasNames (pattern_of pattern)) }
+        ensures same { IsSameProgram self.old self.new }
+    {
+        let depth = parts.max(pattern.depth()).saturating_add(1);
+        room(count, depth, has_names(&pattern))?;
         match self.expressions.pattern_in(pattern) {
             Ok(id) => Ok(id),
-            Err(refusal) => Err(BuildRefusal::from(refusal)),
+            Err(_) => Err(BuildRefusal::Memory),
+        }
+    }
+
+    // Puts a name and a pattern there, likewise.
+    #[tactic(auto, unfolding(crate::specs::Arena::expressions_of))]
+    fn put_both(
+        &mut self,
+        count: usize,
+        parts: u32,
+        name: String,
+        pattern: Pat,
+    ) -> Result<(NameId, PatternId), BuildRefusal>
+        ensures ok { IfOk result (λ ids. PutsBoth (expressions_of self.old) (expressions_of self.new) ids (string_bytes name) pattern) }
+        ensures refused { RefusesDue result count (max parts (pattern_depth (pattern_of pattern)) + 1) (IsName (string_bytes name) × HasNames (pattern_of pattern)) }
+        ensures same { IsSameProgram self.old self.new }
+    {
+        let depth = parts.max(pattern.depth()).saturating_add(1);
+        room(count, depth, are_both_named(name.as_bytes(), &pattern))?;
+        match self.expressions.name(name) {
+            Ok(name) => match self.expressions.pattern_in(pattern) {
+                Ok(pattern) => Ok((name, pattern)),
+                Err(_) => Err(BuildRefusal::Memory),
+            },
+            Err(_) => Err(BuildRefusal::Memory),
         }
     }
 
@@ -428,7 +416,6 @@ impl Program {
     /// there, then with `TooDeep` where more than 64 patterns or expressions would stand one inside another, then with
     /// `BadName` where a name of its pattern is no name of the language, and with `Memory`. A refused call changes
     /// nothing.
-    #[tactic(auto, unfolding(crate::specs::Arena::expressions_of, crate::specs::Arena::expression_under))]
     pub fn mapped(
         &mut self,
         part: ExprId,
@@ -439,43 +426,31 @@ impl Program {
     ) -> Result<ExprId, BuildRefusal>
         requires part_held { HoldsExpression self.old part }
         requires body_held { HoldsExpression self.old body }
-        ensures ok { let next = next_pattern (expressions_of self.old) in
+        ensures builds { let next = next_pattern (expressions_of self.old) in
             let node = expressions.Mapped (record { part = part; mapping = mapping; pattern = next; body = body }) in
             let whole = mapped_of (expression_under self.old part) mapping (pattern_of pattern) (expression_under self.old body) in
-            IfOk result (λ id. AddsExpression self.old self.new id node whole spot) }
-        ensures placed { let next = next_pattern (expressions_of self.old) in
-            OnOk result (HoldsPatternIn self.new next × (pattern_under self.new next ≡ pattern)) }
-        ensures named { OnOk result (HasNames (pattern_of pattern)) }
-        ensures many { result ≡ Err BuildRefusal.TooMany ↔ 100000 ≤ expression_count self.old }
-        ensures deep { let whole = mapped_of (expression_under self.old part) mapping (pattern_of pattern) (expression_under self.old body) in
-            result ≡ Err BuildRefusal.TooDeep ↔ (expression_count self.old < 100000) × (64 < expression_depth_of whole) }
-        ensures bad_name { let whole = mapped_of (expression_under self.old part) mapping (pattern_of pattern) (expression_under self.old body) in
-            result ≡ Err BuildRefusal.BadName ↔ (expression_count self.old < 100000) × (expression_depth_of whole ≤ 64) × ¬ HasNames (pattern_of pattern) }
-        ensures err { OnErr result (IsSameProgram self.old self.new) }
+            BuildsExpression self.old self.new result node whole spot (HasNames (pattern_of pattern)) }
+        ensures placed { OnOk result (HasPattern self.new (next_pattern (expressions_of self.old)) pattern) }
     {
+        let count = self.expressions.len();
         let parts = self
             .expressions
             .depth(part)
             .max(self.expressions.depth(body));
-        match self.place(pattern, parts) {
-            Ok(pattern) => {
-                let node = Mapped {
-                    part,
-                    mapping,
-                    pattern,
-                    body,
-                };
-                self.add_expression(ExprNode::Mapped(node), spot)
-            }
-            Err(refusal) => Err(refusal),
-        }
+        let pattern = self.put_pattern(count, parts, pattern)?;
+        let node = Mapped {
+            part,
+            mapping,
+            pattern,
+            body,
+        };
+        self.add_expression(ExprNode::Mapped(node), spot)
     }
 
     /// Adds a form on two values with a function to the expressions. Refused with `TooMany` where 100,000 expressions are
     /// there, then with `TooDeep` where more than 64 patterns or expressions would stand one inside another, then with
     /// `BadName` where a name of its pattern is no name of the language, and with `Memory`. A refused call changes
     /// nothing.
-    #[tactic(auto, unfolding(crate::specs::Arena::expressions_of, crate::specs::Arena::expression_under))]
     pub fn folded(
         &mut self,
         first: ExprId,
@@ -488,45 +463,33 @@ impl Program {
         requires first_held { HoldsExpression self.old first }
         requires second_held { HoldsExpression self.old second }
         requires body_held { HoldsExpression self.old body }
-        ensures ok { let next = next_pattern (expressions_of self.old) in
+        ensures builds { let next = next_pattern (expressions_of self.old) in
             let node = expressions.Folded (record { first = first; folding = folding; second = second; pattern = next; body = body }) in
             let whole = folded_of (expression_under self.old first) folding (expression_under self.old second) (pattern_of pattern) (expression_under self.old body) in
-            IfOk result (λ id. AddsExpression self.old self.new id node whole spot) }
-        ensures placed { let next = next_pattern (expressions_of self.old) in
-            OnOk result (HoldsPatternIn self.new next × (pattern_under self.new next ≡ pattern)) }
-        ensures named { OnOk result (HasNames (pattern_of pattern)) }
-        ensures many { result ≡ Err BuildRefusal.TooMany ↔ 100000 ≤ expression_count self.old }
-        ensures deep { let whole = folded_of (expression_under self.old first) folding (expression_under self.old second) (pattern_of pattern) (expression_under self.old body) in
-            result ≡ Err BuildRefusal.TooDeep ↔ (expression_count self.old < 100000) × (64 < expression_depth_of whole) }
-        ensures bad_name { let whole = folded_of (expression_under self.old first) folding (expression_under self.old second) (pattern_of pattern) (expression_under self.old body) in
-            result ≡ Err BuildRefusal.BadName ↔ (expression_count self.old < 100000) × (expression_depth_of whole ≤ 64) × ¬ HasNames (pattern_of pattern) }
-        ensures err { OnErr result (IsSameProgram self.old self.new) }
+            BuildsExpression self.old self.new result node whole spot (HasNames (pattern_of pattern)) }
+        ensures placed { OnOk result (HasPattern self.new (next_pattern (expressions_of self.old)) pattern) }
     {
+        let count = self.expressions.len();
         let operands = self
             .expressions
             .depth(first)
             .max(self.expressions.depth(second));
         let parts = operands.max(self.expressions.depth(body));
-        match self.place(pattern, parts) {
-            Ok(pattern) => {
-                let node = Folded {
-                    first,
-                    folding,
-                    second,
-                    pattern,
-                    body,
-                };
-                self.add_expression(ExprNode::Folded(node), spot)
-            }
-            Err(refusal) => Err(refusal),
-        }
+        let pattern = self.put_pattern(count, parts, pattern)?;
+        let node = Folded {
+            first,
+            folding,
+            second,
+            pattern,
+            body,
+        };
+        self.add_expression(ExprNode::Folded(node), spot)
     }
 
     /// Adds a call of a stored function, whose name stands at `place`, on its argument to the expressions. Refused with
     /// `TooMany` where 100,000 expressions are there, then with `TooDeep` where more than 64 would stand one inside
     /// another, then with `BadName` where the function's name is no name of the language, and with `Memory`. A refused
     /// call changes nothing.
-    #[tactic(auto, unfolding(crate::specs::Arena::expression_count, crate::specs::Arena::expressions_of, crate::specs::Arena::expression_under, crate::specs::Arena::HoldsExpression))]
     pub fn called(
         &mut self,
         function: String,
@@ -535,71 +498,38 @@ impl Program {
         spot: Spot,
     ) -> Result<ExprId, BuildRefusal>
         requires { HoldsExpression self.old part }
-        ensures ok { let next = next_name (expressions_of self.old) in
+        ensures { let next = next_name (expressions_of self.old) in
             let whole = called_of (string_bytes function) (expression_under self.old part) in
-            IfOk result (λ id. AddsExpression self.old self.new id (expressions.Called next place part) whole spot) }
-        ensures named { OnOk result (IsName (string_bytes function)) }
-        ensures many { result ≡ Err BuildRefusal.TooMany ↔ 100000 ≤ expression_count self.old }
-        ensures deep { let whole = called_of (string_bytes function) (expression_under self.old part) in
-            result ≡ Err BuildRefusal.TooDeep ↔ (expression_count self.old < 100000) × (64 < expression_depth_of whole) }
-        ensures bad_name { let whole = called_of (string_bytes function) (expression_under self.old part) in
-            result ≡ Err BuildRefusal.BadName ↔ (expression_count self.old < 100000) × (expression_depth_of whole ≤ 64) × ¬ IsName (string_bytes function) }
-        ensures err { OnErr result (IsSameProgram self.old self.new) }
+            BuildsExpression self.old self.new result (expressions.Called next place part) whole spot (IsName (string_bytes function)) }
     {
-        if 100_000 <= self.expressions.len() {
-            return Err(BuildRefusal::TooMany);
-        }
-        if 64 <= self.expressions.depth(part) {
-            return Err(BuildRefusal::TooDeep);
-        }
-        if !is_name(function.as_bytes()) {
-            return Err(BuildRefusal::BadName);
-        }
-        match self.expressions.name(function) {
-            Ok(name) => self.add_expression(ExprNode::Called(name, place, part), spot),
-            Err(_) => Err(BuildRefusal::Memory),
-        }
+        let count = self.expressions.len();
+        let parts = self.expressions.depth(part);
+        let name = self.put_name(count, parts, function)?;
+        self.add_expression(ExprNode::Called(name, place, part), spot)
     }
 
     /// Adds a function, which counts as no expression. Refused with `TooDeep` where more than 64 patterns or
     /// expressions stand one inside another, then with `BadName` where a name of its pattern is no name of the
     /// language, and with `Memory`. A refused call changes nothing.
-    #[tactic(auto, unfolding(crate::specs::Arena::expression_count, crate::specs::Arena::expression_under, crate::specs::Arena::HoldsExpression))]
     pub fn function(&mut self, pattern: Pat, body: ExprId) -> Result<FunctionId, BuildRefusal>
         requires { HoldsExpression self.old body }
-        ensures ok { IfOk result (λ f. AddsProgramFunction self.old self.new f pattern body) }
-        ensures named { OnOk result (HasNames (pattern_of pattern)) }
-        ensures not_many { ¬ (result ≡ Err BuildRefusal.TooMany) }
-        ensures deep { let whole = function_of (pattern_of pattern) (expression_under self.old body) in
-            result ≡ Err BuildRefusal.TooDeep ↔ 64 < function_depth_of whole }
-        ensures bad_name { let whole = function_of (pattern_of pattern) (expression_under self.old body) in
-            result ≡ Err BuildRefusal.BadName ↔ (function_depth_of whole ≤ 64) × ¬ HasNames (pattern_of pattern) }
-        ensures err { OnErr result (IsSameProgram self.old self.new) }
+        ensures { let whole = function_of (pattern_of pattern) (expression_under self.old body) in
+            IsBuilt self.old self.new result (λ f. AddsProgramFunction self.old self.new f pattern body) 0 (function_depth_of whole) (HasNames (pattern_of pattern)) }
     {
-        if 64 < pattern.depth() {
-            return Err(BuildRefusal::TooDeep);
-        }
-        if !has_names(&pattern) {
-            return Err(BuildRefusal::BadName);
-        }
+        let depth = pattern.depth().max(self.expressions.depth(body));
+        room(0, depth, has_names(&pattern))?;
         match self.expressions.function(pattern, body) {
             Ok(id) => Ok(id),
-            Err(refusal) => Err(BuildRefusal::from(refusal)),
+            Err(_) => Err(BuildRefusal::Memory),
         }
     }
 
     /// Adds the term of a node, whose parts are held. Refused with `TooMany` where 100,000 terms are there, then with
     /// `TooDeep` where more than 64 terms and expressions would stand one inside another, and with `Memory`. A refused
     /// call changes nothing.
-    #[tactic(auto, unfolding(crate::specs::Arena::term_count))]
     pub fn add(&mut self, node: Node, spot: Spot) -> Result<TermId, BuildRefusal>
         requires { HoldsTermParts self.old node }
-        ensures ok { IfOk result (λ id. AddsTerm self.old self.new id node (term_of self.old node) spot) }
-        ensures many { result ≡ Err BuildRefusal.TooMany ↔ 100000 ≤ term_count self.old }
-        ensures deep { let whole = term_of self.old node in
-            result ≡ Err BuildRefusal.TooDeep ↔ (term_count self.old < 100000) × (64 < depth_of whole) }
-        ensures no_name { ¬ (result ≡ Err BuildRefusal.BadName) }
-        ensures err { OnErr result (IsSameProgram self.old self.new) }
+        ensures { BuildsTerm self.old self.new result node (term_of self.old node) spot NoNames }
     {
         let depth = self.depth_with(node);
         match self.terms.add(node, depth, spot) {
@@ -612,7 +542,6 @@ impl Program {
     /// with `TooDeep` where more than 64 terms, patterns and expressions would stand one inside another, then with
     /// `BadName` where a name of its pattern is no name of the language, and with `Memory`. A refused call changes
     /// nothing.
-    #[tactic(auto, unfolding(crate::specs::Arena::expressions_of, crate::specs::Arena::term_count))]
     pub fn switching(
         &mut self,
         form: Switching,
@@ -623,50 +552,28 @@ impl Program {
     ) -> Result<TermId, BuildRefusal>
         requires source_held { HoldsTerm self.old source }
         requires body_held { HoldsTerm self.old body }
-        ensures ok { let next = next_pattern (expressions_of self.old) in
+        ensures builds { let next = next_pattern (expressions_of self.old) in
             let node = terms.Switching (record { form = form; source = source; pattern = next; body = body }) in
             let whole = switching_of form (tree self.old source) (pattern_of pattern) (tree self.old body) in
-            IfOk result (λ id. AddsTerm self.old self.new id node whole spot) }
-        ensures placed { let next = next_pattern (expressions_of self.old) in
-            OnOk result (HoldsPatternIn self.new next × (pattern_under self.new next ≡ pattern)) }
-        ensures named { OnOk result (HasNames (pattern_of pattern)) }
-        ensures many { result ≡ Err BuildRefusal.TooMany ↔ 100000 ≤ term_count self.old }
-        ensures deep { let whole = switching_of form (tree self.old source) (pattern_of pattern) (tree self.old body) in
-            result ≡ Err BuildRefusal.TooDeep ↔ (term_count self.old < 100000) × (64 < depth_of whole) }
-        ensures bad_name { let whole = switching_of form (tree self.old source) (pattern_of pattern) (tree self.old body) in
-            result ≡ Err BuildRefusal.BadName ↔ (term_count self.old < 100000) × (depth_of whole ≤ 64) × ¬ HasNames (pattern_of pattern) }
-        ensures err { OnErr result (IsSameProgram self.old self.new) }
+            BuildsTerm self.old self.new result node whole spot (HasNames (pattern_of pattern)) }
+        ensures placed { OnOk result (HasPattern self.new (next_pattern (expressions_of self.old)) pattern) }
     {
-        if 100_000 <= self.terms.len() {
-            return Err(BuildRefusal::TooMany);
-        }
+        let count = self.terms.len();
         let parts = self.depth(source).max(self.depth(body));
-        if 64 <= parts.max(pattern.depth()) {
-            return Err(BuildRefusal::TooDeep);
-        }
-        let well_named = has_names(&pattern);
-        if !well_named {
-            return Err(BuildRefusal::BadName);
-        }
-        match self.expressions.pattern_in(pattern) {
-            Ok(pattern) => {
-                let node = Switch {
-                    form,
-                    source,
-                    pattern,
-                    body,
-                };
-                self.add(Node::Switching(node), spot)
-            }
-            Err(_) => Err(BuildRefusal::Memory),
-        }
+        let pattern = self.put_pattern(count, parts, pattern)?;
+        let node = Switch {
+            form,
+            source,
+            pattern,
+            body,
+        };
+        self.add(Node::Switching(node), spot)
     }
 
     /// Adds a term that gives way to another inside a pattern, which knows it by a name, at `place`. Refused with `TooMany`
     /// where 100,000 terms are there, then with `TooDeep` where more than 64 terms, patterns and expressions would stand one
     /// inside another, then with `BadName` where the name or one of the pattern is no name of the language, and with
     /// `Memory`. A refused call changes nothing.
-    #[tactic(auto, unfolding(crate::specs::Arena::expressions_of, crate::specs::Arena::term_count))]
     pub fn keeping(
         &mut self,
         form: Observation,
@@ -681,56 +588,31 @@ impl Program {
         requires source_held { HoldsTerm self.old source }
         requires observer_held { HoldsTerm self.old observer }
         requires body_held { HoldsTerm self.old body }
-        ensures ok { let name = next_name (expressions_of self.old) in
+        ensures builds { let name = next_name (expressions_of self.old) in
             let next = next_pattern (expressions_of self.old) in
             let node = terms.Keeping (record { shown = form; source = source; observer = observer; name = name; place = place; pattern = next; body = body }) in
             let whole = keeping_of form (tree self.old source) (tree self.old observer) (string_bytes process) (pattern_of pattern) (tree self.old body) in
-            IfOk result (λ id. AddsTerm self.old self.new id node whole spot) }
-        ensures placed { let next = next_pattern (expressions_of self.old) in
-            OnOk result (HoldsPatternIn self.new next × (pattern_under self.new next ≡ pattern)) }
-        ensures named { OnOk result (IsName (string_bytes process) × HasNames (pattern_of pattern)) }
-        ensures many { result ≡ Err BuildRefusal.TooMany ↔ 100000 ≤ term_count self.old }
-        ensures deep { let whole = keeping_of form (tree self.old source) (tree self.old observer) (string_bytes process) (pattern_of pattern) (tree self.old body) in
-            result ≡ Err BuildRefusal.TooDeep ↔ (term_count self.old < 100000) × (64 < depth_of whole) }
-        ensures bad_name { let whole = keeping_of form (tree self.old source) (tree self.old observer) (string_bytes process) (pattern_of pattern) (tree self.old body) in
-            result ≡ Err BuildRefusal.BadName ↔ (term_count self.old < 100000) × (depth_of whole ≤ 64) × ¬ (IsName (string_bytes process) × HasNames (pattern_of pattern)) }
-        ensures err { OnErr result (IsSameProgram self.old self.new) }
+            BuildsTerm self.old self.new result node whole spot (IsName (string_bytes process) × HasNames (pattern_of pattern)) }
+        ensures placed { OnOk result (HasPattern self.new (next_pattern (expressions_of self.old)) pattern) }
     {
-        if 100_000 <= self.terms.len() {
-            return Err(BuildRefusal::TooMany);
-        }
+        let count = self.terms.len();
         let watched = self.depth(source).max(self.depth(observer));
         let parts = watched.max(self.depth(body));
-        if 64 <= parts.max(pattern.depth()) {
-            return Err(BuildRefusal::TooDeep);
-        }
-        let both_named = is_name(process.as_bytes()) && has_names(&pattern);
-        if !both_named {
-            return Err(BuildRefusal::BadName);
-        }
-        match self.expressions.name(process) {
-            Ok(name) => match self.expressions.pattern_in(pattern) {
-                Ok(pattern) => {
-                    let node = Keeping {
-                        shown: form,
-                        source,
-                        observer,
-                        name,
-                        place,
-                        pattern,
-                        body,
-                    };
-                    self.add(Node::Keeping(node), spot)
-                }
-                Err(_) => Err(BuildRefusal::Memory),
-            },
-            Err(_) => Err(BuildRefusal::Memory),
-        }
+        let (name, pattern) = self.put_both(count, parts, process, pattern)?;
+        let node = Keeping {
+            shown: form,
+            source,
+            observer,
+            name,
+            place,
+            pattern,
+            body,
+        };
+        self.add(Node::Keeping(node), spot)
     }
 
     /// Adds a form that is a name alone, at `place`, to the terms. Refused with `TooMany` where 100,000 terms are there, then with
     /// `BadName` where it is no name of the language, and with `Memory`. A refused call changes nothing.
-    #[tactic(auto, unfolding(crate::specs::Arena::term_count))]
     pub fn named(
         &mut self,
         form: Naming,
@@ -738,30 +620,17 @@ impl Program {
         place: Spot,
         spot: Spot,
     ) -> Result<TermId, BuildRefusal>
-        ensures ok { let next = next_name (expressions_of self.old) in
-            IfOk result (λ id. AddsTerm self.old self.new id (terms.Named form next place) (named_term form (string_bytes name)) spot) }
-        ensures named { OnOk result (IsName (string_bytes name)) }
-        ensures many { result ≡ Err BuildRefusal.TooMany ↔ 100000 ≤ term_count self.old }
-        ensures not_deep { ¬ (result ≡ Err BuildRefusal.TooDeep) }
-        ensures bad_name { result ≡ Err BuildRefusal.BadName ↔ (term_count self.old < 100000) × ¬ IsName (string_bytes name) }
-        ensures err { OnErr result (IsSameProgram self.old self.new) }
+        ensures { let next = next_name (expressions_of self.old) in
+            BuildsTerm self.old self.new result (terms.Named form next place) (named_term form (string_bytes name)) spot (IsName (string_bytes name)) }
     {
-        if 100_000 <= self.terms.len() {
-            return Err(BuildRefusal::TooMany);
-        }
-        if !is_name(name.as_bytes()) {
-            return Err(BuildRefusal::BadName);
-        }
-        match self.expressions.name(name) {
-            Ok(id) => self.add(Node::Named(form, id, place), spot),
-            Err(_) => Err(BuildRefusal::Memory),
-        }
+        let count = self.terms.len();
+        let name = self.put_name(count, 0, name)?;
+        self.add(Node::Named(form, name, place), spot)
     }
 
     /// Adds a call of the template of a name, with which it begins, on arguments to the terms. Refused with `TooMany` where
     /// 100,000 terms are there, then with `TooDeep` where more than 64 terms and expressions would stand one inside another,
     /// then with `BadName` where it is no name of the language, and with `Memory`. A refused call changes nothing.
-    #[tactic(auto, unfolding(crate::specs::Arena::expressions_of, crate::specs::Arena::term_count))]
     pub fn call(
         &mut self,
         template: String,
@@ -769,36 +638,18 @@ impl Program {
         spot: Spot,
     ) -> Result<TermId, BuildRefusal>
         requires { All (HoldsArgument self.old) arguments.items }
-        ensures ok { let name = next_name (expressions_of self.old) in
+        ensures builds { let name = next_name (expressions_of self.old) in
             let next = next_arguments self.old in
             let whole = reference_of (call_of (string_bytes template) (arguments_of self.old arguments.items)) in
-            IfOk result (λ id. AddsTerm self.old self.new id (terms.Call name next) whole spot) }
+            BuildsTerm self.old self.new result (terms.Call name next) whole spot (IsName (string_bytes template)) }
         ensures placed { let next = next_arguments self.old in
             OnOk result (HoldsArguments self.new next × (arguments_under self.new next ≡ arguments.items)) }
-        ensures named { OnOk result (IsName (string_bytes template)) }
-        ensures many { result ≡ Err BuildRefusal.TooMany ↔ 100000 ≤ term_count self.old }
-        ensures deep { let whole = reference_of (call_of (string_bytes template) (arguments_of self.old arguments.items)) in
-            result ≡ Err BuildRefusal.TooDeep ↔ (term_count self.old < 100000) × (64 < depth_of whole) }
-        ensures bad_name { let whole = reference_of (call_of (string_bytes template) (arguments_of self.old arguments.items)) in
-            result ≡ Err BuildRefusal.BadName ↔ (term_count self.old < 100000) × (depth_of whole ≤ 64) × ¬ IsName (string_bytes template) }
-        ensures err { OnErr result (IsSameProgram self.old self.new) }
     {
-        if 100_000 <= self.terms.len() {
-            return Err(BuildRefusal::TooMany);
-        }
-        if 64 <= self.depth_in(&arguments) {
-            return Err(BuildRefusal::TooDeep);
-        }
-        if !is_name(template.as_bytes()) {
-            return Err(BuildRefusal::BadName);
-        }
-        match self.expressions.name(template) {
-            Ok(name) => match self.place_arguments(arguments) {
-                Ok(id) => self.add(Node::Call(name, id), spot),
-                Err(refusal) => Err(refusal),
-            },
-            Err(_) => Err(BuildRefusal::Memory),
-        }
+        let count = self.terms.len();
+        let parts = self.depth_in(&arguments);
+        let name = self.put_name(count, parts, template)?;
+        let arguments = self.place_arguments(arguments)?;
+        self.add(Node::Call(name, arguments), spot)
     }
 
     // Puts the arguments of a call beside the terms. Refused with `Memory` alone.
@@ -818,35 +669,21 @@ impl Program {
     /// The members of a name, which stands at `place`, as a collection that no form has yet. Refused with `BadName` where it is no
     /// name of the language, and with `Memory`. A refused call changes nothing.
     pub fn used(&mut self, name: String, place: Spot, spot: Spot) -> Result<CollExpr, BuildRefusal>
-        ensures ok { IfOk result (λ c. AddsUsed self.old self.new c (string_bytes name) place spot) }
-        ensures named { OnOk result (IsName (string_bytes name)) }
-        ensures not_many { ¬ (result ≡ Err BuildRefusal.TooMany) }
-        ensures not_deep { ¬ (result ≡ Err BuildRefusal.TooDeep) }
-        ensures bad_name { result ≡ Err BuildRefusal.BadName ↔ ¬ IsName (string_bytes name) }
-        ensures err { OnErr result (IsSameProgram self.old self.new) }
+        ensures { IsBuilt self.old self.new result (λ c. AddsUsed self.old self.new c (string_bytes name) place spot) 0 1 (IsName (string_bytes name)) }
     {
-        if !is_name(name.as_bytes()) {
-            return Err(BuildRefusal::BadName);
-        }
-        match self.expressions.name(name) {
-            Ok(id) => Ok(CollExpr::Used(id, place, spot)),
-            Err(_) => Err(BuildRefusal::Memory),
-        }
+        let name = self.put_name(0, 0, name)?;
+        Ok(CollExpr::Used(name, place, spot))
     }
 
     /// Adds a collection, which counts as no term and which a form names by its id. Refused with `TooDeep` where more than 64
     /// collections, terms and expressions stand one inside another, and with `Memory`. A refused call changes nothing.
     pub fn add_collection(&mut self, collection: Rc<CollExpr>) -> Result<CollectionId, BuildRefusal>
         requires { HoldsMembers self.old collection.value }
-        ensures ok { IfOk result (λ id. AddsCollection self.old self.new id collection.value) }
-        ensures not_many { ¬ (result ≡ Err BuildRefusal.TooMany) }
-        ensures deep { result ≡ Err BuildRefusal.TooDeep ↔ 64 < collection_depth_of (collection_of self.old collection.value) }
-        ensures no_name { ¬ (result ≡ Err BuildRefusal.BadName) }
-        ensures err { OnErr result (IsSameProgram self.old self.new) }
+        ensures { let whole = collection_of self.old collection.value in
+            IsBuilt self.old self.new result (λ id. AddsCollection self.old self.new id collection.value) 0 (collection_depth_of whole) NoNames }
     {
-        if 64 < self.depth_of(&collection) {
-            return Err(BuildRefusal::TooDeep);
-        }
+        let depth = self.depth_of(&collection);
+        room(0, depth, true)?;
         let id = CollectionId(self.collections.len());
         self.collections.push(collection)?;
         Ok(id)
@@ -856,7 +693,6 @@ impl Program {
     /// 100,000 terms are there, then with `TooDeep` where more than 64 collections, terms, patterns and expressions would stand
     /// one inside another, then with `BadName` where the name or one of the pattern is no name of the language, and with
     /// `Memory`. A refused call changes nothing.
-    #[tactic(auto, unfolding(crate::specs::Arena::expressions_of, crate::specs::Arena::term_count))]
     pub fn releasing(
         &mut self,
         shown: Observation,
@@ -871,56 +707,31 @@ impl Program {
         requires members_held { HoldsWhole self.old members }
         requires observer_held { HoldsTerm self.old observer }
         requires body_held { HoldsTerm self.old body }
-        ensures ok { let known = next_name (expressions_of self.old) in
+        ensures builds { let known = next_name (expressions_of self.old) in
             let next = next_pattern (expressions_of self.old) in
             let node = terms.Releasing (record { shown = shown; members = members; observer = observer; name = known; place = place; pattern = next; body = body }) in
             let whole = releasing_of shown (collection_at self.old members) (tree self.old observer) (string_bytes name) (pattern_of pattern) (tree self.old body) in
-            IfOk result (λ id. AddsTerm self.old self.new id node whole spot) }
-        ensures placed { let next = next_pattern (expressions_of self.old) in
-            OnOk result (HoldsPatternIn self.new next × (pattern_under self.new next ≡ pattern)) }
-        ensures named { OnOk result (IsName (string_bytes name) × HasNames (pattern_of pattern)) }
-        ensures many { result ≡ Err BuildRefusal.TooMany ↔ 100000 ≤ term_count self.old }
-        ensures deep { let whole = releasing_of shown (collection_at self.old members) (tree self.old observer) (string_bytes name) (pattern_of pattern) (tree self.old body) in
-            result ≡ Err BuildRefusal.TooDeep ↔ (term_count self.old < 100000) × (64 < depth_of whole) }
-        ensures bad_name { let whole = releasing_of shown (collection_at self.old members) (tree self.old observer) (string_bytes name) (pattern_of pattern) (tree self.old body) in
-            result ≡ Err BuildRefusal.BadName ↔ (term_count self.old < 100000) × (depth_of whole ≤ 64) × ¬ (IsName (string_bytes name) × HasNames (pattern_of pattern)) }
-        ensures err { OnErr result (IsSameProgram self.old self.new) }
+            BuildsTerm self.old self.new result node whole spot (IsName (string_bytes name) × HasNames (pattern_of pattern)) }
+        ensures placed { OnOk result (HasPattern self.new (next_pattern (expressions_of self.old)) pattern) }
     {
-        if 100_000 <= self.terms.len() {
-            return Err(BuildRefusal::TooMany);
-        }
+        let count = self.terms.len();
         let watched = self.depth_under(members).max(self.depth(observer));
         let parts = watched.max(self.depth(body));
-        if 64 <= parts.max(pattern.depth()) {
-            return Err(BuildRefusal::TooDeep);
-        }
-        let both_named = is_name(name.as_bytes()) && has_names(&pattern);
-        if !both_named {
-            return Err(BuildRefusal::BadName);
-        }
-        match self.expressions.name(name) {
-            Ok(name) => match self.expressions.pattern_in(pattern) {
-                Ok(pattern) => {
-                    let node = Releasing {
-                        shown,
-                        members,
-                        observer,
-                        name,
-                        place,
-                        pattern,
-                        body,
-                    };
-                    self.add(Node::Releasing(node), spot)
-                }
-                Err(_) => Err(BuildRefusal::Memory),
-            },
-            Err(_) => Err(BuildRefusal::Memory),
-        }
+        let (name, pattern) = self.put_both(count, parts, name, pattern)?;
+        let node = Releasing {
+            shown,
+            members,
+            observer,
+            name,
+            place,
+            pattern,
+            body,
+        };
+        self.add(Node::Releasing(node), spot)
     }
 
     /// Adds members that are edited inside a pattern, where they are known by a name, at `place`. Refused as members that give way
     /// to a term are. A refused call changes nothing.
-    #[tactic(auto, unfolding(crate::specs::Arena::expressions_of, crate::specs::Arena::term_count))]
     pub fn editing(
         &mut self,
         shown: Observation,
@@ -933,69 +744,36 @@ impl Program {
     ) -> Result<TermId, BuildRefusal>
         requires members_held { HoldsWhole self.old members }
         requires edit_held { HoldsWhole self.old edit }
-        ensures ok { let known = next_name (expressions_of self.old) in
+        ensures builds { let known = next_name (expressions_of self.old) in
             let next = next_pattern (expressions_of self.old) in
             let node = terms.Editing (record { shown = shown; members = members; name = known; place = place; pattern = next; edit = edit }) in
             let whole = editing_of shown (collection_at self.old members) (string_bytes name) (pattern_of pattern) (collection_at self.old edit) in
-            IfOk result (λ id. AddsTerm self.old self.new id node whole spot) }
-        ensures placed { let next = next_pattern (expressions_of self.old) in
-            OnOk result (HoldsPatternIn self.new next × (pattern_under self.new next ≡ pattern)) }
-        ensures named { OnOk result (IsName (string_bytes name) × HasNames (pattern_of pattern)) }
-        ensures many { result ≡ Err BuildRefusal.TooMany ↔ 100000 ≤ term_count self.old }
-        ensures deep { let whole = editing_of shown (collection_at self.old members) (string_bytes name) (pattern_of pattern) (collection_at self.old edit) in
-            result ≡ Err BuildRefusal.TooDeep ↔ (term_count self.old < 100000) × (64 < depth_of whole) }
-        ensures bad_name { let whole = editing_of shown (collection_at self.old members) (string_bytes name) (pattern_of pattern) (collection_at self.old edit) in
-            result ≡ Err BuildRefusal.BadName ↔ (term_count self.old < 100000) × (depth_of whole ≤ 64) × ¬ (IsName (string_bytes name) × HasNames (pattern_of pattern)) }
-        ensures err { OnErr result (IsSameProgram self.old self.new) }
+            BuildsTerm self.old self.new result node whole spot (IsName (string_bytes name) × HasNames (pattern_of pattern)) }
+        ensures placed { OnOk result (HasPattern self.new (next_pattern (expressions_of self.old)) pattern) }
     {
-        if 100_000 <= self.terms.len() {
-            return Err(BuildRefusal::TooMany);
-        }
+        let count = self.terms.len();
         let parts = self.depth_under(members).max(self.depth_under(edit));
-        if 64 <= parts.max(pattern.depth()) {
-            return Err(BuildRefusal::TooDeep);
-        }
-        let both_named = is_name(name.as_bytes()) && has_names(&pattern);
-        if !both_named {
-            return Err(BuildRefusal::BadName);
-        }
-        match self.expressions.name(name) {
-            Ok(name) => match self.expressions.pattern_in(pattern) {
-                Ok(pattern) => {
-                    let node = Editing {
-                        shown,
-                        members,
-                        name,
-                        place,
-                        pattern,
-                        edit,
-                    };
-                    self.add(Node::Editing(node), spot)
-                }
-                Err(_) => Err(BuildRefusal::Memory),
-            },
-            Err(_) => Err(BuildRefusal::Memory),
-        }
+        let (name, pattern) = self.put_both(count, parts, name, pattern)?;
+        let node = Editing {
+            shown,
+            members,
+            name,
+            place,
+            pattern,
+            edit,
+        };
+        self.add(Node::Editing(node), spot)
     }
 
     /// Adds `never` for payloads of a type to the terms. Refused with `TooMany` where 100,000 terms are there, and with
     /// `Memory`. A refused call changes nothing.
-    #[tactic(auto, unfolding(crate::specs::Arena::term_count))]
     pub fn never(&mut self, payload: Ty, spot: Spot) -> Result<TermId, BuildRefusal>
-        ensures ok { let next = next_constant (expressions_of self.old) in
-            IfOk result (λ id. AddsTerm self.old self.new id (Node.Primitive (Primitive.Never next)) (primitive_of (never_of payload)) spot) }
-        ensures many { result ≡ Err BuildRefusal.TooMany ↔ 100000 ≤ term_count self.old }
-        ensures not_deep { ¬ (result ≡ Err BuildRefusal.TooDeep) }
-        ensures no_name { ¬ (result ≡ Err BuildRefusal.BadName) }
-        ensures err { OnErr result (IsSameProgram self.old self.new) }
+        ensures { let next = next_constant (expressions_of self.old) in
+            BuildsTerm self.old self.new result (Node.Primitive (Primitive.Never next)) (primitive_of (never_of payload)) spot NoNames }
     {
-        if 100_000 <= self.terms.len() {
-            return Err(BuildRefusal::TooMany);
-        }
-        match self.expressions.constant(Constant::no_event(payload)) {
-            Ok(constant) => self.add(Node::Primitive(Primitive::Never(constant)), spot),
-            Err(_) => Err(BuildRefusal::Memory),
-        }
+        let count = self.terms.len();
+        let constant = self.put_constant(count, Constant::no_event(payload))?;
+        self.add(Node::Primitive(Primitive::Never(constant)), spot)
     }
 
     /// Puts a template behind the others. Refused with `BadName` where its name or that of a parameter is no name of the
@@ -1010,18 +788,10 @@ impl Program {
         body: TermId,
     ) -> Result<(), BuildRefusal>
         requires { HoldsTerm self.old body }
-        ensures ok { OnOk result (AddsTemplate self.old self.new
-            (record { name = string_bytes name; spot = spot; parameters = parameters.items; input = input; output = output; body = body })) }
-        ensures named { OnOk result (IsName (string_bytes name) × AreNamed parameters.items) }
-        ensures bad_name { result ≡ Err BuildRefusal.BadName ↔ ¬ (IsName (string_bytes name) × AreNamed parameters.items) }
-        ensures not_many { ¬ (result ≡ Err BuildRefusal.TooMany) }
-        ensures not_deep { ¬ (result ≡ Err BuildRefusal.TooDeep) }
-        ensures err { OnErr result (IsSameProgram self.old self.new) }
+        ensures { IsBuilt self.old self.new result (λ _. AddsTemplate self.old self.new
+            (record { name = string_bytes name; spot = spot; parameters = parameters.items; input = input; output = output; body = body })) 0 1 (IsName (string_bytes name) × AreNamed parameters.items) }
     {
-        let all_named = is_name(name.as_bytes()) && are_named(&parameters);
-        if !all_named {
-            return Err(BuildRefusal::BadName);
-        }
+        room(0, 1, are_all_named(name.as_bytes(), &parameters))?;
         self.templates
             .push(Template::new(name, spot, parameters, input, output, body))?;
         Ok(())

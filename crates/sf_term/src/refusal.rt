@@ -1,5 +1,6 @@
 //! Why programs take no more.
-ghost use Rattle.std.specs.Prelude.{◌≡◌};
+ghost use Rattle.std.specs.Prelude.{◌≡◌, IsTrue};
+ghost use Rattle.sf_term.specs.Building.{RefusesDue};
 ghost use Rattle.sf_term.specs.declared.refusal.BuildRefusal.TheVariants.{Memory};
 
 use sf_arena::ArenaRefusal;
@@ -51,4 +52,20 @@ impl<T: Drop> From<AllocFailed<T>> for BuildRefusal {
     fn from(_error: AllocFailed<T>) -> BuildRefusal {
         BuildRefusal::Memory
     }
+}
+
+/// Whether one more may be added where `count` are there, which is so deep and whose names are names or not.
+pub(crate) fn room(count: usize, depth: u32, named: bool) -> Result<(), BuildRefusal>
+    ensures { RefusesDue result count depth (IsTrue named) }
+{
+    if 100_000 <= count {
+        return Err(BuildRefusal::TooMany);
+    }
+    if 64 < depth {
+        return Err(BuildRefusal::TooDeep);
+    }
+    if !named {
+        return Err(BuildRefusal::BadName);
+    }
+    Ok(())
 }

@@ -1,5 +1,5 @@
 -- What was read into a program before more terms are built of it.
-use Rattle.std.proofs.Common.{◌≡◌, ℕ, suc, false, ◌+◌, ◌<◌, ◌≤◌, List, length, refl, sym, ◌∙◌, ap, subst, arith, ℤ, ◌∷◌, Result, Ok, Err, IfOk, IfErr, ◌↔◌}
+use Rattle.std.proofs.Common.{◌≡◌, ℕ, suc, false, ◌+◌, ◌<◌, ◌≤◌, List, length, refl, sym, ◌∙◌, ap, subst, arith, ℤ, ◌∷◌, Result, Ok, Err, IfOk, IfErr}
 use Rattle.std.specs.declared.alloc.Global.{Global}
 use Rattle.std.specs.declared.rc.Rc.{Rc}
 use Rattle.sf_value.specs.Values.{Name, Kind}
@@ -27,10 +27,10 @@ use Rattle.sf_term.specs.declared.node.Argument.{Argument}
 use Rattle.sf_term.specs.declared.node.Argument.TheVariants as arguments
 use Rattle.sf_term.specs.declared.program.Program.{Program}
 use Rattle.sf_term.specs.declared.refusal.BuildRefusal.{BuildRefusal}
-use Rattle.sf_term.specs.declared.refusal.BuildRefusal.TheVariants as refusals
 use Rattle.sf_term.specs.Trees.{terms_with_value, Term, primitive, bare, never, with_value, timed, selected, arrow, accumulated, named_term, joined, sided, transformed, switching, keeping, gathered, releasing, editing, Collection, reference, call, no_arguments, term_depth, collection_depth, terms_in, terms_collected, expressions_in, expressions_collected}
 use Rattle.sf_term.specs.Trees as forms
 use Rattle.sf_term.specs.Names.{HasNames}
+use Rattle.sf_term.specs.Building.{BuildsTerm}
 use Rattle.sf_term.specs.Parameters.{NameKind}
 use Rattle.sf_term.specs.Arena.{HoldsMembers, HoldsWhole, collection_of, collection_at, AddsCollection, AddsUsed, tree, arguments_of, term_of, term_node_at, expression_under as expression_in, function_in, term_count, expression_count, KeepsProgram, AddsTerm}
 use Rattle.sf_term.proofs.Kept.{few_program_expressions, keeps_trans, unchanged_keeps, collection_kept, collection_at_kept}
@@ -64,17 +64,9 @@ pub record Ready (old mid : Program) (built : Term) (start rest : List Tok) (rea
   pub terms : term_count mid + 1 ≡ term_count old + terms_in term
   pub expressions : expression_count mid ≡ expression_count old + expressions_in term
 
-pub term_refused : {old mid : Program} {built : Term} {start rest : List Tok} {read : Read Term} (left : ℕ) (refusal : BuildRefusal) (e : Stop)
-    → Ready old mid built start rest read → length start ≡ left → e ≡ stop_for refusal left
-    → (refusal ≡ refusals.TooMany → 100000 ≤ term_count mid) → (refusal ≡ refusals.TooDeep → 64 < term_depth built) → (refusal ≡ refusals.BadName → ⊥) → StopsReading e read
-term_refused {old} {mid} {built} {start} {rest} {read} left refusal e ready counted is many deep named =
-    subst (λ (e : Stop). StopsReading e read) (sym is) (refused_as_read (term_count old + terms_in ready.term) ready.term start left rest read refusal counted ready.is
-    (λ same. let full : 100000 ≤ term_count mid = many same in omega (arith, ready.terms))
-    (λ same. let too : 64 < term_depth built = deep same in let d : term_depth built ≡ term_depth ready.term = ap term_depth ready.same in omega (arith, ready.shallow)) named)
-
 -- a term whose parts were read was added to the program, which had room for it
 pub term_found : {old mid new : Program} {id : TermId} {node : Node} {built : Term} {spot : Spot} {start rest : List Tok} {read : Read Term}
-    → Ready old mid built start rest read → KeepsProgram old mid → (100000 ≤ term_count mid → ⊥) → AddsTerm mid new id node built spot → FoundTerm old new id rest read
+    → Ready old mid built start rest read → KeepsProgram old mid → term_count mid < 100000 → AddsTerm mid new id node built spot → FoundTerm old new id rest read
 term_found {old} {mid} {new} {start = start} {rest = rest} ready kept room added = record {
   term = ready.term;
   is = ready.is ∙ read_within (term_count old + terms_in ready.term) ready.term start rest (omega (arith, room, ready.terms));
@@ -86,14 +78,14 @@ term_found {old} {mid} {new} {start = start} {rest = rest} ready kept room added
 }
 
 -- a term whose parts were read was given to the program
-pub term_built : {old mid : Program} {built : Term} {start rest : List Tok} {read : Read Term} (new : Program) (node : Node) (spot : Spot) (left : ℕ) (added : Result TermId BuildRefusal) (answer : Result TermId Stop)
-    → Ready old mid built start rest read → KeepsProgram old mid → length start ≡ left → answer ≡ built_as left added → IfOk added (λ id. AddsTerm mid new id node built spot)
-    → (added ≡ Err refusals.TooMany ↔ 100000 ≤ term_count mid) → (added ≡ Err refusals.TooDeep → 64 < term_depth built) → (added ≡ Err refusals.BadName → ⊥) → ReadsTermInto old new rest answer read
-term_built {old = old} {rest = rest} {read = read} new node spot left (Ok id) answer ready kept counted is ok many deep named =
-    subst (λ (a : Result TermId Stop). ReadsTermInto old new rest a read) (sym is) (term_found ready kept (λ full. let refused = many.1 full in cc) ok)
-term_built {old = old} {rest = rest} {read = read} new node spot left (Err refusal) answer ready kept counted is ok many deep named =
+pub term_built : {old mid : Program} {built : Term} {start rest : List Tok} {read : Read Term} {Named : Type 0} (new : Program) (node : Node) (spot : Spot) (left : ℕ) (added : Result TermId BuildRefusal) (answer : Result TermId Stop)
+    → Ready old mid built start rest read → KeepsProgram old mid → length start ≡ left → answer ≡ built_as left added → BuildsTerm mid new added node built spot Named → Named → ReadsTermInto old new rest answer read
+term_built {old = old} {rest = rest} {read = read} new node spot left (Ok id) answer ready kept counted is builds named =
+    subst (λ (a : Result TermId Stop). ReadsTermInto old new rest a read) (sym is) (term_found ready kept builds.refused.room.0 builds.ok)
+term_built {old = old} {mid = mid} {built = built} {start = start} {rest = rest} {read = read} new node spot left (Err refusal) answer ready kept counted is builds named =
+    let deep : term_depth built ≡ term_depth ready.term = ap term_depth ready.same in
     subst (λ (a : Result TermId Stop). ReadsTermInto old new rest a read) (sym is)
-    (term_refused left refusal (stop_for refusal left) ready counted refl (λ same. many.0 (ap Err same)) (λ same. deep (ap Err same)) (λ same. named (ap Err same)))
+    (refused_as_read (term_count mid) (term_depth built) (term_count old + terms_in ready.term) ready.term start left rest read refusal counted ready.is builds.refused.due (λ full. omega (arith, full, ready.terms)) (omega (arith, ready.shallow)) named)
 
 -- a primitive without constants
 pub bare_ready : {old : Program} (k : Bare) (start rest : List Tok) → Ready old old (primitive (bare k)) start rest (term_read (counts_of old) (primitive (bare k)) start rest)
@@ -361,14 +353,6 @@ pub parameter_found : (v : Version) {r0 r1 rest : List Tok} {x n : Name} {k : Na
 unfolding parse_parameter
 parameter_found v tokens name colon kind bytes = rw (name, colon, kind, bytes) refl
 
--- a program takes each template whose names are names
-pub template_refused : {A Named : Type 0} (refusal : BuildRefusal) (left : ℕ) (read : Read A) → Named
-    → (refusal ≡ refusals.BadName → ¬ Named) → (refusal ≡ refusals.TooMany → ⊥) → (refusal ≡ refusals.TooDeep → ⊥) → StopsReading (stop_for refusal left) read
-template_refused refusals.BadName left read named bad many deep = absurd (bad refl named)
-template_refused refusals.TooMany left read named bad many deep = absurd (many refl)
-template_refused refusals.TooDeep left read named bad many deep = absurd (deep refl)
-template_refused refusals.Memory left read named bad many deep = tt
-
 -- ## Collections
 
 collection_taken : (v : Version) (old : Program) (i : Collection) (rest tokens : List Tok) (d : ℕ) → parse_collection d v (counts_of old) tokens ≡ got i rest → TookCollection v d (counts_of old) tokens i rest
@@ -515,15 +499,12 @@ members_found {old} {mid} {new} {m} {c} f added = record {
   expressions = added.same.expression_counted ∙ f.expressions;
 }
 
--- a program takes each collection that was read: it is not too deep
-pub members_refused : (v : Version) {old mid : Program} {c : CollExpr} {rest : List Tok} (d : ℕ) (tokens : List Tok) (refusal : BuildRefusal) (left : ℕ) → d ≤ 63 → FoundCollection old mid c rest (parse_collection d v (counts_of old) tokens)
-    → (refusal ≡ refusals.BadName → ⊥) → (refusal ≡ refusals.TooMany → ⊥) → (refusal ≡ refusals.TooDeep → 64 < collection_depth (collection_of mid c)) → StopsReading (stop_for refusal left) (parse_collection d v (counts_of old) tokens)
-members_refused v {old} {mid} {c} {rest} d tokens refusal left small f bad many deep =
-    template_refused {Named = Unit {0}} refusal left (parse_collection d v (counts_of old) tokens) tt (λ same named. bad same) many
-    (λ same. let too : 64 < collection_depth (collection_of mid c) = deep same in
+-- a collection that was read is not too deep
+pub members_shallow : (v : Version) {old mid : Program} {c : CollExpr} {rest : List Tok} (d : ℕ) (tokens : List Tok) → d ≤ 63 → FoundCollection old mid c rest (parse_collection d v (counts_of old) tokens) → collection_depth (collection_of mid c) ≤ 64
+members_shallow v {old} {mid} {c} {rest} d tokens small f =
     let took = collection_taken v old f.members rest tokens d f.is in
     let is : collection_depth (collection_of mid c) ≡ collection_depth f.members = ap collection_depth f.made in
-    omega (arith, took.shallow))
+    omega (arith, took.shallow)
 
 -- the members of a collection
 pub gathered_ready : (v : Version) {old mid : Program} {start rest : List Tok} {m : CollectionId} (d : ℕ) (tokens : List Tok) → d ≤ 63 → FoundMembers old mid m rest (parse_collection d v (counts_of old) tokens)

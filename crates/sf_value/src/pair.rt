@@ -48,20 +48,6 @@ impl Value {
             form => in_new_node(alloc, Value { form }),
         }
     }
-
-    /// The node of a pair, which nothing else has: where it has another owner, a copy takes its place. A value that is no
-    /// pair stands for both halves, in a new node.
-    #[inline(always)]
-    pub fn into_own_pair(self, alloc: Global) -> Result<Rc<Pair>, AllocError>
-        ensures first { IfOk result (λ node. node.value.first ≡ first_of self) }
-        ensures second { IfOk result (λ node. node.value.second ≡ second_of self) }
-    {
-        let node = self.into_pair(alloc)?;
-        if Rc::strong_count(&node) == 1 {
-            return Ok(node);
-        }
-        in_own_node(alloc, node)
-    }
 }
 
 // A value in place of both halves.
@@ -86,15 +72,4 @@ fn in_new_node(alloc: Global, value: Value) -> Result<Rc<Pair>, AllocError>
     ensures second { IfOk result (λ node. node.value.second ≡ value) }
 {
     Ok(Rc::new(alloc, doubled(alloc, value)?)?)
-}
-
-// A copy of halves that have another owner, in a new node.
-#[cold]
-#[inline(never)]
-fn in_own_node(alloc: Global, shared: Rc<Pair>) -> Result<Rc<Pair>, AllocError>
-    ensures first { IfOk result (λ node. node.value.first ≡ shared.value.first) }
-    ensures second { IfOk result (λ node. node.value.second ≡ shared.value.second) }
-{
-    let copy = (*shared).clone()?;
-    Ok(Rc::new(alloc, copy)?)
 }

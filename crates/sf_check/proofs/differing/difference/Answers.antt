@@ -5,7 +5,7 @@ use Rattle.sf_func.specs.Registries.{TypesByName}
 use Rattle.sf_differ.proofs.Told.{told_so}
 use Rattle.sf_check.specs.Refusing.{RefusesNetwork}
 use Rattle.sf_check.specs.Differing.{NetworkDiffers}
-use Rattle.sf_check.proofs.Apart.{network_apart}
+use Rattle.sf_check.proofs.Differed.{network_apart}
 use Rattle.sf_check.proofs.differing.difference.Goals as goal
 
 pub returns-clause-differs : goal.returns-clause-differs

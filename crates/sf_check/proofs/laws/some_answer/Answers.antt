@@ -1,5 +1,5 @@
-use Rattle.sf_check.proofs.Answered.{term_answered}
+use Rattle.sf_check.proofs.Judged.{term_answered}
 use Rattle.sf_check.proofs.laws.some_answer.Goals as goal
 
 pub returns : goal.returns
-returns c = λ p Γ t a names fits. term_answered p Γ names t a fits
+returns c = λ p Γ t a names fits. term_answered p Γ t a fits

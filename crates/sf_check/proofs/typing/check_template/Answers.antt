@@ -5,7 +5,8 @@ use Rattle.sf_func.specs.Signatures.{signatures_in}
 use Rattle.sf_term.specs.Parameters.{PlacedParameter, parameters_of}
 use Rattle.sf_term.specs.Arena.{templates_of}
 use Rattle.sf_mean.specs.Contexts.{Bindings, context_with, context_of}
-use Rattle.sf_check.proofs.Terms.{answers_under, template_refused, header_refused}
+use Rattle.sf_check.proofs.Judged.{template_refused, header_refused}
+use Rattle.sf_check.proofs.Terms.{answers_under}
 use Rattle.sf_check.proofs.typing.check_template.Goals as goal
 
 pub returns-in_err-parameters-clause-err : goal.returns-in_err-parameters-clause-err

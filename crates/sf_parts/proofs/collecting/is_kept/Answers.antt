@@ -1,8 +1,5 @@
 use Rattle.std.proofs.Common.{◌≡◌}
 use Rattle.sf_value.specs.declared.fault.Fault.TheVariants.{Memory}
-use Rattle.sf_value.specs.View.{key_of}
-use Rattle.sf_operator.specs.FunctionForms.{value_of_key}
-use Rattle.sf_expr.specs.Evaluation.{apply}
 use Rattle.sf_mean.specs.Formulas.{is_high}
 use Rattle.sf_parts.specs.Beginning.{makes, makes_nothing}
 use Rattle.sf_parts.proofs.Arguments.{made_failure}

@@ -1,7 +1,6 @@
-use Rattle.std.proofs.Common.{◌≡◌, [], ◌∷◌, ◌++◌, map, Ok, sym, ap, ◌∙◌, subst, refl, inl, inr, Vec}
+use Rattle.std.proofs.Common.{◌≡◌, ◌++◌, map, Ok, sym, ap, ◌∙◌, subst, refl, inl, inr, Vec}
 use Rattle.std.specs.declared.alloc.Global.{Global}
 use Rattle.sf_value.specs.Keys.{key_of, key_index, AreDifferentKeys}
-use Rattle.sf_value.specs.declared.value.Key.{Key}
 use Rattle.sf_value.specs.declared.fault.Fault.TheVariants.{Memory}
 use Rattle.sf_operator.specs.FunctionForms.{value_of_key}
 use Rattle.sf_expr.specs.Evaluation.{apply}

@@ -1,4 +1,4 @@
-use Rattle.std.proofs.Common.{◌≡◌, [], subst, sym, ap}
+use Rattle.std.proofs.Common.{◌≡◌, [], subst, sym}
 use Rattle.std.specs.Option.{option_map}
 use Rattle.sf_expr.specs.Arena.{name_at}
 use Rattle.sf_law.specs.Arena.{plan_expressions}

@@ -13,7 +13,7 @@ returns-in_ok-states-in-Some c = λ φ p ms P G A.
     let at : key_index k c.args.members.keys.value ≡ Some c.in-Some.at = ap (key_index k) (sym c.deref.ensures) ∙ sym c.place.ensures ∙ c.in-Some.is in
     let h : Gathered = record { keys = c.args.members.keys; states = c.in_ok-states-in-Some.states; wait = c.args.members.wait } in
     member_put φ p c.args.members k c.in_ok-own.own.items (c.in_ok-own.ensures φ p) c.args.state h refl c.in-Some.at at refl
-    (λ short. ap (λ (v : Vec State Global). v.items) c.in_ok-states-in-Some.ensures.ok ∙ c.put_state.ensures short) ms P G A
+    (λ short. ap (λ (v : Vec State Global). v.items) c.in_ok-states-in-Some.ensures.ok ∙ c.put.ensures) ms P G A
 
 pub returns-in_ok-states-in-None : goal.returns-in_ok-states-in-None
 returns-in_ok-states-in-None c = λ φ p ms P G A.

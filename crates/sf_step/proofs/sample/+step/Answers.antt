@@ -1,36 +1,49 @@
-use Rattle.std.proofs.Common.{◌≡◌, [], ◌+◌, set, ◌∷◌, ◌++◌, take, drop, length, length-set, None, Ok, Err, refl, sym, ap, ◌∙◌, subst, arith, Vec}
+use Rattle.std.proofs.Common.{◌≡◌, [], ◌+◌, ◌-◌, ◌<◌, set, ◌∷◌, ◌++◌, take, drop, length, length-set, List, None, Result, Ok, Err, refl, sym, ap, ◌∙◌, subst, arith, Vec}
 use Rattle.std.specs.declared.alloc.Global.{Global}
+use Rattle.std.specs.Prelude.{IsOk}
 use Rattle.sf_value.specs.Values.{Data, table}
 use Rattle.sf_value.specs.View.{rows_under}
 use Rattle.std.specs.Vec.{with_items}
 use Rattle.std.proofs.lemmas.List.{with_items_is}
 use Rattle.sf_state.specs.declared.state.Wrap.TheVariants.{First, Second, Loop, Initialized, Replaced, Followed}
 use Rattle.sf_term.specs.declared.form.Join.TheVariants.{InSequence, InParallel, FannedOut}
-use Rattle.sf_value.specs.Values.{first_of, second_of}
+use Rattle.sf_value.specs.Values.{pair, first_of, second_of}
 use Rattle.sf_value.specs.declared.value.Pair.{Pair}
-use Rattle.sf_mean.specs.Lives.{step, Life, Process}
+use Rattle.sf_mean.specs.Lives.{step, Life, Process, each_frozen}
 use Rattle.sf_state.specs.declared.state.Frozen.{Frozen}
 use Rattle.sf_state.specs.declared.state.State.{State}
 use Rattle.sf_state.specs.declared.state.Gathered.{Gathered}
-use Rattle.sf_state.specs.Standing.{Stands, AllFollow, kept_state, worth_given}
+use Rattle.sf_state.specs.Held.{held_in}
+use Rattle.sf_state.specs.Standing.{Stands, AllFollow, kept_state, worth_given, Waits, WaitsKeeping, WaitsGathered}
 use Rattle.sf_expr.specs.Evaluation.{answer}
 use Rattle.sf_mean.specs.Meaning.{switched_value}
-use Rattle.sf_parts.specs.Meters.{fault_of}
+use Rattle.sf_parts.specs.Meters.{entered_of, fault_of}
+use Rattle.sf_parts.specs.declared.turning.Turn.{Turn}
+use Rattle.sf_parts.specs.declared.turning.Turn.TheVariants.{Stays, Begins}
 use Rattle.sf_parts.specs.Answering.{left_or}
+use Rattle.sf_parts.specs.Drafting.{drafted, all_changed}
 use Rattle.sf_parts.proofs.Costs.{memory_exit, early_memory}
 use Rattle.sf_step.specs.Sampling.{StateSteps}
-use Rattle.sf_step.proofs.Parts.{pass_exit, failed}
+use Rattle.sf_state.proofs.Copies.{list_follows}
+use Rattle.sf_step.proofs.Parts.{pass_exit, failed, own_halves}
 use Rattle.sf_step.proofs.Stages.{StagesStep, continues_first, continues_next, continues_fails, continues_last, pipeline_steps, pipeline_fails}
-use Rattle.sf_step.proofs.Exits.{ticked_by, tick_fails, first_memory, join_left_fails, join_right_fails, join_steps, join_last, wrap_fails, wrap_steps, wrap_faults, wrap_last, late_memory, primitive_counted, live_counted, own_steps, primitive_is, live_is, switch_is, keeping_is, gathering_is, counted_steps, begun_steps, begun_runs, begun_fails}
+use Rattle.sf_step.proofs.Exits.{ticked_by, tick_fails, first_memory, join_left_fails, join_right_fails, join_steps, join_last, wrap_fails, wrap_steps, wrap_faults, wrap_last, late_memory, late_waiting, waits_alike, primitive_counted, live_counted, own_steps, primitive_is, live_is, switch_is, keeping_is, gathering_is, counted_steps, begun_steps, begun_runs, begun_fails}
 use Rattle.sf_step.proofs.Recurring.{run_fails, run_memory, new_fails, new_runs, runs_alone}
 use Rattle.sf_step.proofs.Switches.{source_fails, switch_memory, switch_waits_on, body_fails, body_takes_over}
 use Rattle.sf_step.proofs.Keeping.{runs_alike, kept_fails, kept_memory, observer_fails, observer_memory, keeps_on, kept_body_fails, kept_body_takes_over, some_occurs, none_occurs}
 use Rattle.sf_step.proofs.Turning.{frozen_steps, pass_beside, watching_turns, watching_fails, keeping_turns, keeping_fails, gathering_turns, gathering_fails}
 use Rattle.sf_step.specs.Sampling.{EachSteps}
-use Rattle.sf_step.proofs.Members.{memory_now, stopped_at, each_first, each_next, each_fails, each_memory, each_last, list_alike, awake_lived, asleep_fresh, runs_among, begins_among, goes_on_among, members_step, members_unseen, members_fail, members_end, gathered_so, at_once, pass_with, pass_each, Continues as EachContinues}
+use Rattle.sf_step.proofs.Members.{memory_now, stopped_at, each_first, each_next, each_fails, each_memory, each_last, list_alike, late_list, awake_lived, asleep_fresh, runs_among, begins_among, goes_on_among, members_step, members_fail, members_end, gathered_so, pass_with, Continues as EachContinues}
 use Rattle.sf_step.proofs.Releasing.{run_alike, members_stop, members_memory, sight_fails, sight_memory, members_go_on, released_body_fails, released_body_takes_over}
-use Rattle.sf_step.proofs.Editing.{stopped, members_alone, old_fail, old_memory, edit_stops_it, new_stops, new_run}
+use Rattle.sf_step.specs.Edits.{IsBetween, HaveStepped, no_memory_noted, HaveTurned, no_memory_before, old_fails, no_memory_between, made_fails, new_fails as members_fail_anew, new_run, held_as_made}
+use Rattle.sf_step.proofs.Turns.{NotesOn, notes_first, notes_next, notes_fail, notes_memory, notes_last, notes_stopped, notes_long, TurnsOn, this_at, turn_at, turns_first, turns_stay, turns_stay_not, turns_begin, turns_begin_not, turns_last, as_held, held_fails, old_step, new_step, new_stop, new_end, turned_so, not_turned_so, shows_so, held_stop, gathers_frozen, stepped_fails, changed_long, edit_stopped, pass_edit, pass_notes, pass_turns}
+use Rattle.sf_step.proofs.Editing.{members_alone, edit_answers, as_made}
 use Rattle.sf_step.proofs.sample.+step.Goals as goal
+use Rattle.sf_step.proofs.sample.+step.Goals.{step_again-in-Stays+in_ok-repeat-in-Stays, step_again-in-Begins+in_ok-step_waiting-in-Begins}
+
+-- a result that is there
+there_is : {A E : Type 0} {r : Result A E} {a : A} → r ≡ Ok a → IsOk r
+there_is e = subst IsOk (sym e) refl
 
 -- ## step_state
 
@@ -55,15 +68,29 @@ step_state-returns-in_ok-inside-in-Live g t c = λ P L A.
 
 -- ## step_node
 
-pub step_node-returns-in_default : goal.step_node-returns-in_default
-step_node-returns-in_default g t c = λ m depth t P L R. early_memory (g.R.Holds.answers c.args.context.now.functions.now) c.args.context.now.plan.now t c.stop.ensures.entered c.stop.ensures.height c.stop.ensures.fault
-
 pub step_node-returns-in-Some : goal.step_node-returns-in-Some
 step_node-returns-in-Some g t c =
-    own_steps (g.R.Holds.answers c.args.context.now.functions.now) c.args.context.now.plan.now c.args.node.now.value c.in-Some.live.now _ _ (λ P x L R. rw c.in-Some.ensures.value (c.unshare.ensures (g.R.Holds.answers c.args.context.now.functions.now) c.args.context.now.plan.now P x L R)) c.step_live.ensures
+    own_steps (g.R.Holds.answers c.args.context.now.functions.now) c.args.context.now.plan.now c.args.node.now.value c.in-Some.live.now _ _ (λ P x L R. rw c.in-Some.ensures.value R) c.step_live.ensures
 
 pub step_node-returns-in-None : goal.step_node-returns-in-None
-step_node-returns-in-None g t c = λ m depth t P L R. early_memory (g.R.Holds.answers c.args.context.now.functions.now) c.args.context.now.plan.now t c.stop-in-None.ensures.entered c.stop-in-None.ensures.height c.stop-in-None.ensures.fault
+step_node-returns-in-None g t c = c.step_node_copy.ensures
+
+-- ## step_node_copy
+
+pub step_node_copy-returns-in_default : goal.step_node_copy-returns-in_default
+step_node_copy-returns-in_default g t c = λ m depth t P L R. early_memory (g.R.Holds.answers c.args.context.now.functions.now) c.args.context.now.plan.now t c.stop.ensures.entered c.stop.ensures.height c.stop.ensures.fault
+
+pub step_node_copy-returns-in_err-step_live : goal.step_node_copy-returns-in_err-step_live
+step_node_copy-returns-in_err-step_live g t c = λ m depth t P L R.
+    pass_exit _ _ c.from_residual.ensures.0 (failed (own_steps (g.R.Holds.answers c.args.context.now.functions.now) c.args.context.now.plan.now c.args.node.now.value c.in-Ok.own _ _ (λ P x L R. c.in-Ok.ensures (g.R.Holds.answers c.args.context.now.functions.now) c.args.context.now.plan.now P x L (rw c.deref.ensures R)) c.in_err-step_live.ensures m depth t P L R))
+
+pub step_node_copy-returns-in_default-new : goal.step_node_copy-returns-in_default-new
+step_node_copy-returns-in_default-new g t c =
+    late_memory (g.R.Holds.answers c.args.context.now.functions.now) c.args.context.now.plan.now (own_steps (g.R.Holds.answers c.args.context.now.functions.now) c.args.context.now.plan.now c.args.node.now.value c.in-Ok.own _ _ (λ P x L R. c.in-Ok.ensures (g.R.Holds.answers c.args.context.now.functions.now) c.args.context.now.plan.now P x L (rw c.deref.ensures R)) c.in_ok-step_live.ensures) c.stop-in_default-new.ensures.entered c.stop-in_default-new.ensures.height c.stop-in_default-new.ensures.fault
+
+pub step_node_copy-returns : goal.step_node_copy-returns
+step_node_copy-returns g t c =
+    rw c.in-Ok-new.ensures.ok (own_steps (g.R.Holds.answers c.args.context.now.functions.now) c.args.context.now.plan.now c.args.node.now.value c.in-Ok.own _ _ (λ P x L R. c.in-Ok.ensures (g.R.Holds.answers c.args.context.now.functions.now) c.args.context.now.plan.now P x L (rw c.deref.ensures R)) c.in_ok-step_live.ensures)
 
 -- ## step_counted
 
@@ -97,23 +124,47 @@ step_counted-returns-in_ok-kept-in-Keeping g t c = λ m depth t P L A.
 
 -- ## step_watching, step_observing
 
-pub step_watching-returns-in_default : goal.step_watching-returns-in_default
-step_watching-returns-in_default g t c = λ m depth t T e L N W. early_memory (g.R.Holds.answers c.args.context.now.functions.now) c.args.context.now.plan.now t c.stop.ensures.entered c.stop.ensures.height c.stop.ensures.fault
-
 pub step_watching-returns-in-Some : goal.step_watching-returns-in-Some
-step_watching-returns-in-Some g t c = λ m depth t T e L N W. c.step_switch.ensures m depth t T e L N (rw c.in-Some.ensures.value (c.unshare_switch.ensures (g.R.Holds.answers c.args.context.now.functions.now) c.args.context.now.plan.now _ _ W))
+step_watching-returns-in-Some g t c = λ m depth t T e L N W. c.step_switch.ensures m depth t T e L N (rw c.in-Some.ensures.value W)
 
 pub step_watching-returns-in-None : goal.step_watching-returns-in-None
-step_watching-returns-in-None g t c = λ m depth t T e L N W. early_memory (g.R.Holds.answers c.args.context.now.functions.now) c.args.context.now.plan.now t c.stop-in-None.ensures.entered c.stop-in-None.ensures.height c.stop-in-None.ensures.fault
+step_watching-returns-in-None g t c = c.step_watching_copy.ensures
 
-pub step_observing-returns-in_default : goal.step_observing-returns-in_default
-step_observing-returns-in_default g t c = λ m depth t T e L N W. early_memory (g.R.Holds.answers c.args.context.now.functions.now) c.args.context.now.plan.now t c.stop.ensures.entered c.stop.ensures.height c.stop.ensures.fault
+pub step_watching_copy-returns-in_default : goal.step_watching_copy-returns-in_default
+step_watching_copy-returns-in_default g t c = λ m depth t T e L N W. early_memory (g.R.Holds.answers c.args.context.now.functions.now) c.args.context.now.plan.now t c.stop.ensures.entered c.stop.ensures.height c.stop.ensures.fault
+
+pub step_watching_copy-returns-in_err-over : goal.step_watching_copy-returns-in_err-over
+step_watching_copy-returns-in_err-over g t c = λ m depth t T e L N W.
+    pass_beside (g.R.Holds.answers c.args.context.now.functions.now) c.args.context.now.plan.now _ _ _ c.from_residual.ensures.0 (failed (waits_alike (g.R.Holds.answers c.args.context.now.functions.now) c.args.context.now.plan.now (Waits (g.R.Holds.answers c.args.context.now.functions.now) c.args.context.now.plan.now) {k = c.args.node.now.value} (λ P L S. c.in-Ok.ensures (g.R.Holds.answers c.args.context.now.functions.now) c.args.context.now.plan.now P L (rw c.deref.ensures S)) c.in_err-over.ensures m depth t T e L N W))
+
+pub step_watching_copy-returns-in_default-new : goal.step_watching_copy-returns-in_default-new
+step_watching_copy-returns-in_default-new g t c =
+    late_waiting (g.R.Holds.answers c.args.context.now.functions.now) c.args.context.now.plan.now (Waits (g.R.Holds.answers c.args.context.now.functions.now) c.args.context.now.plan.now) (waits_alike (g.R.Holds.answers c.args.context.now.functions.now) c.args.context.now.plan.now (Waits (g.R.Holds.answers c.args.context.now.functions.now) c.args.context.now.plan.now) {k = c.args.node.now.value} (λ P L S. c.in-Ok.ensures (g.R.Holds.answers c.args.context.now.functions.now) c.args.context.now.plan.now P L (rw c.deref.ensures S)) c.in_ok-over.ensures) c.stop-in_default-new.ensures.entered c.stop-in_default-new.ensures.height c.stop-in_default-new.ensures.fault
+
+pub step_watching_copy-returns : goal.step_watching_copy-returns
+step_watching_copy-returns g t c =
+    rw c.in-Ok-new.ensures.ok (waits_alike (g.R.Holds.answers c.args.context.now.functions.now) c.args.context.now.plan.now (Waits (g.R.Holds.answers c.args.context.now.functions.now) c.args.context.now.plan.now) {k = c.args.node.now.value} (λ P L S. c.in-Ok.ensures (g.R.Holds.answers c.args.context.now.functions.now) c.args.context.now.plan.now P L (rw c.deref.ensures S)) c.in_ok-over.ensures)
 
 pub step_observing-returns-in-Some : goal.step_observing-returns-in-Some
-step_observing-returns-in-Some g t c = λ m depth t T e L N W. c.step_keeping.ensures m depth t T e L N (rw c.in-Some.ensures.value (c.unshare_keeping.ensures (g.R.Holds.answers c.args.context.now.functions.now) c.args.context.now.plan.now _ _ W))
+step_observing-returns-in-Some g t c = λ m depth t T e L N W. c.step_keeping.ensures m depth t T e L N (rw c.in-Some.ensures.value W)
 
 pub step_observing-returns-in-None : goal.step_observing-returns-in-None
-step_observing-returns-in-None g t c = λ m depth t T e L N W. early_memory (g.R.Holds.answers c.args.context.now.functions.now) c.args.context.now.plan.now t c.stop-in-None.ensures.entered c.stop-in-None.ensures.height c.stop-in-None.ensures.fault
+step_observing-returns-in-None g t c = c.step_observing_copy.ensures
+
+pub step_observing_copy-returns-in_default : goal.step_observing_copy-returns-in_default
+step_observing_copy-returns-in_default g t c = λ m depth t T e L N W. early_memory (g.R.Holds.answers c.args.context.now.functions.now) c.args.context.now.plan.now t c.stop.ensures.entered c.stop.ensures.height c.stop.ensures.fault
+
+pub step_observing_copy-returns-in_err-over : goal.step_observing_copy-returns-in_err-over
+step_observing_copy-returns-in_err-over g t c = λ m depth t T e L N W.
+    pass_beside (g.R.Holds.answers c.args.context.now.functions.now) c.args.context.now.plan.now _ _ _ c.from_residual.ensures.0 (failed (waits_alike (g.R.Holds.answers c.args.context.now.functions.now) c.args.context.now.plan.now (WaitsKeeping (g.R.Holds.answers c.args.context.now.functions.now) c.args.context.now.plan.now) {k = c.args.node.now.value} (λ P L S. c.in-Ok.ensures (g.R.Holds.answers c.args.context.now.functions.now) c.args.context.now.plan.now P L (rw c.deref.ensures S)) c.in_err-over.ensures m depth t T e L N W))
+
+pub step_observing_copy-returns-in_default-new : goal.step_observing_copy-returns-in_default-new
+step_observing_copy-returns-in_default-new g t c =
+    late_waiting (g.R.Holds.answers c.args.context.now.functions.now) c.args.context.now.plan.now (WaitsKeeping (g.R.Holds.answers c.args.context.now.functions.now) c.args.context.now.plan.now) (waits_alike (g.R.Holds.answers c.args.context.now.functions.now) c.args.context.now.plan.now (WaitsKeeping (g.R.Holds.answers c.args.context.now.functions.now) c.args.context.now.plan.now) {k = c.args.node.now.value} (λ P L S. c.in-Ok.ensures (g.R.Holds.answers c.args.context.now.functions.now) c.args.context.now.plan.now P L (rw c.deref.ensures S)) c.in_ok-over.ensures) c.stop-in_default-new.ensures.entered c.stop-in_default-new.ensures.height c.stop-in_default-new.ensures.fault
+
+pub step_observing_copy-returns : goal.step_observing_copy-returns
+step_observing_copy-returns g t c =
+    rw c.in-Ok-new.ensures.ok (waits_alike (g.R.Holds.answers c.args.context.now.functions.now) c.args.context.now.plan.now (WaitsKeeping (g.R.Holds.answers c.args.context.now.functions.now) c.args.context.now.plan.now) {k = c.args.node.now.value} (λ P L S. c.in-Ok.ensures (g.R.Holds.answers c.args.context.now.functions.now) c.args.context.now.plan.now P L (rw c.deref.ensures S)) c.in_ok-over.ensures)
 
 -- ## step_other
 
@@ -292,25 +343,25 @@ step_sequence-returns g t c =
 pub step_parallel-returns-in_default : goal.step_parallel-returns-in_default
 step_parallel-returns-in_default g t c = λ m depth t P L R. early_memory (g.R.Holds.answers c.args.context.now.functions.now) c.args.context.now.plan.now t c.stop.ensures.entered c.stop.ensures.height c.stop.ensures.fault
 
-pub step_parallel-returns-in_default-get_mut : goal.step_parallel-returns-in_default-get_mut
-step_parallel-returns-in_default-get_mut g t c = λ m depth t P L R. early_memory (g.R.Holds.answers c.args.context.now.functions.now) c.args.context.now.plan.now t c.stop-in_default-get_mut.ensures.entered c.stop-in_default-get_mut.ensures.height c.stop-in_default-get_mut.ensures.fault
+pub step_parallel-returns-in_default-make_mut : goal.step_parallel-returns-in_default-make_mut
+step_parallel-returns-in_default-make_mut g t c = λ m depth t P L R. early_memory (g.R.Holds.answers c.args.context.now.functions.now) c.args.context.now.plan.now t c.stop-in_default-make_mut.ensures.entered c.stop-in_default-make_mut.ensures.height c.stop-in_default-make_mut.ensures.fault
 
 pub step_parallel-returns-in_err-step_state : goal.step_parallel-returns-in_err-step_state
 step_parallel-returns-in_err-step_state g t c = λ m depth t P L R.
-    pass_exit _ _ c.from_residual.ensures.0 (join_left_fails (g.R.Holds.answers c.args.context.now.functions.now) c.args.context.now.plan.now InParallel c.args.left.now c.args.right.now c.args.meter.now c.step_state.new.meter c.args.inside c.args.context.now.dt c.args.value.now _ (ap (λ (p : Pair). p.first) c.in-Some.ensures.value ∙ c.in-Ok.ensures.first ∙ ap first_of c.replace-input.ensures.value)
+    pass_exit _ _ c.from_residual.ensures.0 (join_left_fails (g.R.Holds.answers c.args.context.now.functions.now) c.args.context.now.plan.now InParallel c.args.left.now c.args.right.now c.args.meter.now c.step_state.new.meter c.args.inside c.args.context.now.dt c.args.value.now _ (ap (λ (p : Pair). p.first) (own_halves c.in-Ok-make_mut.ensures.value) ∙ c.in-Ok.ensures.first ∙ ap first_of c.replace-input.ensures.value)
     _ c.in_err-step_state.ensures m depth t P L R)
 
 pub step_parallel-returns-in_err-step_state-2 : goal.step_parallel-returns-in_err-step_state-2
 step_parallel-returns-in_err-step_state-2 g t c = λ m depth t P L R.
-    pass_exit _ _ c.from_residual-in_err-step_state-2.ensures.0 (join_right_fails (g.R.Holds.answers c.args.context.now.functions.now) c.args.context.now.plan.now InParallel c.args.left.now c.args.right.now c.args.meter.now c.step_state.new.meter c.args.inside c.args.context.now.dt c.args.value.now _ (ap (λ (p : Pair). p.first) c.in-Some.ensures.value ∙ c.in-Ok.ensures.first ∙ ap first_of c.replace-input.ensures.value)
-    c.step_state.new.state c.step_state.new.value _ (ap (λ (p : Pair). p.second) c.in-Some.ensures.value ∙ c.in-Ok.ensures.second ∙ ap second_of c.replace-input.ensures.value) c.in_ok-step_state.ensures
+    pass_exit _ _ c.from_residual-in_err-step_state-2.ensures.0 (join_right_fails (g.R.Holds.answers c.args.context.now.functions.now) c.args.context.now.plan.now InParallel c.args.left.now c.args.right.now c.args.meter.now c.step_state.new.meter c.args.inside c.args.context.now.dt c.args.value.now _ (ap (λ (p : Pair). p.first) (own_halves c.in-Ok-make_mut.ensures.value) ∙ c.in-Ok.ensures.first ∙ ap first_of c.replace-input.ensures.value)
+    c.step_state.new.state c.step_state.new.value _ (ap (λ (p : Pair). p.second) (own_halves c.in-Ok-make_mut.ensures.value) ∙ c.in-Ok.ensures.second ∙ ap second_of c.replace-input.ensures.value) c.in_ok-step_state.ensures
     c.step_state-2.new.meter _ c.in_err-step_state-2.ensures m depth t P L R)
 
 pub step_parallel-returns : goal.step_parallel-returns
 step_parallel-returns g t c =
-    join_steps (g.R.Holds.answers c.args.context.now.functions.now) c.args.context.now.plan.now InParallel c.args.left.now c.args.right.now c.args.meter.now c.step_state.new.meter c.args.inside c.args.context.now.dt c.args.value.now _ (ap (λ (p : Pair). p.first) c.in-Some.ensures.value ∙ c.in-Ok.ensures.first ∙ ap first_of c.replace-input.ensures.value)
-    c.step_state.new.state c.step_state.new.value _ (ap (λ (p : Pair). p.second) c.in-Some.ensures.value ∙ c.in-Ok.ensures.second ∙ ap second_of c.replace-input.ensures.value) c.in_ok-step_state.ensures
-    c.step_state-2.new.meter c.step_state-2.new.state c.step_state-2.new.value c.of_pair.result c.of_pair.ensures c.in_ok-step_state-2.ensures
+    join_steps (g.R.Holds.answers c.args.context.now.functions.now) c.args.context.now.plan.now InParallel c.args.left.now c.args.right.now c.args.meter.now c.step_state.new.meter c.args.inside c.args.context.now.dt c.args.value.now _ (ap (λ (p : Pair). p.first) (own_halves c.in-Ok-make_mut.ensures.value) ∙ c.in-Ok.ensures.first ∙ ap first_of c.replace-input.ensures.value)
+    c.step_state.new.state c.step_state.new.value _ (ap (λ (p : Pair). p.second) (own_halves c.in-Ok-make_mut.ensures.value) ∙ c.in-Ok.ensures.second ∙ ap second_of c.replace-input.ensures.value) c.in_ok-step_state.ensures
+    c.step_state-2.new.meter c.step_state-2.new.state c.step_state-2.new.value c.of_pair.result (c.of_pair.ensures ∙ ap (λ (q : Pair). pair q.first q.second) (c.make_mut.follows.holds _ (there_is c.in-Ok-make_mut.is))) c.in_ok-step_state-2.ensures
 
 -- ## step_fan
 
@@ -346,36 +397,36 @@ step_fan-returns g t c =
 pub step_first-returns-in_default : goal.step_first-returns-in_default
 step_first-returns-in_default g t c = λ m depth t P L R. early_memory (g.R.Holds.answers c.args.context.now.functions.now) c.args.context.now.plan.now t c.stop.ensures.entered c.stop.ensures.height c.stop.ensures.fault
 
-pub step_first-returns-in_default-get_mut : goal.step_first-returns-in_default-get_mut
-step_first-returns-in_default-get_mut g t c = λ m depth t P L R. early_memory (g.R.Holds.answers c.args.context.now.functions.now) c.args.context.now.plan.now t c.stop-in_default-get_mut.ensures.entered c.stop-in_default-get_mut.ensures.height c.stop-in_default-get_mut.ensures.fault
+pub step_first-returns-in_default-make_mut : goal.step_first-returns-in_default-make_mut
+step_first-returns-in_default-make_mut g t c = λ m depth t P L R. early_memory (g.R.Holds.answers c.args.context.now.functions.now) c.args.context.now.plan.now t c.stop-in_default-make_mut.ensures.entered c.stop-in_default-make_mut.ensures.height c.stop-in_default-make_mut.ensures.fault
 
 pub step_first-returns-in_err-step_state : goal.step_first-returns-in_err-step_state
 step_first-returns-in_err-step_state g t c = λ m depth t P L R.
-    pass_exit _ _ c.from_residual.ensures.0 (wrap_fails (g.R.Holds.answers c.args.context.now.functions.now) c.args.context.now.plan.now First c.args.part.now c.args.meter.now c.step_state.new.meter c.args.inside c.args.context.now.dt c.args.value.now _ (ap (λ (p : Pair). p.first) c.in-Some.ensures.value ∙ c.in-Ok.ensures.first ∙ ap first_of c.replace-input.ensures.value)
+    pass_exit _ _ c.from_residual.ensures.0 (wrap_fails (g.R.Holds.answers c.args.context.now.functions.now) c.args.context.now.plan.now First c.args.part.now c.args.meter.now c.step_state.new.meter c.args.inside c.args.context.now.dt c.args.value.now _ (ap (λ (p : Pair). p.first) (own_halves c.in-Ok-make_mut.ensures.value) ∙ c.in-Ok.ensures.first ∙ ap first_of c.replace-input.ensures.value)
     _ c.in_err-step_state.ensures m depth t P L R)
 
 pub step_first-returns : goal.step_first-returns
 step_first-returns g t c =
-    wrap_steps (g.R.Holds.answers c.args.context.now.functions.now) c.args.context.now.plan.now First c.args.part.now c.args.meter.now c.step_state.new.meter c.args.inside c.args.context.now.dt c.args.value.now _ (ap (λ (p : Pair). p.first) c.in-Some.ensures.value ∙ c.in-Ok.ensures.first ∙ ap first_of c.replace-input.ensures.value)
-    c.step_state.new.state First c.step_state.new.value c.of_pair.result refl (ap answer (rw (ap (λ (p : Pair). p.second) c.in-Some.ensures.value ∙ c.in-Ok.ensures.second ∙ ap second_of c.replace-input.ensures.value) at c.of_pair.ensures)) c.in_ok-step_state.ensures
+    wrap_steps (g.R.Holds.answers c.args.context.now.functions.now) c.args.context.now.plan.now First c.args.part.now c.args.meter.now c.step_state.new.meter c.args.inside c.args.context.now.dt c.args.value.now _ (ap (λ (p : Pair). p.first) (own_halves c.in-Ok-make_mut.ensures.value) ∙ c.in-Ok.ensures.first ∙ ap first_of c.replace-input.ensures.value)
+    c.step_state.new.state First c.step_state.new.value c.of_pair.result refl (ap answer (rw (ap (λ (p : Pair). p.second) (own_halves c.in-Ok-make_mut.ensures.value) ∙ c.in-Ok.ensures.second ∙ ap second_of c.replace-input.ensures.value) at (c.of_pair.ensures ∙ ap (λ (q : Pair). pair q.first q.second) (c.make_mut.follows.holds _ (there_is c.in-Ok-make_mut.is))))) c.in_ok-step_state.ensures
 
 -- ## step_second
 
 pub step_second-returns-in_default : goal.step_second-returns-in_default
 step_second-returns-in_default g t c = λ m depth t P L R. early_memory (g.R.Holds.answers c.args.context.now.functions.now) c.args.context.now.plan.now t c.stop.ensures.entered c.stop.ensures.height c.stop.ensures.fault
 
-pub step_second-returns-in_default-get_mut : goal.step_second-returns-in_default-get_mut
-step_second-returns-in_default-get_mut g t c = λ m depth t P L R. early_memory (g.R.Holds.answers c.args.context.now.functions.now) c.args.context.now.plan.now t c.stop-in_default-get_mut.ensures.entered c.stop-in_default-get_mut.ensures.height c.stop-in_default-get_mut.ensures.fault
+pub step_second-returns-in_default-make_mut : goal.step_second-returns-in_default-make_mut
+step_second-returns-in_default-make_mut g t c = λ m depth t P L R. early_memory (g.R.Holds.answers c.args.context.now.functions.now) c.args.context.now.plan.now t c.stop-in_default-make_mut.ensures.entered c.stop-in_default-make_mut.ensures.height c.stop-in_default-make_mut.ensures.fault
 
 pub step_second-returns-in_err-step_state : goal.step_second-returns-in_err-step_state
 step_second-returns-in_err-step_state g t c = λ m depth t P L R.
-    pass_exit _ _ c.from_residual.ensures.0 (wrap_fails (g.R.Holds.answers c.args.context.now.functions.now) c.args.context.now.plan.now Second c.args.part.now c.args.meter.now c.step_state.new.meter c.args.inside c.args.context.now.dt c.args.value.now _ (ap (λ (p : Pair). p.second) c.in-Some.ensures.value ∙ c.in-Ok.ensures.second ∙ ap second_of c.replace-input.ensures.value)
+    pass_exit _ _ c.from_residual.ensures.0 (wrap_fails (g.R.Holds.answers c.args.context.now.functions.now) c.args.context.now.plan.now Second c.args.part.now c.args.meter.now c.step_state.new.meter c.args.inside c.args.context.now.dt c.args.value.now _ (ap (λ (p : Pair). p.second) (own_halves c.in-Ok-make_mut.ensures.value) ∙ c.in-Ok.ensures.second ∙ ap second_of c.replace-input.ensures.value)
     _ c.in_err-step_state.ensures m depth t P L R)
 
 pub step_second-returns : goal.step_second-returns
 step_second-returns g t c =
-    wrap_steps (g.R.Holds.answers c.args.context.now.functions.now) c.args.context.now.plan.now Second c.args.part.now c.args.meter.now c.step_state.new.meter c.args.inside c.args.context.now.dt c.args.value.now _ (ap (λ (p : Pair). p.second) c.in-Some.ensures.value ∙ c.in-Ok.ensures.second ∙ ap second_of c.replace-input.ensures.value)
-    c.step_state.new.state Second c.step_state.new.value c.of_pair.result refl (ap answer (rw (ap (λ (p : Pair). p.first) c.in-Some.ensures.value ∙ c.in-Ok.ensures.first ∙ ap first_of c.replace-input.ensures.value) at c.of_pair.ensures)) c.in_ok-step_state.ensures
+    wrap_steps (g.R.Holds.answers c.args.context.now.functions.now) c.args.context.now.plan.now Second c.args.part.now c.args.meter.now c.step_state.new.meter c.args.inside c.args.context.now.dt c.args.value.now _ (ap (λ (p : Pair). p.second) (own_halves c.in-Ok-make_mut.ensures.value) ∙ c.in-Ok.ensures.second ∙ ap second_of c.replace-input.ensures.value)
+    c.step_state.new.state Second c.step_state.new.value c.of_pair.result refl (ap answer (rw (ap (λ (p : Pair). p.first) (own_halves c.in-Ok-make_mut.ensures.value) ∙ c.in-Ok.ensures.first ∙ ap first_of c.replace-input.ensures.value) at (c.of_pair.ensures ∙ ap (λ (q : Pair). pair q.first q.second) (c.make_mut.follows.holds _ (there_is c.in-Ok-make_mut.is))))) c.in_ok-step_state.ensures
 
 -- ## step_loop
 
@@ -516,14 +567,26 @@ step_counted-returns-in_ok-released-in-Gathering g t c = λ m depth t P L A.
     gathering_turns (g.R.Holds.answers c.args.context.now.functions.now) c.args.context.now.plan.now _ c.in-Gathering.names c.in-Gathering.node.value c.in-Gathering.node.value (λ P L S. S) (step c.args.context.now.dt c.args.value.now) c.args.meter.now c.step_gathering.new.meter c.args.inside
     _ c.in_ok-released-in-Gathering.released c.step_gathering.new.node.value c.step_gathering.new.value _ c.take_over-in-Gathering.ensures c.in_ok-released-in-Gathering.ensures m depth t P L (rw c.in-Gathering.is at A)
 
-pub step_gathering-returns-in_default : goal.step_gathering-returns-in_default
-step_gathering-returns-in_default g t c = λ m depth t T e L N W. early_memory (g.R.Holds.answers c.args.context.now.functions.now) c.args.context.now.plan.now t c.stop.ensures.entered c.stop.ensures.height c.stop.ensures.fault
-
 pub step_gathering-returns-in-Some : goal.step_gathering-returns-in-Some
-step_gathering-returns-in-Some g t c = λ m depth t T e L N W. c.step_members_waiting.ensures m depth t T e L N (rw c.in-Some.ensures.value (c.unshare_gathering.ensures (g.R.Holds.answers c.args.context.now.functions.now) c.args.context.now.plan.now _ _ W))
+step_gathering-returns-in-Some g t c = λ m depth t T e L N W. c.step_members_waiting.ensures m depth t T e L N (rw c.in-Some.ensures.value W)
 
 pub step_gathering-returns-in-None : goal.step_gathering-returns-in-None
-step_gathering-returns-in-None g t c = λ m depth t T e L N W. early_memory (g.R.Holds.answers c.args.context.now.functions.now) c.args.context.now.plan.now t c.stop-in-None.ensures.entered c.stop-in-None.ensures.height c.stop-in-None.ensures.fault
+step_gathering-returns-in-None g t c = c.step_gathering_copy.ensures
+
+pub step_gathering_copy-returns-in_default : goal.step_gathering_copy-returns-in_default
+step_gathering_copy-returns-in_default g t c = λ m depth t T e L N W. early_memory (g.R.Holds.answers c.args.context.now.functions.now) c.args.context.now.plan.now t c.stop.ensures.entered c.stop.ensures.height c.stop.ensures.fault
+
+pub step_gathering_copy-returns-in_err-over : goal.step_gathering_copy-returns-in_err-over
+step_gathering_copy-returns-in_err-over g t c = λ m depth t T e L N W.
+    pass_beside (g.R.Holds.answers c.args.context.now.functions.now) c.args.context.now.plan.now _ _ _ c.from_residual.ensures.0 (failed (waits_alike (g.R.Holds.answers c.args.context.now.functions.now) c.args.context.now.plan.now (WaitsGathered (g.R.Holds.answers c.args.context.now.functions.now) c.args.context.now.plan.now) {k = c.args.node.now.value} (λ P L S. c.in-Ok.ensures (g.R.Holds.answers c.args.context.now.functions.now) c.args.context.now.plan.now P L (rw c.deref.ensures S)) c.in_err-over.ensures m depth t T e L N W))
+
+pub step_gathering_copy-returns-in_default-new : goal.step_gathering_copy-returns-in_default-new
+step_gathering_copy-returns-in_default-new g t c =
+    late_waiting (g.R.Holds.answers c.args.context.now.functions.now) c.args.context.now.plan.now (WaitsGathered (g.R.Holds.answers c.args.context.now.functions.now) c.args.context.now.plan.now) (waits_alike (g.R.Holds.answers c.args.context.now.functions.now) c.args.context.now.plan.now (WaitsGathered (g.R.Holds.answers c.args.context.now.functions.now) c.args.context.now.plan.now) {k = c.args.node.now.value} (λ P L S. c.in-Ok.ensures (g.R.Holds.answers c.args.context.now.functions.now) c.args.context.now.plan.now P L (rw c.deref.ensures S)) c.in_ok-over.ensures) c.stop-in_default-new.ensures.entered c.stop-in_default-new.ensures.height c.stop-in_default-new.ensures.fault
+
+pub step_gathering_copy-returns : goal.step_gathering_copy-returns
+step_gathering_copy-returns g t c =
+    rw c.in-Ok-new.ensures.ok (waits_alike (g.R.Holds.answers c.args.context.now.functions.now) c.args.context.now.plan.now (WaitsGathered (g.R.Holds.answers c.args.context.now.functions.now) c.args.context.now.plan.now) {k = c.args.node.now.value} (λ P L S. c.in-Ok.ensures (g.R.Holds.answers c.args.context.now.functions.now) c.args.context.now.plan.now P L (rw c.deref.ensures S)) c.in_ok-over.ensures)
 
 -- ## step_edited
 
@@ -589,9 +652,6 @@ step_releasing-returns-in_ok-successor-in-Some g t c =
 pub step_editing-returns-in_default : goal.step_editing-returns-in_default
 step_editing-returns-in_default g t c = λ m depth t T e L N W. early_memory (g.R.Holds.answers c.args.context.now.functions.now) c.args.context.now.plan.now t c.stop.ensures.entered c.stop.ensures.height c.stop.ensures.fault
 
-pub step_editing-returns-in_default-clone_in : goal.step_editing-returns-in_default-clone_in
-step_editing-returns-in_default-clone_in g t c = λ m depth t T e L N W. early_memory (g.R.Holds.answers c.args.context.now.functions.now) c.args.context.now.plan.now t c.stop-in_default-clone_in.ensures.entered c.stop-in_default-clone_in.ensures.height c.stop-in_default-clone_in.ensures.fault
-
 pub step_editing-returns-in_default-inside : goal.step_editing-returns-in_default-inside
 step_editing-returns-in_default-inside g t c = λ m depth t T e L N W. early_memory (g.R.Holds.answers c.args.context.now.functions.now) c.args.context.now.plan.now t c.stop-in_default-inside.ensures.entered c.stop-in_default-inside.ensures.height c.stop-in_default-inside.ensures.fault
 
@@ -601,48 +661,385 @@ step_editing-returns-in-None g t c =
     c.step_members.result c.step_members.new.members c.step_members.new.value (fault_of c.step_members.new.meter) (none_occurs _ c.in-Ok.occurring (second_of c.args.value.now) c.in-Ok.ensures.1 c.in-None.is)
     _ refl c.step_members.ensures
 
-pub step_editing-returns-in_err-step_old-in-Some : goal.step_editing-returns-in_err-step_old-in-Some
-step_editing-returns-in_err-step_old-in-Some g t c = λ m depth t T e L N W.
-    pass_exit _ _ c.from_residual.ensures.0 (old_fail (g.R.Holds.answers c.args.context.now.functions.now) c.args.context.now.plan.now c.args.names.now c.args.editing.now c.args.context.now.dt c.args.value.now c.in-Ok.input c.in-Ok.ensures.0 c.args.meter.now c.step_old.new.meter c.args.inside
-    _ c.in_err-step_old-in-Some.ensures.steps m depth t T e L N W)
-
-pub step_editing-returns-in-Err : goal.step_editing-returns-in-Err
-step_editing-returns-in-Err g t c = λ m depth t T e L N W.
-    let old = c.in_ok-step_old-in-Some.ensures in
-    stopped c.stop-in-Err.ensures.fault (edit_stops_it (g.R.Holds.answers c.args.context.now.functions.now) c.args.context.now.plan.now c.args.names.now c.args.editing.now c.args.context.now.dt c.args.value.now c.in-Ok.input c.in-Ok.ensures.0 c.args.meter.now c.step_old.new.meter c.args.inside
-    c.step_old.new.members old.given old.steps c.in-Some.payload.value (some_occurs _ c.in-Ok.occurring c.in-Some.payload (second_of c.args.value.now) c.in-Ok.ensures.1 c.in-Some.is) c.in-Err.fault (λ e qs K N G. rw c.deref.ensures at (c.in-Err.ensures _ (c.in-Ok-inside.ensures (g.R.Holds.answers c.args.context.now.functions.now) e qs K N G))) _ c.stop-in-Err.ensures.entered c.stop-in-Err.ensures.height m depth t T e L N W)
-
-pub step_editing-returns-in_err-step_members-in-Ok-made : goal.step_editing-returns-in_err-step_members-in-Ok-made
-step_editing-returns-in_err-step_members-in-Ok-made g t c = λ m depth t T e L N W.
-    let old = c.in_ok-step_old-in-Some.ensures in
-    pass_exit _ _ c.from_residual-in_err-step_members-in-Ok-made.ensures.0 (new_stops (g.R.Holds.answers c.args.context.now.functions.now) c.args.context.now.plan.now c.args.names.now c.args.editing.now c.args.context.now.dt c.args.value.now c.in-Ok.input c.in-Ok.ensures.0 c.args.meter.now c.step_old.new.meter c.args.inside
-    c.step_old.new.members old.given old.steps c.in-Some.payload.value (some_occurs _ c.in-Ok.occurring c.in-Some.payload (second_of c.args.value.now) c.in-Ok.ensures.1 c.in-Some.is) c.in-Ok-made.fresh (λ e qs K N G. rw c.deref.ensures at (c.in-Ok-made.ensures _ (c.in-Ok-inside.ensures (g.R.Holds.answers c.args.context.now.functions.now) e qs K N G))) c.in-Ok-clone_in.begun c.in-Ok-clone_in.ensures c.step_members-in-Ok-made.new.meter
-    _ c.in_err-step_members-in-Ok-made.ensures m depth t T e L N W)
-
-pub step_editing-returns-in_ok-step_members-in-Ok-made : goal.step_editing-returns-in_ok-step_members-in-Ok-made
-step_editing-returns-in_ok-step_members-in-Ok-made g t c =
-    let old = c.in_ok-step_old-in-Some.ensures in
-    let z = c.step_members-in-Ok-made.new.value in
-    new_run (g.R.Holds.answers c.args.context.now.functions.now) c.args.context.now.plan.now c.args.names.now c.args.editing.now c.args.context.now.dt c.args.value.now c.in-Ok.input c.in-Ok.ensures.0 c.args.meter.now c.step_old.new.meter c.args.inside
-    c.step_old.new.members old.given old.steps c.in-Some.payload.value (some_occurs _ c.in-Ok.occurring c.in-Some.payload (second_of c.args.value.now) c.in-Ok.ensures.1 c.in-Some.is) c.in-Ok-made.fresh (λ e qs K N G. rw c.deref.ensures at (c.in-Ok-made.ensures _ (c.in-Ok-inside.ensures (g.R.Holds.answers c.args.context.now.functions.now) e qs K N G))) c.in-Ok-clone_in.begun c.in-Ok-clone_in.ensures c.step_members-in-Ok-made.new.meter
-    c.step_members-in-Ok-made.new.members z _ (c.show.ensures ∙ old.shown z) _ refl c.in_ok-step_members-in-Ok-made.ensures
-
--- ## step_old
-
-pub step_old-returns-in-Delayed : goal.step_old-returns-in-Delayed
-step_old-returns-in-Delayed g t c = record { given = c.step_members.new.value; shown = λ z. refl; steps = c.step_members.ensures }
-
-pub step_old-returns-in-Immediate : goal.step_old-returns-in-Immediate
-step_old-returns-in-Immediate g t c =
+pub step_editing-returns-in-Ok-Some : goal.step_editing-returns-in-Ok-Some
+step_editing-returns-in-Ok-Some g t c =
     let φ = g.R.Holds.answers c.args.context.now.functions.now in
     let p = c.args.context.now.plan.now in
-    let ys = c.step_unseen.ensures.0 in
-    let h : Gathered = record { keys = c.args.members.now.keys; states = c.step_unseen.new.list; wait = None } in
+    let k = c.args.editing.now in
+    let d = c.args.context.now.dt in
+    let v = c.in-Some.payload.value in
+    let made = rw c.deref.ensures at (rw c.in-Ok-Some.field-0-is at c.in-Ok-Some.ensures) in
+    edit_answers φ p c.args.names.now k d c.args.value.now c.in-Ok.input c.in-Ok.ensures.0 v (some_occurs _ c.in-Ok.occurring c.in-Some.payload (second_of c.args.value.now) c.in-Ok.ensures.1 c.in-Some.is) (Ok (drafted k.members d c.in-Ok-Some.draft)) c.args.inside
+    c.step_draft.result c.step_draft.new.members c.step_draft.new.value (fault_of c.step_draft.new.meter) (λ e qs K N G coded. made (each_frozen qs K d) v e (c.in-Ok-inside.ensures φ e qs K N G) coded (gathers_frozen φ p k.members d qs K G)) _ refl c.step_draft.ensures
+
+pub step_editing-returns-in-Err-Memory : goal.step_editing-returns-in-Err-Memory
+step_editing-returns-in-Err-Memory g t c = λ m depth t T e L N W. early_memory (g.R.Holds.answers c.args.context.now.functions.now) c.args.context.now.plan.now t c.stop-in-Err-Memory.ensures.entered c.stop-in-Err-Memory.ensures.height c.stop-in-Err-Memory.ensures.fault
+
+pub step_editing-returns-after-draft_of : goal.step_editing-returns-after-draft_of
+step_editing-returns-after-draft_of g t c =
+    let φ = g.R.Holds.answers c.args.context.now.functions.now in
+    let p = c.args.context.now.plan.now in
+    let k = c.args.editing.now in
+    let d = c.args.context.now.dt in
+    let v = c.in-Some.payload.value in
+    edit_answers φ p c.args.names.now k d c.args.value.now c.in-Ok.input c.in-Ok.ensures.0 v (some_occurs _ c.in-Ok.occurring c.in-Some.payload (second_of c.args.value.now) c.in-Ok.ensures.1 c.in-Some.is) (held_as_made c.collect-made.result) c.args.inside
+    c.step_made.result c.step_made.new.members c.step_made.new.value (fault_of c.step_made.new.meter) (λ e qs K N G coded. as_made φ p c.collect-made.result ((rw c.deref-in-Some.ensures at c.collect-made.ensures) _ (c.in-Ok-inside.ensures φ e qs K N G) coded)) _ refl c.step_made.ensures
+
+-- ## step_made
+
+pub step_made-returns-in_default : goal.step_made-returns-in_default
+step_made-returns-in_default g t c = edit_stopped c.stop.ensures.fault (no_memory_before c.stop.ensures.entered c.stop.ensures.height)
+
+pub step_made-returns-in_err-step_members : goal.step_made-returns-in_err-step_members
+step_made-returns-in_err-step_members g t c =
+    let φ = g.R.Holds.answers c.args.context.now.functions.now in
+    let p = c.args.context.now.plan.now in
+    pass_edit _ _ c.from_residual.ensures.0 (old_fails (held_fails φ p c.args.members.now c.in_err-step_members.ensures))
+
+pub step_made-returns-in-Err : goal.step_made-returns-in-Err
+step_made-returns-in-Err g t c =
+    let φ = g.R.Holds.answers c.args.context.now.functions.now in
+    let p = c.args.context.now.plan.now in
+    edit_stopped c.stop-in-Err.ensures.fault (made_fails (as_held φ p c.args.members.now c.step_members.new.members c.in_ok-step_members.ensures) (ap held_as_made c.in-Err.is) c.stop-in-Err.ensures.entered c.stop-in-Err.ensures.height)
+
+pub step_made-returns-in_err-step_members-in-Ok-made : goal.step_made-returns-in_err-step_members-in-Ok-made
+step_made-returns-in_err-step_members-in-Ok-made g t c =
+    let φ = g.R.Holds.answers c.args.context.now.functions.now in
+    let p = c.args.context.now.plan.now in
+    pass_edit _ _ c.from_residual-in_err-step_members-in-Ok-made.ensures.0 (members_fail_anew (as_held φ p c.args.members.now c.step_members.new.members c.in_ok-step_members.ensures) (ap held_as_made c.in-Ok-made.is) (λ low ms L G. held_fails φ p c.in-Ok-made.fresh (rw c.in-Ok.ensures at c.in_err-step_members-in-Ok-made.ensures)))
+
+pub step_made-returns-in_ok-step_members-in-Ok-made : goal.step_made-returns-in_ok-step_members-in-Ok-made
+step_made-returns-in_ok-step_members-in-Ok-made g t c =
+    let φ = g.R.Holds.answers c.args.context.now.functions.now in
+    let p = c.args.context.now.plan.now in
+    new_run (as_held φ p c.args.members.now c.step_members.new.members c.in_ok-step_members.ensures) (ap held_as_made c.in-Ok-made.is) (λ low ms L G. as_held φ p c.in-Ok-made.fresh c.step_members-in-Ok-made.new.members (rw c.in-Ok.ensures at c.in_ok-step_members-in-Ok-made.ensures)) c.show.ensures
+
+-- ## step_noted
+
+pub step_noted-returns-in_default : goal.step_noted-returns-in_default
+step_noted-returns-in_default g t c =
+    let φ = g.R.Holds.answers c.args.context.now.functions.now in
+    let p = c.args.context.now.plan.now in
+    notes_stopped φ p c.args.wait c.args.context.now.dt c.args.value.now c.args.inside refl c.stop.ensures.fault (no_memory_noted c.stop.ensures.entered c.stop.ensures.height)
+
+pub step_noted-returns-in_default-with_capacity : goal.step_noted-returns-in_default-with_capacity
+step_noted-returns-in_default-with_capacity g t c =
+    let φ = g.R.Holds.answers c.args.context.now.functions.now in
+    let p = c.args.context.now.plan.now in
+    notes_stopped φ p c.args.wait c.args.context.now.dt c.args.value.now c.args.inside refl c.stop-in_default-with_capacity.ensures.fault (no_memory_noted c.stop-in_default-with_capacity.ensures.entered c.stop-in_default-with_capacity.ensures.height)
+
+pub step_noted-loop-ran-init : goal.step_noted-loop-ran-init
+step_noted-loop-ran-init g t c =
+    let φ = g.R.Holds.answers c.args.context.now.functions.now in
+    let p = c.args.context.now.plan.now in
+    let d = c.args.context.now.dt in
+    let x = c.args.value.now in
+    let m = c.args.meter.now in
+    let bs = c.deref_mut-ran-items.result.now in
     record {
-      given = table (rows_under c.args.members.now.keys.value ys);
-      shown = λ z. at_once c.args.value.now _ z c.in-Immediate.is;
-      steps = members_unseen φ p c.step_unseen.result c.args.members.now h c.args.context.now.dt c.args.value.now c.args.meter.now c.step_unseen.new.meter c.args.inside ys (fault_of c.step_unseen.new.meter) refl refl c.step_unseen.ensures.1;
+      goes_on = subst (λ (gs : List Turn). NotesOn φ p c.args.wait d x c.args.inside m bs [] c.in-Ok.outputs.items gs bs m) (sym c.in-Ok-with_capacity.ensures.items) (subst (λ (ys : List Data). NotesOn φ p c.args.wait d x c.args.inside m bs [] ys [] bs m) (sym c.in-Ok.ensures.items) (notes_first φ p c.args.wait d x c.args.inside m bs));
+      as_many = c.in-Ok.ensures.len;
+      room = omega (arith, c.in-Ok.ensures.capacity, c.len.ensures, ap length c.deref_mut-ran-items.ensures.value);
+      as_many_turns = c.in-Ok-with_capacity.ensures.len;
+      room_for_turns = omega (arith, c.in-Ok-with_capacity.ensures.capacity, c.len-2.ensures, ap length c.deref_mut-ran-items.ensures.value);
     }
+
+pub step_noted-returns-in_default-clone_in : goal.step_noted-returns-in_default-clone_in
+step_noted-returns-in_default-clone_in g t c =
+    let φ = g.R.Holds.answers c.args.context.now.functions.now in
+    let p = c.args.context.now.plan.now in
+    let l = c.loop-ran in
+    let all = c.deref_mut-ran-items.result.now in
+    notes_stopped φ p c.args.wait c.args.context.now.dt c.args.value.now c.args.inside c.deref_mut-ran-items.ensures.value c.stop-in_default-clone_in.ensures.fault
+    (notes_memory φ p c.args.wait c.args.context.now.dt c.args.value.now c.args.inside c.args.meter.now all (take l.ran-index l.ran-items) l.outputs.items l.turns.items (drop l.ran-index l.ran-items) l.meter c.stop-in_default-clone_in.new.self l.invariant.goes_on c.stop-in_default-clone_in.ensures.entered c.stop-in_default-clone_in.ensures.height)
+
+pub step_noted-returns-in_err-step_member : goal.step_noted-returns-in_err-step_member
+step_noted-returns-in_err-step_member g t c =
+    let φ = g.R.Holds.answers c.args.context.now.functions.now in
+    let p = c.args.context.now.plan.now in
+    let d = c.args.context.now.dt in
+    let x = c.args.value.now in
+    let m = c.args.meter.now in
+    let l = c.loop-ran in
+    let all = c.deref_mut-ran-items.result.now in
+    let n = c.step_member.new.meter in
+    let failed = notes_fail φ p c.args.wait d x c.args.inside m all l.ran-items l.ran-index l.outputs.items l.turns.items l.meter c.ran-item.result (omega (arith, c.loop-ran-test.true, l.auto.ran-items)) l.invariant.goes_on (fault_of n) n (rw c.in-Ok-clone_in.ensures at c.in_err-step_member.ensures) in
+    pass_notes _ _ c.from_residual.ensures.0 (subst (λ (bs : List State). HaveStepped φ p c.args.wait (step d x) c.args.inside m bs (Err (fault_of n)) n) c.deref_mut-ran-items.ensures.value failed)
+
+pub step_noted-loop-ran-preserved : goal.step_noted-loop-ran-preserved
+step_noted-loop-ran-preserved g t c =
+    let φ = g.R.Holds.answers c.args.context.now.functions.now in
+    let p = c.args.context.now.plan.now in
+    let d = c.args.context.now.dt in
+    let x = c.args.value.now in
+    let m = c.args.meter.now in
+    let l = c.loop-ran in
+    let all = c.deref_mut-ran-items.result.now in
+    let n = c.step_member.new.meter in
+    let b = c.step_member.new.state in
+    let y = c.step_member.new.value in
+    let spent = c.since.result in
+    let bs = set l.ran-items l.ran-index b in
+    let short : l.ran-index < length l.ran-items = omega (arith, c.loop-ran-test.true, l.auto.ran-items) in
+    let between : IsBetween l.meter n spent = record {
+      entered = c.since.ensures.entered ∙ ap (λ k. entered_of n - k) c.mark-mark.ensures.entered;
+      first = c.since.ensures.first ∙ c.mark-mark.ensures.recorded;
+      behind = c.since.ensures.behind;
+    } in
+    let next = notes_next φ p c.args.wait d x c.args.inside m all l.ran-items l.ran-index l.outputs.items l.turns.items l.meter c.ran-item.result short l.invariant.goes_on b y n spent (rw c.in-Ok-clone_in.ensures at c.in_ok-step_member.ensures) between in
+    record {
+      goes_on = subst (λ (gs : List Turn). NotesOn φ p c.args.wait d x c.args.inside m all (take (l.ran-index + 1) bs) c.push_reserved.new.self.items gs (drop (l.ran-index + 1) bs) n) (sym c.push_reserved-in-loop-ran.ensures.items)
+          (subst (λ (ys : List Data). NotesOn φ p c.args.wait d x c.args.inside m all (take (l.ran-index + 1) bs) ys (l.turns.items ++ Stays spent ∷ []) (drop (l.ran-index + 1) bs) n) (sym c.push_reserved.ensures.items) next);
+      as_many = c.push_reserved.ensures.len ∙ ap (λ k. k + 1) l.invariant.as_many;
+      room = omega (arith, length-set l.ran-items l.ran-index b, l.invariant.room, c.push_reserved.ensures.capacity);
+      as_many_turns = c.push_reserved-in-loop-ran.ensures.len ∙ ap (λ k. k + 1) l.invariant.as_many_turns;
+      room_for_turns = omega (arith, length-set l.ran-items l.ran-index b, l.invariant.room_for_turns, c.push_reserved-in-loop-ran.ensures.capacity);
+    }
+
+pub step_noted-push_reserved-requires : goal.step_noted-push_reserved-requires
+step_noted-push_reserved-requires g t c =
+    let l = c.loop-ran in
+    omega (arith, l.invariant.as_many, l.invariant.room, c.loop-ran-test.true, l.auto.ran-items)
+
+pub step_noted-push_reserved-requires-in-loop-ran : goal.step_noted-push_reserved-requires-in-loop-ran
+step_noted-push_reserved-requires-in-loop-ran g t c =
+    let l = c.loop-ran in
+    omega (arith, l.invariant.as_many_turns, l.invariant.room_for_turns, c.loop-ran-test.true, l.auto.ran-items)
+
+pub step_noted-returns : goal.step_noted-returns
+step_noted-returns g t c =
+    let φ = g.R.Holds.answers c.args.context.now.functions.now in
+    let p = c.args.context.now.plan.now in
+    let d = c.args.context.now.dt in
+    let x = c.args.value.now in
+    let m = c.args.meter.now in
+    let l = c.loop-ran in
+    let last : l.ran-index ≡ length l.ran-items = omega (arith, l.auto.ran-items, l.auto.ran-index-end, c.loop-ran-test.false) in
+    let w = with_items c.args.states.now l.ran-items in
+    let whole : w.items ≡ l.ran-items = with_items_is c.args.states.now l.ran-items (omega (arith, l.auto.ran-items, ap length c.deref_mut-ran-items.ensures.value)) in
+    let all = notes_last φ p c.args.wait d x c.args.inside m c.deref_mut-ran-items.result.now l.ran-items l.ran-index l.outputs.items l.turns.items l.meter last l.invariant.goes_on in
+    rw whole (subst (λ (bs : List State). HaveStepped φ p c.args.wait (step d x) c.args.inside m bs (Ok (l.ran-items, (l.outputs.items, l.turns.items))) l.meter) c.deref_mut-ran-items.ensures.value all)
+
+-- ## step_again
+
+pub step_again-loop-at-init : goal.step_again-loop-at-init
+step_again-loop-at-init g t c =
+    let φ = g.R.Holds.answers c.args.context.now.functions.now in
+    let p = c.args.context.now.plan.now in
+    record {
+      goes_on = turns_first φ p c.args.wait c.args.context.now.dt c.args.inside c.args.meter.now c.args.states.now.items c.args.outputs.now.items c.args.turns.now;
+      states = c.requires.states;
+      outputs = c.requires.outputs;
+    }
+
+pub step_again-returns-in_err-repeat-in-Stays : goal.step_again-returns-in_err-repeat-in-Stays
+step_again-returns-in_err-repeat-in-Stays g t c =
+    let φ = g.R.Holds.answers c.args.context.now.functions.now in
+    let p = c.args.context.now.plan.now in
+    let l = c.loop-at in
+    let n = c.repeat.new.self in
+    let turn = turn_at c.args.turns.now l.at _ c.in-Stays.is c.loop-at-test.true in
+    pass_turns _ _ c.from_residual.ensures.0 (turns_stay_not φ p c.args.wait c.args.context.now.dt c.args.inside c.args.meter.now c.args.states.now.items c.args.outputs.now.items c.args.turns.now l.states.items l.outputs.items c.args.turns.now l.at l.meter l.invariant.goes_on
+    c.in-Stays.spent n turn (omega (arith, c.loop-at-test.true, l.invariant.states)) (omega (arith, c.loop-at-test.true, l.invariant.outputs)) (fault_of n) c.in_err-repeat-in-Stays.ensures)
+
+pub step_again-returns-in_err-step_waiting-in-Begins : goal.step_again-returns-in_err-step_waiting-in-Begins
+step_again-returns-in_err-step_waiting-in-Begins g t c =
+    let φ = g.R.Holds.answers c.args.context.now.functions.now in
+    let p = c.args.context.now.plan.now in
+    let l = c.loop-at in
+    let n = c.step_waiting.new.meter in
+    let turn = turn_at c.args.turns.now l.at _ c.in-Begins.is c.loop-at-test.true in
+    pass_turns _ _ c.from_residual-in_err-step_waiting-in-Begins.ensures.0 (turns_begin_not φ p c.args.wait c.args.context.now.dt c.args.inside c.args.meter.now c.args.states.now.items c.args.outputs.now.items c.args.turns.now l.states.items l.outputs.items c.args.turns.now l.at l.meter l.invariant.goes_on
+    c.index_mut.result.now c.index_mut-output.result.now n turn (omega (arith, c.loop-at-test.true, l.invariant.states)) (omega (arith, c.loop-at-test.true, l.invariant.outputs)) c.index_mut.ensures.value c.index_mut-output.ensures.value (fault_of n) c.in_err-step_waiting-in-Begins.ensures)
+
+pub step_again-loop-at-preserved : goal.step_again-loop-at-preserved
+step_again-loop-at-preserved g t c =
+    let φ = g.R.Holds.answers c.args.context.now.functions.now in
+    let p = c.args.context.now.plan.now in
+    let l = c.loop-at in
+    let short : l.at < length c.args.turns.now = c.loop-at-test.true in
+    let states : l.at < length l.states.items = omega (arith, short, l.invariant.states) in
+    let outputs : l.at < length l.outputs.items = omega (arith, short, l.invariant.outputs) in
+    elim c.match-turns-at.branch [
+      | step_again-in-Stays+in_ok-repeat-in-Stays w ↦ rw (w.states-is, w.outputs-is, w.meter-is) (record {
+        goes_on = turns_stay φ p c.args.wait c.args.context.now.dt c.args.inside c.args.meter.now c.args.states.now.items c.args.outputs.now.items c.args.turns.now l.states.items l.outputs.items c.args.turns.now l.at l.meter l.invariant.goes_on w.in-Stays.spent w.repeat.new.self (turn_at c.args.turns.now l.at _ w.in-Stays.is short) states outputs w.in_ok-repeat-in-Stays.ensures;
+        states = l.invariant.states;
+        outputs = l.invariant.outputs;
+      })
+      | step_again-in-Begins+in_ok-step_waiting-in-Begins w ↦ rw (w.states-is, w.outputs-is, w.meter-is) (record {
+        goes_on = turns_begin φ p c.args.wait c.args.context.now.dt c.args.inside c.args.meter.now c.args.states.now.items c.args.outputs.now.items c.args.turns.now l.states.items l.outputs.items c.args.turns.now l.at l.meter l.invariant.goes_on w.index_mut.result.now w.index_mut-output.result.now w.step_waiting.new.meter (turn_at c.args.turns.now l.at _ w.in-Begins.is short) states outputs w.index_mut.ensures.value w.index_mut-output.ensures.value
+            w.step_waiting.new.state w.step_waiting.new.value w.in_ok-step_waiting-in-Begins.ensures;
+        states = length-set l.states.items l.at w.step_waiting.new.state ∙ l.invariant.states;
+        outputs = length-set l.outputs.items l.at w.step_waiting.new.value ∙ l.invariant.outputs;
+      })
+    ]
+
+pub step_again-returns : goal.step_again-returns
+step_again-returns g t c =
+    let φ = g.R.Holds.answers c.args.context.now.functions.now in
+    let p = c.args.context.now.plan.now in
+    let l = c.loop-at in
+    let last : l.at ≡ length c.args.turns.now = omega (arith, l.auto.at-end, c.loop-at-test.false) in
+    turns_last φ p c.args.wait c.args.context.now.dt c.args.inside c.args.meter.now c.args.states.now.items c.args.outputs.now.items c.args.turns.now l.states.items l.outputs.items c.args.turns.now l.at l.meter l.invariant.goes_on
+    (last ∙ sym l.invariant.states) (last ∙ sym l.invariant.outputs) last
+
+-- ## step_draft
+
+pub step_draft-returns-in_default : goal.step_draft-returns-in_default
+step_draft-returns-in_default g t c = edit_stopped c.stop.ensures.fault (no_memory_before c.stop.ensures.entered c.stop.ensures.height)
+
+pub step_draft-returns-in_default-get_mut : goal.step_draft-returns-in_default-get_mut
+step_draft-returns-in_default-get_mut g t c = edit_stopped c.stop-in_default-get_mut.ensures.fault (no_memory_before c.stop-in_default-get_mut.ensures.entered c.stop-in_default-get_mut.ensures.height)
+
+pub step_draft-returns-in_err-noted : goal.step_draft-returns-in_err-noted
+step_draft-returns-in_err-noted g t c =
+    let φ = g.R.Holds.answers c.args.context.now.functions.now in
+    let p = c.args.context.now.plan.now in
+    let run = c.args.members.now in
+    let d = c.args.context.now.dt in
+    let i = c.args.value.now in
+    let m = c.args.meter.now in
+    let n = c.step_noted.new.meter in
+    let own = subst (λ (v : Vec State Global). AllFollow φ p run.states.value.items v.items) (sym c.in-Some.ensures.value) (c.unshare_states.ensures φ p) in
+    pass_edit _ _ c.from_residual.ensures.0 (old_fails (held_stop φ p (held_in run) d i m n c.args.inside _ (list_alike φ p own (stepped_fails φ p run.wait d i c.args.inside c.in_err-noted.ensures))))
+
+pub step_draft-returns-in_default-table_before : goal.step_draft-returns-in_default-table_before
+step_draft-returns-in_default-table_before g t c =
+    let φ = g.R.Holds.answers c.args.context.now.functions.now in
+    let p = c.args.context.now.plan.now in
+    let run = c.args.members.now in
+    let d = c.args.context.now.dt in
+    let i = c.args.value.now in
+    let m = c.args.meter.now in
+    let n = c.step_noted.new.meter in
+    let bs = c.in-Some.states.now.items in
+    let ds = c.step_noted.new.states.items in
+    let ys = c.in_ok-noted.noted.outputs.items in
+    let gs = c.in_ok-noted.noted.turns.items in
+    let own = subst (λ (v : Vec State Global). AllFollow φ p run.states.value.items v.items) (sym c.in-Some.ensures.value) (c.unshare_states.ensures φ p) in
+    let old = old_step φ p run bs own c.args.draft d i c.args.inside m n ds ys gs c.in_ok-noted.ensures in
+    edit_stopped c.stop-in_default-table_before.ensures.fault (no_memory_between old c.stop-in_default-table_before.ensures.entered c.stop-in_default-table_before.ensures.height)
+
+pub step_draft-returns-in_default-new : goal.step_draft-returns-in_default-new
+step_draft-returns-in_default-new g t c =
+    let φ = g.R.Holds.answers c.args.context.now.functions.now in
+    let p = c.args.context.now.plan.now in
+    let run = c.args.members.now in
+    let d = c.args.context.now.dt in
+    let i = c.args.value.now in
+    let m = c.args.meter.now in
+    let n = c.step_noted.new.meter in
+    let bs = c.in-Some.states.now.items in
+    let ds = c.step_noted.new.states.items in
+    let ys = c.in_ok-noted.noted.outputs.items in
+    let gs = c.in_ok-noted.noted.turns.items in
+    let own = subst (λ (v : Vec State Global). AllFollow φ p run.states.value.items v.items) (sym c.in-Some.ensures.value) (c.unshare_states.ensures φ p) in
+    let old = old_step φ p run bs own c.args.draft d i c.args.inside m n ds ys gs c.in_ok-noted.ensures in
+    edit_stopped c.stop-in_default-new.ensures.fault (no_memory_between old c.stop-in_default-new.ensures.entered c.stop-in_default-new.ensures.height)
+
+pub step_draft-returns-in_default-change_all : goal.step_draft-returns-in_default-change_all
+step_draft-returns-in_default-change_all g t c =
+    let φ = g.R.Holds.answers c.args.context.now.functions.now in
+    let p = c.args.context.now.plan.now in
+    let run = c.args.members.now in
+    let d = c.args.context.now.dt in
+    let i = c.args.value.now in
+    let m = c.args.meter.now in
+    let n = c.step_noted.new.meter in
+    let bs = c.in-Some.states.now.items in
+    let ds = c.step_noted.new.states.items in
+    let ys = c.in_ok-noted.noted.outputs.items in
+    let gs = c.in_ok-noted.noted.turns.items in
+    let own = subst (λ (v : Vec State Global). AllFollow φ p run.states.value.items v.items) (sym c.in-Some.ensures.value) (c.unshare_states.ensures φ p) in
+    let old = old_step φ p run bs own c.args.draft d i c.args.inside m n ds ys gs c.in_ok-noted.ensures in
+    edit_stopped c.stop-in_default-change_all.ensures.fault (no_memory_between old c.stop-in_default-change_all.ensures.entered c.stop-in_default-change_all.ensures.height)
+
+pub step_draft-step_again-requires : goal.step_draft-step_again-requires
+step_draft-step_again-requires g t c =
+    let φ = g.R.Holds.answers c.args.context.now.functions.now in
+    let p = c.args.context.now.plan.now in
+    let run = c.args.members.now in
+    let d = c.args.context.now.dt in
+    let i = c.args.value.now in
+    let m = c.args.meter.now in
+    let n = c.step_noted.new.meter in
+    let bs = c.in-Some.states.now.items in
+    let ds = c.step_noted.new.states.items in
+    let ys = c.in_ok-noted.noted.outputs.items in
+    let gs = c.in_ok-noted.noted.turns.items in
+    let own = subst (λ (v : Vec State Global). AllFollow φ p run.states.value.items v.items) (sym c.in-Some.ensures.value) (c.unshare_states.ensures φ p) in
+    let old = old_step φ p run bs own c.args.draft d i c.args.inside m n ds ys gs c.in_ok-noted.ensures in
+    let os = c.in-Ok-table_before.outputs.items in
+    let long = notes_long φ p run.wait d i c.args.inside c.in_ok-noted.ensures in
+    let cs = c.args.draft.changes.items in
+    let states : length c.change_all.new.states.items ≡ length c.deref.result.now = ap length c.in-Ok-change_all.ensures.states ∙ changed_long (λ a. a) (λ a. Begins) cs ds gs long.0 ∙ sym (ap length (c.deref.ensures.value ∙ c.in-Ok-change_all.ensures.turns)) in
+    let outputs : length c.change_all.new.outputs.items ≡ length c.deref.result.now = ap length c.in-Ok-change_all.ensures.outputs ∙ changed_long (λ a. i) (λ a. Begins) cs os gs (c.in-Ok-table_before.ensures.long ∙ long.1) ∙ sym (ap length (c.deref.ensures.value ∙ c.in-Ok-change_all.ensures.turns)) in
+    grind (arith, states, outputs, c.decreases)
+
+pub step_draft-returns-in_err-step_again : goal.step_draft-returns-in_err-step_again
+step_draft-returns-in_err-step_again g t c =
+    let φ = g.R.Holds.answers c.args.context.now.functions.now in
+    let p = c.args.context.now.plan.now in
+    let run = c.args.members.now in
+    let d = c.args.context.now.dt in
+    let i = c.args.value.now in
+    let m = c.args.meter.now in
+    let n = c.step_noted.new.meter in
+    let bs = c.in-Some.states.now.items in
+    let ds = c.step_noted.new.states.items in
+    let ys = c.in_ok-noted.noted.outputs.items in
+    let gs = c.in_ok-noted.noted.turns.items in
+    let own = subst (λ (v : Vec State Global). AllFollow φ p run.states.value.items v.items) (sym c.in-Some.ensures.value) (c.unshare_states.ensures φ p) in
+    let old = old_step φ p run bs own c.args.draft d i c.args.inside m n ds ys gs c.in_ok-noted.ensures in
+    let os = c.in-Ok-table_before.outputs.items in
+    let turned = not_turned_so φ p run bs c.args.draft d i c.args.inside m n ds ys os gs c.in_ok-noted.ensures c.in-Ok-table_before.ensures.long c.step_again.new.meter c.unwrap_or-later.ensures c.in-Ok-change_all.ensures.states c.in-Ok-change_all.ensures.outputs (c.deref.ensures.value ∙ c.in-Ok-change_all.ensures.turns) _ c.in_err-step_again.ensures in
+    pass_edit _ _ c.from_residual-in_err-step_again.ensures.0 (members_fail_anew old refl (new_stop φ p run bs own c.args.draft d i c.args.inside m n ds ys gs c.in_ok-noted.ensures _ c.step_again.new.meter turned))
+
+pub step_draft-returns-in-Ok-table_after : goal.step_draft-returns-in-Ok-table_after
+step_draft-returns-in-Ok-table_after g t c =
+    let φ = g.R.Holds.answers c.args.context.now.functions.now in
+    let p = c.args.context.now.plan.now in
+    let run = c.args.members.now in
+    let d = c.args.context.now.dt in
+    let i = c.args.value.now in
+    let m = c.args.meter.now in
+    let n = c.step_noted.new.meter in
+    let bs = c.in-Some.states.now.items in
+    let ds = c.step_noted.new.states.items in
+    let ys = c.in_ok-noted.noted.outputs.items in
+    let gs = c.in_ok-noted.noted.turns.items in
+    let own = subst (λ (v : Vec State Global). AllFollow φ p run.states.value.items v.items) (sym c.in-Some.ensures.value) (c.unshare_states.ensures φ p) in
+    let old = old_step φ p run bs own c.args.draft d i c.args.inside m n ds ys gs c.in_ok-noted.ensures in
+    let os = c.in-Ok-table_before.outputs.items in
+    let es = c.step_again.new.states.items in
+    let zs = c.step_again.new.outputs.items in
+    let turned = turned_so φ p run bs c.args.draft d i c.args.inside m n ds ys os gs c.in_ok-noted.ensures c.in-Ok-table_before.ensures.long c.step_again.new.meter c.unwrap_or-later.ensures c.in-Ok-change_all.ensures.states c.in-Ok-change_all.ensures.outputs (c.deref.ensures.value ∙ c.in-Ok-change_all.ensures.turns) es zs c.in_ok-step_again.ensures in
+    let cs = c.args.draft.changes.items in
+    let ks = c.in-Ok-new.keys.value in
+    let before = c.in-Ok-table_before.before in
+    new_run old refl (new_step φ p run bs own c.args.draft d i c.args.inside m n ds ys gs c.in_ok-noted.ensures es turned.vs ks c.step_again.new.meter c.in-Ok-new.ensures.ok turned.turned)
+    (shows_so c.args.shown (table (rows_under run.keys.value ys)) c.in-Ok-table_after.rows before (λ zs. table (rows_under ks zs)) zs turned.vs c.in-Ok-table_before.ensures.shows (λ none. turned.same (ap (all_changed (λ a. i) cs) (c.in-Ok-table_before.ensures.same none))) c.in-Ok-table_after.ensures)
+
+pub step_draft-returns : goal.step_draft-returns
+step_draft-returns g t c =
+    let φ = g.R.Holds.answers c.args.context.now.functions.now in
+    let p = c.args.context.now.plan.now in
+    let run = c.args.members.now in
+    let d = c.args.context.now.dt in
+    let i = c.args.value.now in
+    let m = c.args.meter.now in
+    let n = c.step_noted.new.meter in
+    let bs = c.in-Some.states.now.items in
+    let ds = c.step_noted.new.states.items in
+    let ys = c.in_ok-noted.noted.outputs.items in
+    let gs = c.in_ok-noted.noted.turns.items in
+    let own = subst (λ (v : Vec State Global). AllFollow φ p run.states.value.items v.items) (sym c.in-Some.ensures.value) (c.unshare_states.ensures φ p) in
+    let old = old_step φ p run bs own c.args.draft d i c.args.inside m n ds ys gs c.in_ok-noted.ensures in
+    let os = c.in-Ok-table_before.outputs.items in
+    let es = c.step_again.new.states.items in
+    let zs = c.step_again.new.outputs.items in
+    let turned = turned_so φ p run bs c.args.draft d i c.args.inside m n ds ys os gs c.in_ok-noted.ensures c.in-Ok-table_before.ensures.long c.step_again.new.meter c.unwrap_or-later.ensures c.in-Ok-change_all.ensures.states c.in-Ok-change_all.ensures.outputs (c.deref.ensures.value ∙ c.in-Ok-change_all.ensures.turns) es zs c.in_ok-step_again.ensures in
+    edit_stopped c.stop-in-Err.ensures.fault (members_fail_anew old refl (new_end φ p run bs own c.args.draft d i c.args.inside m n ds ys gs c.in_ok-noted.ensures es turned.vs c.step_again.new.meter c.stop-in-Err.new.self c.stop-in-Err.ensures.entered c.stop-in-Err.ensures.height turned.turned))
 
 -- ## step_members
 
@@ -671,26 +1068,48 @@ step_members-returns-in-Err g t c =
 
 -- ## step_list
 
-pub step_list-returns-in_default : goal.step_list-returns-in_default
-step_list-returns-in_default g t c =
+pub step_list-returns-in-Some : goal.step_list-returns-in-Some
+step_list-returns-in-Some g t c =
+    let φ = g.R.Holds.answers c.args.context.now.functions.now in
+    let p = c.args.context.now.plan.now in
+    let v = c.args.list.now.value in
+    let own = subst (λ (v : Vec State Global). AllFollow φ p c.args.list.now.value.items v.items) (sym c.in-Some.ensures.value) (list_follows φ p v v refl) in
+    list_alike φ p own c.step_each.ensures
+
+pub step_list-returns-in-None : goal.step_list-returns-in-None
+step_list-returns-in-None g t c = c.step_list_copy.ensures
+
+pub step_list_copy-returns-in_default : goal.step_list_copy-returns-in_default
+step_list_copy-returns-in_default g t c =
     let φ = g.R.Holds.answers c.args.context.now.functions.now in
     let p = c.args.context.now.plan.now in
     let bs = c.args.list.now.value.items in
     stopped_at φ p c.args.wait refl c.stop.ensures.fault (memory_now φ p c.args.wait bs c.args.context.now.dt c.args.value.now c.args.meter.now c.stop.new.self c.args.inside c.stop.ensures.entered c.stop.ensures.height)
 
-pub step_list-returns-in-Some : goal.step_list-returns-in-Some
-step_list-returns-in-Some g t c =
-    let φ = g.R.Holds.answers c.args.context.now.functions.now in
-    let p = c.args.context.now.plan.now in
-    let own = subst (λ (v : Vec State Global). AllFollow φ p c.args.list.now.value.items v.items) (sym c.in-Some.ensures.value) (c.unshare_states.ensures φ p) in
-    list_alike φ p own c.step_each.ensures
-
-pub step_list-returns-in-None : goal.step_list-returns-in-None
-step_list-returns-in-None g t c =
+pub step_list_copy-returns-in_default-own_states : goal.step_list_copy-returns-in_default-own_states
+step_list_copy-returns-in_default-own_states g t c =
     let φ = g.R.Holds.answers c.args.context.now.functions.now in
     let p = c.args.context.now.plan.now in
     let bs = c.args.list.now.value.items in
-    stopped_at φ p c.args.wait refl c.stop-in-None.ensures.fault (memory_now φ p c.args.wait bs c.args.context.now.dt c.args.value.now c.args.meter.now c.stop-in-None.new.self c.args.inside c.stop-in-None.ensures.entered c.stop-in-None.ensures.height)
+    stopped_at φ p c.args.wait refl c.stop-in_default-own_states.ensures.fault (memory_now φ p c.args.wait bs c.args.context.now.dt c.args.value.now c.args.meter.now c.stop-in_default-own_states.new.self c.args.inside c.stop-in_default-own_states.ensures.entered c.stop-in_default-own_states.ensures.height)
+
+pub step_list_copy-returns-in_err-values : goal.step_list_copy-returns-in_err-values
+step_list_copy-returns-in_err-values g t c =
+    let φ = g.R.Holds.answers c.args.context.now.functions.now in
+    let p = c.args.context.now.plan.now in
+    pass_with _ _ c.from_residual.ensures.0 (list_alike φ p (subst (λ (v : Vec State Global). AllFollow φ p v.items c.in-Ok-own_states.own.items) c.in-Ok.ensures.cases (c.in-Ok-own_states.ensures φ p)) c.in_err-values.ensures)
+
+pub step_list_copy-returns-in_default-new : goal.step_list_copy-returns-in_default-new
+step_list_copy-returns-in_default-new g t c =
+    let φ = g.R.Holds.answers c.args.context.now.functions.now in
+    let p = c.args.context.now.plan.now in
+    late_list φ p (list_alike φ p (subst (λ (v : Vec State Global). AllFollow φ p v.items c.in-Ok-own_states.own.items) c.in-Ok.ensures.cases (c.in-Ok-own_states.ensures φ p)) c.in_ok-values.ensures) c.stop-in_default-new.ensures.entered c.stop-in_default-new.ensures.height c.stop-in_default-new.ensures.fault
+
+pub step_list_copy-returns : goal.step_list_copy-returns
+step_list_copy-returns g t c =
+    let φ = g.R.Holds.answers c.args.context.now.functions.now in
+    let p = c.args.context.now.plan.now in
+    rw c.in-Ok-new.ensures.ok (list_alike φ p (subst (λ (v : Vec State Global). AllFollow φ p v.items c.in-Ok-own_states.own.items) c.in-Ok.ensures.cases (c.in-Ok-own_states.ensures φ p)) c.in_ok-values.ensures)
 
 -- ## step_each
 
@@ -773,92 +1192,6 @@ step_each-returns g t c =
     let whole : w.items ≡ l.state-items = with_items_is c.args.states.now l.state-items (omega (arith, l.auto.state-items, ap length c.deref_mut-state-items.ensures.value)) in
     let all = each_last φ p c.args.wait _ d x m l.state-items l.state-index l.outputs.items l.meter c.args.inside last l.invariant.goes_on in
     rw whole (subst (λ bs. EachSteps φ p c.args.wait bs (step d x) (Ok (l.state-items, l.outputs.items)) m l.meter c.args.inside) c.deref_mut-state-items.ensures.value all)
-
--- ## step_unseen, step_each_unseen
-
-pub step_unseen-returns-in_default : goal.step_unseen-returns-in_default
-step_unseen-returns-in_default g t c =
-    let φ = g.R.Holds.answers c.args.context.now.functions.now in
-    let p = c.args.context.now.plan.now in
-    ([], stopped_at φ p c.args.wait refl c.stop.ensures.fault (memory_now φ p c.args.wait c.args.list.now.value.items c.args.context.now.dt c.args.value.now c.args.meter.now c.stop.new.self c.args.inside c.stop.ensures.entered c.stop.ensures.height))
-
-pub step_unseen-returns-in-Some : goal.step_unseen-returns-in-Some
-step_unseen-returns-in-Some g t c =
-    let φ = g.R.Holds.answers c.args.context.now.functions.now in
-    let p = c.args.context.now.plan.now in
-    let own = subst (λ (v : Vec State Global). AllFollow φ p c.args.list.now.value.items v.items) (sym c.in-Some.ensures.value) (c.unshare_states.ensures φ p) in
-    (c.step_each_unseen.ensures.0, list_alike φ p own c.step_each_unseen.ensures.1)
-
-pub step_unseen-returns-in-None : goal.step_unseen-returns-in-None
-step_unseen-returns-in-None g t c =
-    let φ = g.R.Holds.answers c.args.context.now.functions.now in
-    let p = c.args.context.now.plan.now in
-    ([], stopped_at φ p c.args.wait refl c.stop-in-None.ensures.fault (memory_now φ p c.args.wait c.args.list.now.value.items c.args.context.now.dt c.args.value.now c.args.meter.now c.stop-in-None.new.self c.args.inside c.stop-in-None.ensures.entered c.stop-in-None.ensures.height))
-
-pub step_each_unseen-loop-member-init : goal.step_each_unseen-loop-member-init
-step_each_unseen-loop-member-init g t c =
-    let φ = g.R.Holds.answers c.args.context.now.functions.now in
-    let p = c.args.context.now.plan.now in
-    record {
-      goes_on = ([], each_first φ p c.args.wait c.deref_mut-member-items.result.now c.args.context.now.dt c.args.value.now c.args.meter.now c.args.inside);
-    }
-
-pub step_each_unseen-returns-in_default : goal.step_each_unseen-returns-in_default
-step_each_unseen-returns-in_default g t c =
-    let φ = g.R.Holds.answers c.args.context.now.functions.now in
-    let p = c.args.context.now.plan.now in
-    let l = c.loop-member in
-    let now = l.invariant.goes_on in
-    let n = c.stop.new.self in (
-      [],
-      stopped_at φ p c.args.wait c.deref_mut-member-items.ensures.value c.stop.ensures.fault
-          (each_memory φ p c.args.wait c.deref_mut-member-items.result.now c.args.context.now.dt c.args.value.now c.args.meter.now (take l.member-index l.member-items) now.0 (drop l.member-index l.member-items) l.meter n c.args.inside now.1 c.stop.ensures.entered c.stop.ensures.height),
-    )
-
-pub step_each_unseen-returns-in_err-step_member : goal.step_each_unseen-returns-in_err-step_member
-step_each_unseen-returns-in_err-step_member g t c =
-    let φ = g.R.Holds.answers c.args.context.now.functions.now in
-    let p = c.args.context.now.plan.now in
-    let d = c.args.context.now.dt in
-    let x = c.args.value.now in
-    let m = c.args.meter.now in
-    let l = c.loop-member in
-    let now = l.invariant.goes_on in
-    let f = fault_of c.step_member.new.meter in
-    let n = c.step_member.new.meter in
-    let failed = each_fails φ p c.args.wait _ d x m l.member-items l.member-index now.0 l.meter c.args.inside c.member-item.result (omega (arith, c.loop-member-test.true, l.auto.member-items)) now.1
-    f n (rw c.in-Ok.ensures at c.in_err-step_member.ensures) in
-    ([], pass_each _ _ c.from_residual.ensures.0 (subst (λ bs. EachSteps φ p c.args.wait bs (step d x) (Err f) m n c.args.inside) c.deref_mut-member-items.ensures.value failed))
-
-pub step_each_unseen-loop-member-preserved : goal.step_each_unseen-loop-member-preserved
-step_each_unseen-loop-member-preserved g t c =
-    let φ = g.R.Holds.answers c.args.context.now.functions.now in
-    let p = c.args.context.now.plan.now in
-    let l = c.loop-member in
-    let now = l.invariant.goes_on in
-    let y = c.step_member.new.value in
-    record {
-      goes_on = (
-        now.0 ++ y ∷ [],
-        each_next φ p c.args.wait c.deref_mut-member-items.result.now c.args.context.now.dt c.args.value.now c.args.meter.now l.member-items l.member-index now.0 l.meter c.args.inside c.member-item.result (omega (arith, c.loop-member-test.true, l.auto.member-items)) now.1
-            c.step_member.new.state y c.step_member.new.meter (rw c.in-Ok.ensures at c.in_ok-step_member.ensures),
-      );
-    }
-
-pub step_each_unseen-returns : goal.step_each_unseen-returns
-step_each_unseen-returns g t c =
-    let φ = g.R.Holds.answers c.args.context.now.functions.now in
-    let p = c.args.context.now.plan.now in
-    let d = c.args.context.now.dt in
-    let x = c.args.value.now in
-    let m = c.args.meter.now in
-    let l = c.loop-member in
-    let now = l.invariant.goes_on in
-    let last : l.member-index ≡ length l.member-items = omega (arith, l.auto.member-items, l.auto.member-index-end, c.loop-member-test.false) in
-    let w = with_items c.args.states.now l.member-items in
-    let whole : w.items ≡ l.member-items = with_items_is c.args.states.now l.member-items (omega (arith, l.auto.member-items, ap length c.deref_mut-member-items.ensures.value)) in
-    let all = each_last φ p c.args.wait _ d x m l.member-items l.member-index now.0 l.meter c.args.inside last now.1 in
-    (now.0, rw whole (subst (λ bs. EachSteps φ p c.args.wait bs (step d x) (Ok (l.member-items, now.0)) m l.meter c.args.inside) c.deref_mut-member-items.ensures.value all))
 
 -- ## step_member, step_waiting
 

@@ -4,6 +4,7 @@ use Rattle.sf_value.specs.Values.{Data}
 use Rattle.sf_state.specs.Standing.{is_frozen}
 use Rattle.sf_step.proofs.Stages.{Continues}
 use Rattle.sf_step.proofs.Members.{Continues as EachContinues}
+use Rattle.sf_step.proofs.Turns.{NotesOn, TurnsOn}
 use Rattle.sf_step.proofs.sample.+step.Given as goal
 
 -- how many nodes may still stand inside, and which of the functions it is; a frozen state is stepped once it is awake
@@ -41,10 +42,13 @@ abbrev pub decreases-step_followed : goal.decreases-step_followed
 decreases-step_followed g l = 20 * (1600 - l.inside) + 6
 
 abbrev pub decreases-step_live : goal.decreases-step_live
-decreases-step_live g l = 20 * (1600 - l.inside) + 11
+decreases-step_live g l = 20 * (1600 - l.inside) + 12
 
 abbrev pub decreases-step_node : goal.decreases-step_node
-decreases-step_node g l = 20 * (1600 - l.inside) + 12
+decreases-step_node g l = 20 * (1600 - l.inside) + 14
+
+abbrev pub decreases-step_node_copy : goal.decreases-step_node_copy
+decreases-step_node_copy g l = 20 * (1600 - l.inside) + 13
 
 abbrev pub decreases-step_counted : goal.decreases-step_counted
 decreases-step_counted g l = 20 * (1600 - l.inside) + 20
@@ -53,10 +57,16 @@ abbrev pub decreases-step_pipeline : goal.decreases-step_pipeline
 decreases-step_pipeline g l = 20 * (1600 - l.inside) + 6
 
 abbrev pub decreases-step_watching : goal.decreases-step_watching
-decreases-step_watching g l = 20 * (1600 - l.inside) + 12
+decreases-step_watching g l = 20 * (1600 - l.inside) + 13
+
+abbrev pub decreases-step_watching_copy : goal.decreases-step_watching_copy
+decreases-step_watching_copy g l = 20 * (1600 - l.inside) + 12
 
 abbrev pub decreases-step_observing : goal.decreases-step_observing
-decreases-step_observing g l = 20 * (1600 - l.inside) + 12
+decreases-step_observing g l = 20 * (1600 - l.inside) + 13
+
+abbrev pub decreases-step_observing_copy : goal.decreases-step_observing_copy
+decreases-step_observing_copy g l = 20 * (1600 - l.inside) + 12
 
 abbrev pub decreases-step_switch : goal.decreases-step_switch
 decreases-step_switch g l = 20 * (1600 - l.inside) + 11
@@ -79,25 +89,31 @@ invariant-step_pipeline-loop-stage g l = record {
 }
 
 abbrev pub decreases-step_gathering : goal.decreases-step_gathering
-decreases-step_gathering g l = 20 * (1600 - l.inside) + 14
+decreases-step_gathering g l = 20 * (1600 - l.inside) + 16
+
+abbrev pub decreases-step_gathering_copy : goal.decreases-step_gathering_copy
+decreases-step_gathering_copy g l = 20 * (1600 - l.inside) + 15
 
 abbrev pub decreases-step_members_waiting : goal.decreases-step_members_waiting
-decreases-step_members_waiting g l = 20 * (1600 - l.inside) + 13
+decreases-step_members_waiting g l = 20 * (1600 - l.inside) + 14
 
 abbrev pub decreases-step_releasing : goal.decreases-step_releasing
-decreases-step_releasing g l = 20 * (1600 - l.inside) + 10
+decreases-step_releasing g l = 20 * (1600 - l.inside) + 11
 
 abbrev pub decreases-step_members : goal.decreases-step_members
-decreases-step_members g l = 20 * (1600 - l.inside) + 9
+decreases-step_members g l = 20 * (1600 - l.inside) + 10
 
 abbrev pub decreases-step_gathered : goal.decreases-step_gathered
-decreases-step_gathered g l = 20 * (1600 - l.inside) + 10
+decreases-step_gathered g l = 20 * (1600 - l.inside) + 11
 
 abbrev pub decreases-step_edited : goal.decreases-step_edited
-decreases-step_edited g l = 20 * (1600 - l.inside) + 12
+decreases-step_edited g l = 20 * (1600 - l.inside) + 13
 
 abbrev pub decreases-step_list : goal.decreases-step_list
-decreases-step_list g l = 20 * (1600 - l.inside) + 8
+decreases-step_list g l = 20 * (1600 - l.inside) + 9
+
+abbrev pub decreases-step_list_copy : goal.decreases-step_list_copy
+decreases-step_list_copy g l = 20 * (1600 - l.inside) + 8
 
 abbrev pub decreases-step_each : goal.decreases-step_each
 decreases-step_each g l = 20 * (1600 - l.inside) + 7
@@ -116,18 +132,32 @@ abbrev pub decreases-step_waiting : goal.decreases-step_waiting
 decreases-step_waiting g l = 20 * (1600 - l.inside) + 5
 
 abbrev pub decreases-step_editing : goal.decreases-step_editing
-decreases-step_editing g l = 20 * (1600 - l.inside) + 11
+decreases-step_editing g l = 20 * (1600 - l.inside) + 12
 
-abbrev pub decreases-step_old : goal.decreases-step_old
-decreases-step_old g l = 20 * (1600 - l.inside) + 10
+abbrev pub decreases-step_made : goal.decreases-step_made
+decreases-step_made g l = 20 * (1600 - l.inside) + 11
 
-abbrev pub decreases-step_unseen : goal.decreases-step_unseen
-decreases-step_unseen g l = 20 * (1600 - l.inside) + 8
+abbrev pub decreases-step_draft : goal.decreases-step_draft
+decreases-step_draft g l = 20 * (1600 - l.inside) + 11
 
-abbrev pub decreases-step_each_unseen : goal.decreases-step_each_unseen
-decreases-step_each_unseen g l = 20 * (1600 - l.inside) + 7
+abbrev pub decreases-step_noted : goal.decreases-step_noted
+decreases-step_noted g l = 20 * (1600 - l.inside) + 7
 
-abbrev pub invariant-step_each_unseen-loop-member : goal.invariant-step_each_unseen-loop-member
-invariant-step_each_unseen-loop-member g l = record {
-  goes_on : (ys : List Data) × EachContinues (g.R.Holds.answers l.context.functions.now) l.context.plan.now l.wait l.initial.member-items l.context.dt l.value l.initial.meter (take l.member-index l.member-items) ys (drop l.member-index l.member-items) l.meter l.inside;
+abbrev pub invariant-step_noted-loop-ran : goal.invariant-step_noted-loop-ran
+invariant-step_noted-loop-ran g l = record {
+  goes_on : NotesOn (g.R.Holds.answers l.context.functions.now) l.context.plan.now l.wait l.context.dt l.value l.inside l.initial.meter l.initial.ran-items (take l.ran-index l.ran-items) l.outputs.items l.turns.items (drop l.ran-index l.ran-items) l.meter;
+  as_many : vec_len l.outputs ≡ l.ran-index;
+  room : length l.ran-items ≤ vec_capacity l.outputs;
+  as_many_turns : vec_len l.turns ≡ l.ran-index;
+  room_for_turns : length l.ran-items ≤ vec_capacity l.turns;
+}
+
+abbrev pub decreases-step_again : goal.decreases-step_again
+decreases-step_again g l = 20 * (1600 - l.inside) + 7
+
+abbrev pub invariant-step_again-loop-at : goal.invariant-step_again-loop-at
+invariant-step_again-loop-at g l = record {
+  goes_on : TurnsOn (g.R.Holds.answers l.context.functions.now) l.context.plan.now l.wait l.context.dt l.inside l.initial.meter l.initial.states.items l.initial.outputs.items l.turns (take l.at l.states.items) (take l.at l.outputs.items) (drop l.at l.states.items) (drop l.at l.outputs.items) (drop l.at l.turns) l.meter;
+  states : length l.states.items ≡ length l.turns;
+  outputs : length l.outputs.items ≡ length l.turns;
 }

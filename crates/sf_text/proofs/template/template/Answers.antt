@@ -1,10 +1,10 @@
-use Rattle.std.proofs.Common.{◌≡◌, length, string_bytes, Err, sym, ap, subst}
+use Rattle.std.proofs.Common.{◌≡◌, length, string_bytes, sym, subst, arith}
 use Rattle.sf_lex.specs.Words.{IsName}
 use Rattle.sf_parse.specs.declared.stop.Stop.{Stop}
 use Rattle.sf_grammar.specs.Reading.{parse_template}
 use Rattle.sf_parse.specs.Answers.{StopsReading, counts_of, ahead, stop_for}
 use Rattle.sf_text.specs.Answers.{kinds_in}
-use Rattle.sf_text.proofs.Found.{template_refused}
+use Rattle.sf_parse.proofs.Found.{refused_for_memory}
 use Rattle.sf_text.proofs.Placed.{signature_counted, template_read}
 use Rattle.sf_text.proofs.template.template.Goals as goal
 
@@ -13,8 +13,7 @@ returns-in-Err-clause-reads c =
     let is : c.refused.result ≡ stop_for c.in-Err.refusal (length c.args.reader.now.cursor.tokens.now) = c.refused.ensures in
     let named : IsName (string_bytes c.in_ok-name.name) = subst IsName (sym c.in_ok-name.ensures.ok) c.as_str.ensures.named in
     subst (λ (s : Stop). StopsReading s (parse_template c.args.version (counts_of c.args.reader.now.program) (ahead c.args.reader.now.cursor))) (sym is)
-    (template_refused c.in-Err.refusal (length c.args.reader.now.cursor.tokens.now) (parse_template c.args.version (counts_of c.args.reader.now.program) (ahead c.args.reader.now.cursor)) (named, c.in_ok-titled.ensures.named)
-    (λ same. c.in-Err.ensures.bad_name.0 (ap Err same)) (λ same. c.in-Err.ensures.not_many (ap Err same)) (λ same. c.in-Err.ensures.not_deep (ap Err same)))
+    (refused_for_memory 1 (parse_template c.args.version (counts_of c.args.reader.now.program) (ahead c.args.reader.now.cursor)) c.in-Err.refusal (length c.args.reader.now.cursor.tokens.now) c.in-Err.ensures.refused.due (omega arith) (named, c.in_ok-titled.ensures.named))
 
 pub returns-in-Ok-clause-placed : goal.returns-in-Ok-clause-placed
 returns-in-Ok-clause-placed c =

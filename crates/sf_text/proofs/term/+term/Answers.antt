@@ -1,4 +1,4 @@
-use Rattle.std.proofs.Common.{true, List, length, Err, sym, ap, subst, ◌∙◌}
+use Rattle.std.proofs.Common.{true, List, length, Err, sym, subst, ◌∙◌}
 use Rattle.sf_lex.specs.Words.{IsName}
 use Rattle.sf_lex.specs.Tokens.{name_bytes}
 use Rattle.sf_term.specs.declared.node.Argument.{Argument}
@@ -8,10 +8,10 @@ use Rattle.sf_parse.specs.Answers.{StopsReading, counts_of, ahead}
 use Rattle.sf_parse.specs.Consuming.{spots_ahead, Consumes}
 use Rattle.sf_grammar.specs.Placing.{ArgumentsPlaced}
 use Rattle.sf_term.proofs.Kept.{keeps_trans, collection_at_kept}
-use Rattle.sf_text.proofs.Found.{term_built, headed_ready, transformed_ready, joined_ready, sided_ready, switching_ready, keeping_ready, call_ready, body_found, collection_shared, added_found, dropped_found, kept_found, chosen_found, members_found, members_refused, gathered_ready, releasing_ready, edit_found, editing_ready, value_found, process_found, collection_found}
+use Rattle.sf_text.proofs.Found.{term_built, headed_ready, transformed_ready, joined_ready, sided_ready, switching_ready, keeping_ready, call_ready, body_found, collection_shared, added_found, dropped_found, kept_found, chosen_found, members_found, members_shallow, gathered_ready, releasing_ready, edit_found, editing_ready, value_found, process_found, collection_found}
 use Rattle.sf_text.proofs.Placed.{headed_read, transformed_read, joined_read, sided_read, switching_read, keeping_read, call_read, value_read, process_read, collection_read, shared_placed, added_read, dropped_read, kept_read, chosen_read, members_read, gathered_read, releasing_read, editing_read, no_arguments_placed_behind, each_argument_placed}
 use Rattle.sf_text.proofs.Lists.{ReadArguments, arguments_go_on, no_arguments_read, next_argument, argument_stops, argument_separator_stops, all_arguments, arguments_stopped_as}
-use Rattle.sf_parse.proofs.Found.{if_built, if_built_on}
+use Rattle.sf_parse.proofs.Found.{if_built, if_built_on, refused_for_memory}
 use Rattle.sf_parse.proofs.Placed.{parted_read}
 use Rattle.sf_text.proofs.term.+term.Goals as goal
 
@@ -19,7 +19,7 @@ pub headed-returns-clause-reads : goal.headed-returns-clause-reads
 headed-returns-clause-reads t c = λ whole counted.
     term_built _ _ _ c.args.start.ahead c.add.result c.built.result
     (headed_ready c.args.version c.args.heading c.args.left (ahead c.args.reader.now.cursor) c.requires.shallow c.head_node-node.ensures.node c.in_ok-symbol.ensures.reads c.in_ok-value.ensures.reads c.in_ok-symbol-2.ensures.reads c.in_ok-part.ensures.reads c.in_ok-symbol-3.ensures.reads)
-    (keeps_trans _ _ _ c.in_ok-value.ensures.reads.kept c.in_ok-part.ensures.reads.kept) counted c.built.ensures c.add.ensures.ok c.add.ensures.many (λ same. (c.add.ensures.deep.0 same).1) c.add.ensures.no_name
+    (keeps_trans _ _ _ c.in_ok-value.ensures.reads.kept c.in_ok-part.ensures.reads.kept) counted c.built.ensures c.add.ensures tt
 
 pub headed-returns-clause-placed : goal.headed-returns-clause-placed
 headed-returns-clause-placed t c = if_built _ _ c.args.start.ahead c.add.result c.built.result c.built.ensures c.add.ensures.ok (λ id added.
@@ -29,7 +29,7 @@ pub transformed-returns-clause-reads : goal.transformed-returns-clause-reads
 transformed-returns-clause-reads t c = λ whole counted.
     term_built _ _ _ c.args.start.ahead c.add.result c.built.result
     (transformed_ready c.args.version c.args.left (ahead c.args.reader.now.cursor) c.requires.shallow c.in_ok-symbol.ensures.reads c.in_ok-function.ensures.reads c.in_ok-symbol-2.ensures.reads c.in_ok-part.ensures.reads c.in_ok-symbol-3.ensures.reads)
-    (keeps_trans _ _ _ c.in_ok-function.ensures.reads.kept c.in_ok-part.ensures.reads.kept) counted c.built.ensures c.add.ensures.ok c.add.ensures.many (λ same. (c.add.ensures.deep.0 same).1) c.add.ensures.no_name
+    (keeps_trans _ _ _ c.in_ok-function.ensures.reads.kept c.in_ok-part.ensures.reads.kept) counted c.built.ensures c.add.ensures tt
 
 pub transformed-returns-clause-placed : goal.transformed-returns-clause-placed
 transformed-returns-clause-placed t c = if_built _ _ c.args.start.ahead c.add.result c.built.result c.built.ensures c.add.ensures.ok (λ id added.
@@ -39,7 +39,7 @@ pub joined-returns-clause-reads : goal.joined-returns-clause-reads
 joined-returns-clause-reads t c = λ whole counted.
     term_built _ _ _ c.args.start.ahead c.add.result c.built.result
     (joined_ready c.args.version c.args.left (ahead c.args.reader.now.cursor) c.requires.shallow c.in_ok-one.ensures.reads c.in_ok-join.ensures.reads c.in_ok-two.ensures.reads c.in_ok-symbol.ensures.reads)
-    (keeps_trans _ _ _ c.in_ok-one.ensures.reads.kept c.in_ok-two.ensures.reads.kept) counted c.built.ensures c.add.ensures.ok c.add.ensures.many (λ same. (c.add.ensures.deep.0 same).1) c.add.ensures.no_name
+    (keeps_trans _ _ _ c.in_ok-one.ensures.reads.kept c.in_ok-two.ensures.reads.kept) counted c.built.ensures c.add.ensures tt
 
 pub joined-returns-clause-placed : goal.joined-returns-clause-placed
 joined-returns-clause-placed t c = if_built _ _ c.args.start.ahead c.add.result c.built.result c.built.ensures c.add.ensures.ok (λ id added.
@@ -49,7 +49,7 @@ pub sided-returns-clause-reads : goal.sided-returns-clause-reads
 sided-returns-clause-reads t c = λ whole counted.
     term_built _ _ _ c.args.start.ahead c.add.result c.built.result
     (sided_ready c.args.version c.args.left (ahead c.args.reader.now.cursor) c.requires.shallow c.in_ok-part.ensures.reads)
-    c.in_ok-part.ensures.reads.kept counted c.built.ensures c.add.ensures.ok c.add.ensures.many (λ same. (c.add.ensures.deep.0 same).1) c.add.ensures.no_name
+    c.in_ok-part.ensures.reads.kept counted c.built.ensures c.add.ensures tt
 
 pub sided-returns-clause-placed : goal.sided-returns-clause-placed
 sided-returns-clause-placed t c = if_built _ _ c.args.start.ahead c.add.result c.built.result c.built.ensures c.add.ensures.ok (λ id added.
@@ -59,20 +59,20 @@ pub switching-returns-clause-reads : goal.switching-returns-clause-reads
 switching-returns-clause-reads t c = λ whole counted.
     term_built _ _ _ c.args.start.ahead c.switching-added.result c.built.result
     (switching_ready c.args.version c.args.left (ahead c.args.reader.now.cursor) c.requires.shallow c.in_ok-symbol.ensures.reads c.in_ok-source.ensures.reads c.in_ok-symbol-2.ensures.reads c.in_ok-pattern.ensures.reads c.in_ok-symbol-3.ensures.reads)
-    (keeps_trans _ _ _ c.in_ok-source.ensures.reads.kept c.in_ok-pattern.ensures.reads.kept) counted c.built.ensures c.switching-added.ensures.ok c.switching-added.ensures.many (λ same. (c.switching-added.ensures.deep.0 same).1) (λ same. (c.switching-added.ensures.bad_name.0 same).2 c.in_ok-pattern.ensures.reads.names)
+    (keeps_trans _ _ _ c.in_ok-source.ensures.reads.kept c.in_ok-pattern.ensures.reads.kept) counted c.built.ensures c.switching-added.ensures.builds c.in_ok-pattern.ensures.reads.names
 
 pub switching-returns-clause-placed : goal.switching-returns-clause-placed
-switching-returns-clause-placed t c = if_built_on _ _ _ c.args.start.ahead c.switching-added.result c.built.result c.built.ensures c.switching-added.ensures.ok c.switching-added.ensures.placed (λ id added there.
+switching-returns-clause-placed t c = if_built_on _ _ _ c.args.start.ahead c.switching-added.result c.built.result c.built.ensures c.switching-added.ensures.builds.ok c.switching-added.ensures.placed (λ id added there.
     switching_read c.in_ok-pattern.ensures.reads.kept.trees added there c.in_ok-symbol.ensures.behind c.in_ok-source.ensures.placed c.in_ok-symbol-2.ensures.behind c.in_ok-pattern.ensures.placed c.in_ok-symbol-3.ensures.behind)
 
 pub keeping-returns-clause-reads : goal.keeping-returns-clause-reads
 keeping-returns-clause-reads t c = λ whole counted.
     term_built _ _ _ c.args.start.ahead c.keeping-added.result c.built.result
     (keeping_ready c.args.version c.args.left (ahead c.args.reader.now.cursor) c.requires.shallow c.in_ok-symbol.ensures.reads c.in_ok-source.ensures.reads c.in_ok-symbol-2.ensures.reads c.in_ok-observer.ensures.reads c.in_ok-symbol-3.ensures.reads c.in_ok-process.ensures.reads c.in_ok-symbol-4.ensures.reads c.in_ok-pattern.ensures.reads c.in_ok-symbol-5.ensures.reads (c.in_ok-known.ensures.ok ∙ c.as_str.ensures.text))
-    (keeps_trans _ _ _ c.in_ok-source.ensures.reads.kept (keeps_trans _ _ _ c.in_ok-observer.ensures.reads.kept c.in_ok-pattern.ensures.reads.kept)) counted c.built.ensures c.keeping-added.ensures.ok c.keeping-added.ensures.many (λ same. (c.keeping-added.ensures.deep.0 same).1) (λ same. (c.keeping-added.ensures.bad_name.0 same).2 (subst IsName (sym c.in_ok-known.ensures.ok) c.as_str.ensures.named, c.in_ok-pattern.ensures.reads.names))
+    (keeps_trans _ _ _ c.in_ok-source.ensures.reads.kept (keeps_trans _ _ _ c.in_ok-observer.ensures.reads.kept c.in_ok-pattern.ensures.reads.kept)) counted c.built.ensures c.keeping-added.ensures.builds (subst IsName (sym c.in_ok-known.ensures.ok) c.as_str.ensures.named, c.in_ok-pattern.ensures.reads.names)
 
 pub keeping-returns-clause-placed : goal.keeping-returns-clause-placed
-keeping-returns-clause-placed t c = if_built_on _ _ _ c.args.start.ahead c.keeping-added.result c.built.result c.built.ensures c.keeping-added.ensures.ok c.keeping-added.ensures.placed (λ id added there.
+keeping-returns-clause-placed t c = if_built_on _ _ _ c.args.start.ahead c.keeping-added.result c.built.result c.built.ensures c.keeping-added.ensures.builds.ok c.keeping-added.ensures.placed (λ id added there.
     keeping_read c.in_ok-observer.ensures.reads.kept.trees c.in_ok-pattern.ensures.reads.kept.trees added there c.in_ok-symbol.ensures.behind c.in_ok-source.ensures.placed c.in_ok-symbol-2.ensures.behind c.in_ok-observer.ensures.placed c.in_ok-symbol-3.ensures.behind
     c.in_ok-process.ensures.placed c.in_ok-symbol-4.ensures.behind c.in_ok-pattern.ensures.placed c.in_ok-symbol-5.ensures.behind)
 
@@ -80,10 +80,10 @@ pub call-returns-clause-reads : goal.call-returns-clause-reads
 call-returns-clause-reads t c = λ counted.
     term_built _ _ _ c.args.start.ahead c.call.result c.built.result
     (call_ready c.args.version c.args.left (name_bytes c.args.name) (ahead c.args.reader.now.cursor) c.requires.shallow c.in_ok-symbol.ensures.reads c.in_ok-arguments.ensures.reads (c.in_ok-known.ensures.ok ∙ c.as_str.ensures.text))
-    c.in_ok-arguments.ensures.reads.kept counted c.built.ensures c.call.ensures.ok c.call.ensures.many (λ same. (c.call.ensures.deep.0 same).1) (λ same. (c.call.ensures.bad_name.0 same).2 (subst IsName (sym c.in_ok-known.ensures.ok) c.as_str.ensures.named))
+    c.in_ok-arguments.ensures.reads.kept counted c.built.ensures c.call.ensures.builds (subst IsName (sym c.in_ok-known.ensures.ok) c.as_str.ensures.named)
 
 pub call-returns-clause-placed : goal.call-returns-clause-placed
-call-returns-clause-placed t c = if_built_on _ _ _ c.args.start.ahead c.call.result c.built.result c.built.ensures c.call.ensures.ok c.call.ensures.placed (λ id added there.
+call-returns-clause-placed t c = if_built_on _ _ _ c.args.start.ahead c.call.result c.built.result c.built.ensures c.call.ensures.builds.ok c.call.ensures.placed (λ id added there.
     call_read added there c.in_ok-symbol.ensures.behind c.in_ok-arguments.ensures.placed)
 
 pub body-returns-clause-reads : goal.body-returns-clause-reads
@@ -189,14 +189,14 @@ members-returns-in-Ok-clause-placed t c = members_read c.in-Ok.ensures.ok c.in_o
 pub members-returns-in-Err-clause-reads : goal.members-returns-in-Err-clause-reads
 members-returns-in-Err-clause-reads t c =
     subst (λ (s : Stop). StopsReading s (parse_collection c.args.left c.args.version (counts_of c.args.reader.now.program) (ahead c.args.reader.now.cursor))) (sym c.refused.ensures)
-    (members_refused c.args.version c.args.left (ahead c.args.reader.now.cursor) c.in-Err.refusal (length c.args.reader.now.cursor.tokens.now) c.requires.shallow c.in_ok-read.ensures.reads (λ same. c.in-Err.ensures.no_name (ap Err same))
-    (λ same. c.in-Err.ensures.not_many (ap Err same)) (λ same. c.in-Err.ensures.deep.0 (ap Err same)))
+    (refused_for_memory _ (parse_collection c.args.left c.args.version (counts_of c.args.reader.now.program) (ahead c.args.reader.now.cursor)) c.in-Err.refusal (length c.args.reader.now.cursor.tokens.now) c.in-Err.ensures.refused.due
+    (members_shallow c.args.version c.args.left (ahead c.args.reader.now.cursor) c.requires.shallow c.in_ok-read.ensures.reads) tt)
 
 pub gathered-returns-clause-reads : goal.gathered-returns-clause-reads
 gathered-returns-clause-reads t c = λ whole counted.
     term_built _ _ _ c.args.start.ahead c.add.result c.built.result
     (gathered_ready c.args.version c.args.left (ahead c.args.reader.now.cursor) c.requires.shallow c.in_ok-collection.ensures.reads)
-    c.in_ok-collection.ensures.reads.kept counted c.built.ensures c.add.ensures.ok c.add.ensures.many (λ same. (c.add.ensures.deep.0 same).1) c.add.ensures.no_name
+    c.in_ok-collection.ensures.reads.kept counted c.built.ensures c.add.ensures tt
 
 pub gathered-returns-clause-placed : goal.gathered-returns-clause-placed
 gathered-returns-clause-placed t c = if_built _ _ c.args.start.ahead c.add.result c.built.result c.built.ensures c.add.ensures.ok (λ id added.
@@ -210,10 +210,10 @@ pub releasing-returns-clause-reads : goal.releasing-returns-clause-reads
 releasing-returns-clause-reads t c = λ whole counted.
     term_built _ _ _ c.args.start.ahead c.releasing-added.result c.built.result
     (releasing_ready c.args.version c.args.left (ahead c.args.reader.now.cursor) c.requires.shallow c.in_ok-symbol.ensures.reads c.in_ok-source.ensures.reads c.in_ok-symbol-2.ensures.reads c.in_ok-observer.ensures.reads c.in_ok-symbol-3.ensures.reads c.in_ok-label.ensures.reads c.in_ok-symbol-4.ensures.reads c.in_ok-pattern.ensures.reads c.in_ok-symbol-5.ensures.reads (c.in_ok-known.ensures.ok ∙ c.as_str.ensures.text))
-    (keeps_trans _ _ _ c.in_ok-source.ensures.reads.kept (keeps_trans _ _ _ c.in_ok-observer.ensures.reads.kept c.in_ok-pattern.ensures.reads.kept)) counted c.built.ensures c.releasing-added.ensures.ok c.releasing-added.ensures.many (λ same. (c.releasing-added.ensures.deep.0 same).1) (λ same. (c.releasing-added.ensures.bad_name.0 same).2 (subst IsName (sym c.in_ok-known.ensures.ok) c.as_str.ensures.named, c.in_ok-pattern.ensures.reads.names))
+    (keeps_trans _ _ _ c.in_ok-source.ensures.reads.kept (keeps_trans _ _ _ c.in_ok-observer.ensures.reads.kept c.in_ok-pattern.ensures.reads.kept)) counted c.built.ensures c.releasing-added.ensures.builds (subst IsName (sym c.in_ok-known.ensures.ok) c.as_str.ensures.named, c.in_ok-pattern.ensures.reads.names)
 
 pub releasing-returns-clause-placed : goal.releasing-returns-clause-placed
-releasing-returns-clause-placed t c = if_built_on _ _ _ c.args.start.ahead c.releasing-added.result c.built.result c.built.ensures c.releasing-added.ensures.ok c.releasing-added.ensures.placed (λ id added there.
+releasing-returns-clause-placed t c = if_built_on _ _ _ c.args.start.ahead c.releasing-added.result c.built.result c.built.ensures c.releasing-added.ensures.builds.ok c.releasing-added.ensures.placed (λ id added there.
     releasing_read c.in_ok-observer.ensures.reads.kept.trees c.in_ok-pattern.ensures.reads.kept.trees added there c.in_ok-symbol.ensures.behind c.in_ok-source.ensures.placed c.in_ok-symbol-2.ensures.behind c.in_ok-observer.ensures.placed c.in_ok-symbol-3.ensures.behind
     c.in_ok-label.ensures.placed c.in_ok-symbol-4.ensures.behind c.in_ok-pattern.ensures.placed c.in_ok-symbol-5.ensures.behind)
 
@@ -232,9 +232,9 @@ pub editing-returns-clause-reads : goal.editing-returns-clause-reads
 editing-returns-clause-reads t c = λ whole counted.
     term_built _ _ _ c.args.start.ahead c.editing-added.result c.built.result
     (editing_ready c.args.version c.args.left (ahead c.args.reader.now.cursor) c.requires.shallow c.in_ok-symbol.ensures.reads c.in_ok-source.ensures.reads c.in_ok-symbol-2.ensures.reads c.in_ok-label.ensures.reads c.in_ok-symbol-3.ensures.reads c.in_ok-pattern.ensures.reads c.in_ok-symbol-4.ensures.reads (c.in_ok-known.ensures.ok ∙ c.as_str.ensures.text))
-    (keeps_trans _ _ _ c.in_ok-source.ensures.reads.kept c.in_ok-pattern.ensures.reads.kept) counted c.built.ensures c.editing-added.ensures.ok c.editing-added.ensures.many (λ same. (c.editing-added.ensures.deep.0 same).1) (λ same. (c.editing-added.ensures.bad_name.0 same).2 (subst IsName (sym c.in_ok-known.ensures.ok) c.as_str.ensures.named, c.in_ok-pattern.ensures.reads.names))
+    (keeps_trans _ _ _ c.in_ok-source.ensures.reads.kept c.in_ok-pattern.ensures.reads.kept) counted c.built.ensures c.editing-added.ensures.builds (subst IsName (sym c.in_ok-known.ensures.ok) c.as_str.ensures.named, c.in_ok-pattern.ensures.reads.names)
 
 pub editing-returns-clause-placed : goal.editing-returns-clause-placed
-editing-returns-clause-placed t c = if_built_on _ _ _ c.args.start.ahead c.editing-added.result c.built.result c.built.ensures c.editing-added.ensures.ok c.editing-added.ensures.placed (λ id added there.
+editing-returns-clause-placed t c = if_built_on _ _ _ c.args.start.ahead c.editing-added.result c.built.result c.built.ensures c.editing-added.ensures.builds.ok c.editing-added.ensures.placed (λ id added there.
     editing_read c.in_ok-pattern.ensures.reads.kept.trees added there c.in_ok-symbol.ensures.behind c.in_ok-source.ensures.placed c.in_ok-symbol-2.ensures.behind c.in_ok-label.ensures.placed c.in_ok-symbol-3.ensures.behind
     c.in_ok-pattern.ensures.placed c.in_ok-symbol-4.ensures.behind)

@@ -10,7 +10,7 @@ pub returns-clause-reads : goal.returns-clause-reads
 returns-clause-reads c = λ whole counted.
     term_built _ _ _ c.args.start.ahead c.named.result c.built.result
     (named_ready c.args.form (ahead c.args.reader.now.cursor) c.in_ok-label.ensures.reads (c.in_ok-known.ensures.ok ∙ c.as_str.ensures.text))
-    (keeps_self c.args.reader.now.program) counted c.built.ensures c.named.ensures.ok c.named.ensures.many (λ same. absurd (c.named.ensures.not_deep same)) (λ same. (c.named.ensures.bad_name.0 same).1 (subst IsName (sym c.in_ok-known.ensures.ok) c.as_str.ensures.named))
+    (keeps_self c.args.reader.now.program) counted c.built.ensures c.named.ensures (subst IsName (sym c.in_ok-known.ensures.ok) c.as_str.ensures.named)
 
 pub returns-clause-placed : goal.returns-clause-placed
 returns-clause-placed c = λ version. if_built _ _ c.args.start.ahead c.named.result c.built.result c.built.ensures c.named.ensures.ok (λ id added.

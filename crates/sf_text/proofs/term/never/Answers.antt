@@ -8,7 +8,7 @@ pub returns-clause-reads : goal.returns-clause-reads
 returns-clause-reads c = λ whole counted.
     term_built _ _ _ c.args.start.ahead c.never.result c.built.result
     (never_ready c.args.version c.args.left (ahead c.args.reader.now.cursor) c.requires.shallow c.in_ok-payload.ensures.reads)
-    (keeps_self c.args.reader.now.program) counted c.built.ensures c.never.ensures.ok c.never.ensures.many (λ same. absurd (c.never.ensures.not_deep same)) c.never.ensures.no_name
+    (keeps_self c.args.reader.now.program) counted c.built.ensures c.never.ensures tt
 
 pub returns-clause-placed : goal.returns-clause-placed
 returns-clause-placed c = if_built _ _ c.args.start.ahead c.never.result c.built.result c.built.ensures c.never.ensures.ok (λ id added.

@@ -10,7 +10,7 @@ pub returns-clause-reads : goal.returns-clause-reads
 returns-clause-reads c = λ whole counted.
     term_built _ _ _ c.args.start.ahead c.add.result c.built.result
     (selected_ready (ahead c.args.reader.now.cursor) c.in_ok-count.ensures.reads (to_z-of_z w64 c.in_ok-count.count (search rules)))
-    (keeps_self c.args.reader.now.program) counted c.built.ensures c.add.ensures.ok c.add.ensures.many (λ same. (c.add.ensures.deep.0 same).1) c.add.ensures.no_name
+    (keeps_self c.args.reader.now.program) counted c.built.ensures c.add.ensures tt
 
 pub returns-clause-placed : goal.returns-clause-placed
 returns-clause-placed c = λ version. if_built _ _ c.args.start.ahead c.add.result c.built.result c.built.ensures c.add.ensures.ok (λ id added.

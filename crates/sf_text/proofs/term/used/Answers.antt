@@ -1,9 +1,10 @@
-use Rattle.std.proofs.Common.{string_bytes, Err, sym, ap, subst, ◌∙◌}
+use Rattle.std.proofs.Common.{string_bytes, sym, subst, arith, ◌∙◌}
 use Rattle.sf_lex.specs.Words.{IsName}
 use Rattle.sf_grammar.specs.Reading.{parse_used}
 use Rattle.sf_parse.specs.declared.stop.Stop.{Stop}
 use Rattle.sf_parse.specs.Answers.{StopsReading, ahead}
-use Rattle.sf_text.proofs.Found.{collection_shared, used_found, template_refused}
+use Rattle.sf_parse.proofs.Found.{refused_for_memory}
+use Rattle.sf_text.proofs.Found.{collection_shared, used_found}
 use Rattle.sf_text.proofs.Placed.{shared_placed, used_read}
 use Rattle.sf_text.proofs.term.used.Goals as goal
 
@@ -18,4 +19,4 @@ pub returns-in-Err-clause-reads : goal.returns-in-Err-clause-reads
 returns-in-Err-clause-reads c =
     let named : IsName (string_bytes c.in_ok-known.known) = subst IsName (sym c.in_ok-known.ensures.ok) c.as_str.ensures.named in
     subst (λ (s : Stop). StopsReading s (parse_used (ahead c.args.reader.now.cursor))) (sym c.refused.ensures)
-    (template_refused c.in-Err.refusal c.args.start.ahead (parse_used (ahead c.args.reader.now.cursor)) named (λ same. c.in-Err.ensures.bad_name.0 (ap Err same)) (λ same. c.in-Err.ensures.not_many (ap Err same)) (λ same. c.in-Err.ensures.not_deep (ap Err same)))
+    (refused_for_memory 1 (parse_used (ahead c.args.reader.now.cursor)) c.in-Err.refusal c.args.start.ahead c.in-Err.ensures.refused.due (omega arith) named)

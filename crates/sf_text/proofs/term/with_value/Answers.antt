@@ -8,7 +8,7 @@ pub returns-clause-reads : goal.returns-clause-reads
 returns-clause-reads c = λ whole counted.
     term_built _ _ _ c.args.start.ahead c.add.result c.built.result
     (value_ready c.args.version c.args.left (ahead c.args.reader.now.cursor) c.requires.shallow c.requires.behind c.in_ok-value.ensures.reads)
-    c.in_ok-value.ensures.reads.kept counted c.built.ensures c.add.ensures.ok c.add.ensures.many (λ same. (c.add.ensures.deep.0 same).1) c.add.ensures.no_name
+    c.in_ok-value.ensures.reads.kept counted c.built.ensures c.add.ensures tt
 
 pub returns-clause-placed : goal.returns-clause-placed
 returns-clause-placed c = if_built _ _ c.args.start.ahead c.add.result c.built.result c.built.ensures c.add.ensures.ok (λ id added.

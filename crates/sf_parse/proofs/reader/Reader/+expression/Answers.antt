@@ -10,7 +10,7 @@ pub linked-returns-clause-reads : goal.linked-returns-clause-reads
 linked-returns-clause-reads t c = λ whole counted.
     expression_built _ _ _ c.args.start.ahead c.add_linked.result c.built.result
     (linked_ready c.args.version c.args.left (ahead c.args.self.now.cursor) c.requires.shallow c.in_ok-one.ensures.reads c.in_ok-link.ensures.reads c.in_ok-two.ensures.reads c.in_ok-symbol.ensures.reads)
-    (keeps_trans _ _ _ c.in_ok-one.ensures.reads.kept c.in_ok-two.ensures.reads.kept) (c.in_ok-two.ensures.reads.terms ∙ c.in_ok-one.ensures.reads.terms) counted c.built.ensures c.add_linked.ensures.ok c.add_linked.ensures.many.0 (λ same. (c.add_linked.ensures.deep.0 same).1) c.add_linked.ensures.no_name
+    (keeps_trans _ _ _ c.in_ok-one.ensures.reads.kept c.in_ok-two.ensures.reads.kept) (c.in_ok-two.ensures.reads.terms ∙ c.in_ok-one.ensures.reads.terms) counted c.built.ensures c.add_linked.ensures tt
 
 pub linked-returns-clause-placed : goal.linked-returns-clause-placed
 linked-returns-clause-placed t c = if_built _ _ c.args.start.ahead c.add_linked.result c.built.result c.built.ensures c.add_linked.ensures.ok (λ id added.
@@ -20,7 +20,7 @@ pub prefixed-returns-clause-reads : goal.prefixed-returns-clause-reads
 prefixed-returns-clause-reads t c = λ whole counted.
     expression_built _ _ _ c.args.start.ahead c.applied.result c.built.result
     (prefixed_ready c.args.version c.args.left (ahead c.args.self.now.cursor) c.requires.shallow c.in_ok-part.ensures.reads)
-    c.in_ok-part.ensures.reads.kept c.in_ok-part.ensures.reads.terms counted c.built.ensures c.applied.ensures.ok c.applied.ensures.many.0 (λ same. (c.applied.ensures.deep.0 same).1) c.applied.ensures.no_name
+    c.in_ok-part.ensures.reads.kept c.in_ok-part.ensures.reads.terms counted c.built.ensures c.applied.ensures tt
 
 pub prefixed-returns-clause-placed : goal.prefixed-returns-clause-placed
 prefixed-returns-clause-placed t c = if_built _ _ c.args.start.ahead c.applied.result c.built.result c.built.ensures c.applied.ensures.ok (λ id added.
@@ -30,7 +30,7 @@ pub one_in_brackets-returns-clause-reads : goal.one_in_brackets-returns-clause-r
 one_in_brackets-returns-clause-reads t c = λ whole counted.
     expression_built _ _ _ c.args.start.ahead c.applied.result c.built.result
     (one_in_brackets_ready c.args.version c.args.left (ahead c.args.self.now.cursor) c.requires.shallow c.in_ok-symbol.ensures.reads c.in_ok-part.ensures.reads c.in_ok-symbol-2.ensures.reads)
-    c.in_ok-part.ensures.reads.kept c.in_ok-part.ensures.reads.terms counted c.built.ensures c.applied.ensures.ok c.applied.ensures.many.0 (λ same. (c.applied.ensures.deep.0 same).1) c.applied.ensures.no_name
+    c.in_ok-part.ensures.reads.kept c.in_ok-part.ensures.reads.terms counted c.built.ensures c.applied.ensures tt
 
 pub one_in_brackets-returns-clause-placed : goal.one_in_brackets-returns-clause-placed
 one_in_brackets-returns-clause-placed t c = if_built _ _ c.args.start.ahead c.applied.result c.built.result c.built.ensures c.applied.ensures.ok (λ id added.
@@ -40,7 +40,7 @@ pub two_in_brackets-returns-clause-reads : goal.two_in_brackets-returns-clause-r
 two_in_brackets-returns-clause-reads t c = λ whole counted.
     expression_built _ _ _ c.args.start.ahead c.operation.result c.built.result
     (two_in_brackets_ready c.args.version c.args.left (ahead c.args.self.now.cursor) c.requires.shallow c.in_ok-symbol.ensures.reads c.in_ok-one.ensures.reads c.in_ok-symbol-2.ensures.reads c.in_ok-two.ensures.reads c.in_ok-symbol-3.ensures.reads)
-    (keeps_trans _ _ _ c.in_ok-one.ensures.reads.kept c.in_ok-two.ensures.reads.kept) (c.in_ok-two.ensures.reads.terms ∙ c.in_ok-one.ensures.reads.terms) counted c.built.ensures c.operation.ensures.ok c.operation.ensures.many.0 (λ same. (c.operation.ensures.deep.0 same).1) c.operation.ensures.no_name
+    (keeps_trans _ _ _ c.in_ok-one.ensures.reads.kept c.in_ok-two.ensures.reads.kept) (c.in_ok-two.ensures.reads.terms ∙ c.in_ok-one.ensures.reads.terms) counted c.built.ensures c.operation.ensures tt
 
 pub two_in_brackets-returns-clause-placed : goal.two_in_brackets-returns-clause-placed
 two_in_brackets-returns-clause-placed t c = if_built _ _ c.args.start.ahead c.operation.result c.built.result c.built.ensures c.operation.ensures.ok (λ id added.
@@ -50,7 +50,7 @@ pub conditional-returns-clause-reads : goal.conditional-returns-clause-reads
 conditional-returns-clause-reads t c = λ whole counted.
     expression_built _ _ _ c.args.start.ahead c.conditional.result c.built.result
     (conditional_ready c.args.version c.args.left (ahead c.args.self.now.cursor) c.requires.shallow c.in_ok-condition.ensures.reads c.in_ok-keyword.ensures.reads c.in_ok-one.ensures.reads c.in_ok-keyword-2.ensures.reads c.in_ok-two.ensures.reads)
-    (keeps_trans _ _ _ c.in_ok-condition.ensures.reads.kept (keeps_trans _ _ _ c.in_ok-one.ensures.reads.kept c.in_ok-two.ensures.reads.kept)) (c.in_ok-two.ensures.reads.terms ∙ c.in_ok-one.ensures.reads.terms ∙ c.in_ok-condition.ensures.reads.terms) counted c.built.ensures c.conditional.ensures.ok c.conditional.ensures.many.0 (λ same. (c.conditional.ensures.deep.0 same).1) c.conditional.ensures.no_name
+    (keeps_trans _ _ _ c.in_ok-condition.ensures.reads.kept (keeps_trans _ _ _ c.in_ok-one.ensures.reads.kept c.in_ok-two.ensures.reads.kept)) (c.in_ok-two.ensures.reads.terms ∙ c.in_ok-one.ensures.reads.terms ∙ c.in_ok-condition.ensures.reads.terms) counted c.built.ensures c.conditional.ensures tt
 
 pub conditional-returns-clause-placed : goal.conditional-returns-clause-placed
 conditional-returns-clause-placed t c = if_built _ _ c.args.start.ahead c.conditional.result c.built.result c.built.ensures c.conditional.ensures.ok (λ id added.
@@ -60,37 +60,37 @@ pub let_in-returns-clause-reads : goal.let_in-returns-clause-reads
 let_in-returns-clause-reads t c = λ whole counted.
     expression_built _ _ _ c.args.start.ahead c.mapped-added.result c.built.result
     (let_ready c.args.version c.args.left (ahead c.args.self.now.cursor) c.requires.shallow c.in_ok-pattern.ensures.reads c.in_ok-symbol.ensures.reads c.in_ok-value.ensures.reads c.in_ok-keyword.ensures.reads c.in_ok-body.ensures.reads)
-    (keeps_trans _ _ _ c.in_ok-value.ensures.reads.kept c.in_ok-body.ensures.reads.kept) (c.in_ok-body.ensures.reads.terms ∙ c.in_ok-value.ensures.reads.terms) counted c.built.ensures c.mapped-added.ensures.ok c.mapped-added.ensures.many.0 (λ same. (c.mapped-added.ensures.deep.0 same).1) (λ same. (c.mapped-added.ensures.bad_name.0 same).2 c.in_ok-pattern.ensures.names)
+    (keeps_trans _ _ _ c.in_ok-value.ensures.reads.kept c.in_ok-body.ensures.reads.kept) (c.in_ok-body.ensures.reads.terms ∙ c.in_ok-value.ensures.reads.terms) counted c.built.ensures c.mapped-added.ensures.builds c.in_ok-pattern.ensures.names
 
 pub let_in-returns-clause-placed : goal.let_in-returns-clause-placed
-let_in-returns-clause-placed t c = if_built_on _ _ _ c.args.start.ahead c.mapped-added.result c.built.result c.built.ensures c.mapped-added.ensures.ok c.mapped-added.ensures.placed (λ id added there.
+let_in-returns-clause-placed t c = if_built_on _ _ _ c.args.start.ahead c.mapped-added.result c.built.result c.built.ensures c.mapped-added.ensures.builds.ok c.mapped-added.ensures.placed (λ id added there.
     let_read c.in_ok-body.ensures.reads.kept.trees added there c.in_ok-pattern.ensures.placed c.in_ok-symbol.ensures.behind c.in_ok-value.ensures.placed c.in_ok-keyword.ensures.behind c.in_ok-body.ensures.placed)
 
 pub one_and_function-returns-clause-reads : goal.one_and_function-returns-clause-reads
 one_and_function-returns-clause-reads t c = λ whole counted.
     expression_built _ _ _ c.args.start.ahead c.mapped-added.result c.built.result
     (one_and_function_ready c.args.version c.args.left (ahead c.args.self.now.cursor) c.requires.shallow c.in_ok-symbol.ensures.reads c.in_ok-value.ensures.reads c.in_ok-symbol-2.ensures.reads c.in_ok-pattern.ensures.reads c.in_ok-symbol-3.ensures.reads)
-    (keeps_trans _ _ _ c.in_ok-value.ensures.reads.kept c.in_ok-pattern.ensures.reads.kept) (c.in_ok-pattern.ensures.reads.terms ∙ c.in_ok-value.ensures.reads.terms) counted c.built.ensures c.mapped-added.ensures.ok c.mapped-added.ensures.many.0 (λ same. (c.mapped-added.ensures.deep.0 same).1) (λ same. (c.mapped-added.ensures.bad_name.0 same).2 c.in_ok-pattern.ensures.reads.names)
+    (keeps_trans _ _ _ c.in_ok-value.ensures.reads.kept c.in_ok-pattern.ensures.reads.kept) (c.in_ok-pattern.ensures.reads.terms ∙ c.in_ok-value.ensures.reads.terms) counted c.built.ensures c.mapped-added.ensures.builds c.in_ok-pattern.ensures.reads.names
 
 pub one_and_function-returns-clause-placed : goal.one_and_function-returns-clause-placed
-one_and_function-returns-clause-placed t c = if_built_on _ _ _ c.args.start.ahead c.mapped-added.result c.built.result c.built.ensures c.mapped-added.ensures.ok c.mapped-added.ensures.placed (λ id added there.
+one_and_function-returns-clause-placed t c = if_built_on _ _ _ c.args.start.ahead c.mapped-added.result c.built.result c.built.ensures c.mapped-added.ensures.builds.ok c.mapped-added.ensures.placed (λ id added there.
     one_and_function_read c.requires.stands c.in_ok-pattern.ensures.reads.kept.trees added there c.in_ok-symbol.ensures.behind c.in_ok-value.ensures.placed c.in_ok-symbol-2.ensures.behind c.in_ok-pattern.ensures.placed c.in_ok-symbol-3.ensures.behind)
 
 pub two_and_function-returns-clause-reads : goal.two_and_function-returns-clause-reads
 two_and_function-returns-clause-reads t c = λ whole counted.
     expression_built _ _ _ c.args.start.ahead c.folded-added.result c.built.result
     (two_and_function_ready c.args.version c.args.left (ahead c.args.self.now.cursor) c.requires.shallow c.in_ok-symbol.ensures.reads c.in_ok-one.ensures.reads c.in_ok-symbol-2.ensures.reads c.in_ok-two.ensures.reads c.in_ok-symbol-3.ensures.reads c.in_ok-pattern.ensures.reads c.in_ok-symbol-4.ensures.reads)
-    (keeps_trans _ _ _ c.in_ok-one.ensures.reads.kept (keeps_trans _ _ _ c.in_ok-two.ensures.reads.kept c.in_ok-pattern.ensures.reads.kept)) (c.in_ok-pattern.ensures.reads.terms ∙ c.in_ok-two.ensures.reads.terms ∙ c.in_ok-one.ensures.reads.terms) counted c.built.ensures c.folded-added.ensures.ok c.folded-added.ensures.many.0 (λ same. (c.folded-added.ensures.deep.0 same).1) (λ same. (c.folded-added.ensures.bad_name.0 same).2 c.in_ok-pattern.ensures.reads.names)
+    (keeps_trans _ _ _ c.in_ok-one.ensures.reads.kept (keeps_trans _ _ _ c.in_ok-two.ensures.reads.kept c.in_ok-pattern.ensures.reads.kept)) (c.in_ok-pattern.ensures.reads.terms ∙ c.in_ok-two.ensures.reads.terms ∙ c.in_ok-one.ensures.reads.terms) counted c.built.ensures c.folded-added.ensures.builds c.in_ok-pattern.ensures.reads.names
 
 pub two_and_function-returns-clause-placed : goal.two_and_function-returns-clause-placed
-two_and_function-returns-clause-placed t c = if_built_on _ _ _ c.args.start.ahead c.folded-added.result c.built.result c.built.ensures c.folded-added.ensures.ok c.folded-added.ensures.placed (λ id added there.
+two_and_function-returns-clause-placed t c = if_built_on _ _ _ c.args.start.ahead c.folded-added.result c.built.result c.built.ensures c.folded-added.ensures.builds.ok c.folded-added.ensures.placed (λ id added there.
     two_and_function_read c.in_ok-two.ensures.reads.kept.trees c.in_ok-pattern.ensures.reads.kept.trees added there c.in_ok-symbol.ensures.behind c.in_ok-one.ensures.placed c.in_ok-symbol-2.ensures.behind c.in_ok-two.ensures.placed c.in_ok-symbol-3.ensures.behind c.in_ok-pattern.ensures.placed c.in_ok-symbol-4.ensures.behind)
 
 pub called-returns-clause-reads : goal.called-returns-clause-reads
 called-returns-clause-reads t c = λ whole counted.
     expression_built _ _ _ c.args.start.ahead c.called.result c.built.result
     (called_ready c.args.version c.args.left (ahead c.args.self.now.cursor) c.requires.shallow c.in_ok-function.ensures.reads c.in_ok-symbol.ensures.reads c.in_ok-part.ensures.reads c.in_ok-symbol-2.ensures.reads (c.in_ok-name.ensures.ok ∙ c.as_str.ensures.text))
-    c.in_ok-part.ensures.reads.kept c.in_ok-part.ensures.reads.terms counted c.built.ensures c.called.ensures.ok c.called.ensures.many.0 (λ same. (c.called.ensures.deep.0 same).1) (λ same. (c.called.ensures.bad_name.0 same).2 (subst IsName (sym c.in_ok-name.ensures.ok) c.as_str.ensures.named))
+    c.in_ok-part.ensures.reads.kept c.in_ok-part.ensures.reads.terms counted c.built.ensures c.called.ensures (subst IsName (sym c.in_ok-name.ensures.ok) c.as_str.ensures.named)
 
 pub called-returns-clause-placed : goal.called-returns-clause-placed
 called-returns-clause-placed t c = if_built _ _ c.args.start.ahead c.called.result c.built.result c.built.ensures c.called.ensures.ok (λ id added.

@@ -9,7 +9,7 @@ use Rattle.sf_parse.proofs.reader.Reader.number.Goals as goal
 
 pub returns-clause-reads : goal.returns-clause-reads
 returns-clause-reads c = λ whole counted.
-    expression_built _ _ _ c.args.start.ahead c.int.result c.built.result (literal_ready_as whole (ahead c.args.self.now.cursor) (ap int_literal (to_z-of_z w64 c.args.number c.ranges.number))) (keeps_self c.args.self.now.program) refl counted c.built.ensures c.int.ensures.ok c.int.ensures.many.0 (λ same. absurd (c.int.ensures.not_deep same)) c.int.ensures.no_name
+    expression_built _ _ _ c.args.start.ahead c.int.result c.built.result (literal_ready_as whole (ahead c.args.self.now.cursor) (ap int_literal (to_z-of_z w64 c.args.number c.ranges.number))) (keeps_self c.args.self.now.program) refl counted c.built.ensures c.int.ensures tt
 
 pub returns-clause-placed : goal.returns-clause-placed
 returns-clause-placed c = λ version. if_built _ _ c.args.start.ahead c.int.result c.built.result c.built.ensures c.int.ensures.ok (λ id added. number_read (spots_ahead c.args.self.now.cursor) added)

@@ -8,7 +8,7 @@ use Rattle.sf_parse.proofs.reader.Reader.text.Goals as goal
 
 pub returns-clause-reads : goal.returns-clause-reads
 returns-clause-reads c = λ whole counted.
-    expression_built _ _ _ c.args.start.ahead c.constant.result c.built.result (literal_ready_as whole (ahead c.args.self.now.cursor) (c.in_ok-constant.ensures ∙ ap text_literal (c.in_ok-text.ensures.ok ∙ c.as_str.ensures.value))) (keeps_self c.args.self.now.program) refl counted c.built.ensures c.constant.ensures.ok c.constant.ensures.many.0 (λ same. absurd (c.constant.ensures.not_deep same)) c.constant.ensures.no_name
+    expression_built _ _ _ c.args.start.ahead c.constant.result c.built.result (literal_ready_as whole (ahead c.args.self.now.cursor) (c.in_ok-constant.ensures ∙ ap text_literal (c.in_ok-text.ensures.ok ∙ c.as_str.ensures.value))) (keeps_self c.args.self.now.program) refl counted c.built.ensures c.constant.ensures tt
 
 pub returns-clause-placed : goal.returns-clause-placed
 returns-clause-placed c = λ version. if_built _ _ c.args.start.ahead c.constant.result c.built.result c.built.ensures c.constant.ensures.ok (λ id added. text_read (spots_ahead c.args.self.now.cursor) c.in_ok-constant.ensures added)

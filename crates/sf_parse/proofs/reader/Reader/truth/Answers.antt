@@ -8,7 +8,7 @@ use Rattle.sf_parse.proofs.reader.Reader.truth.Goals as goal
 
 pub returns-clause-reads : goal.returns-clause-reads
 returns-clause-reads c = λ whole counted.
-    expression_built _ _ _ c.args.start.ahead c.add_expression.result c.built.result (literal_ready (truth_literal c.args.truth) whole (ahead c.args.self.now.cursor)) (keeps_self c.args.self.now.program) refl counted c.built.ensures c.add_expression.ensures.ok c.add_expression.ensures.many.0 (λ same. (c.add_expression.ensures.deep.0 same).1) c.add_expression.ensures.no_name
+    expression_built _ _ _ c.args.start.ahead c.add_expression.result c.built.result (literal_ready (truth_literal c.args.truth) whole (ahead c.args.self.now.cursor)) (keeps_self c.args.self.now.program) refl counted c.built.ensures c.add_expression.ensures tt
 
 pub returns-clause-placed : goal.returns-clause-placed
 returns-clause-placed c = λ version. if_built _ _ c.args.start.ahead c.add_expression.result c.built.result c.built.ensures c.add_expression.ensures.ok (λ id added. truth_read (spots_ahead c.args.self.now.cursor) added)

@@ -8,7 +8,7 @@ use Rattle.sf_term.specs.Entries.{identity_entry}
 use Rattle.sf_term.specs.Trees.{term_depth}
 use Rattle.sf_term.specs.Arena.{base_of, headers_of, term_count}
 use Rattle.sf_term.proofs.Entered.{arena_put, same_lists}
-use Rattle.sf_term.proofs.Refused.{many_as, deep_with}
+use Rattle.sf_term.proofs.Refused.{arena_took, arena_refused}
 use Rattle.sf_term.proofs.Kept.{node-made, parts_needed, adds_added, unchanged, same_expressions}
 use Rattle.sf_term.proofs.program.Program.add.Goals as goal
 
@@ -23,18 +23,18 @@ invariant_of-self c =
       bodies = omega (arith, p.bodies, more_put _ _ _ c.add.result c.add.ensures.ok c.add.ensures.err);
     }
 
-pub returns-in-Ok-clause-ok : goal.returns-in-Ok-clause-ok
-unfolding headers_of
-returns-in-Ok-clause-ok c = adds_added c.args.self.now _ _ _ _ _ refl refl c.in-Ok.ensures.ok refl c.depth_with-depth.ensures
+pub returns-in-Ok : goal.returns-in-Ok
+unfolding headers_of term_count
+returns-in-Ok c = record {
+  ok = adds_added c.args.self.now _ _ _ _ _ refl refl c.in-Ok.ensures.ok refl c.depth_with-depth.ensures;
+  refused = arena_took _ _ _ _ _ c.in-Ok.ensures.many c.in-Ok.ensures.deep (omega (arith, c.depth_with-depth.ensures));
+  err = tt;
+}
 
-pub returns-in-Err-clause-many : goal.returns-in-Err-clause-many
-unfolding term_count
-returns-in-Err-clause-many c = many_as _ _ _ c.from.ensures c.in-Err.ensures.many
-
-pub returns-in-Err-clause-deep : goal.returns-in-Err-clause-deep
-unfolding term_count
-returns-in-Err-clause-deep c = deep_with _ _ _ _ c.from.ensures c.depth_with-depth.ensures c.in-Err.ensures.deep
-
-pub returns-in-Err-clause-err : goal.returns-in-Err-clause-err
-unfolding headers_of
-returns-in-Err-clause-err c = unchanged c.args.self.now _ (same_expressions c.args.self.now.expressions) (same_lists _) c.in-Err.ensures.err refl
+pub returns-in-Err : goal.returns-in-Err
+unfolding headers_of term_count
+returns-in-Err c = record {
+  ok = tt;
+  refused = arena_refused _ _ _ _ _ c.from.ensures c.in-Err.ensures.many c.in-Err.ensures.deep (omega (arith, c.depth_with-depth.ensures));
+  err = unchanged c.args.self.now _ (same_expressions c.args.self.now.expressions) (same_lists _) c.in-Err.ensures.err refl;
+}

@@ -1,10 +1,14 @@
-use Rattle.std.proofs.Common.{◌≡◌, ◌∙◌, ℕ, List, [], ◌∷◌, ◌++◌, true, length, ap, sym, refl, arith}
+use Rattle.std.proofs.Common.{◌≡◌, ℕ, true, length, ap, refl, arith}
 use Rattle.sf_arena.specs.Arenas.{entries_of}
 use Rattle.sf_term.specs.declared.collection.CollectionId.{CollectionId}
-use Rattle.sf_term.specs.Entries.{TermBase, StoredLists, absent_collection, collections_in}
-use Rattle.sf_term.specs.Arena.{base_of, lists_of, headers_of, expressions_of, HoldsCollection, collection_under, next_collection}
+use Rattle.sf_term.specs.declared.collection.CollExpr.{CollExpr}
+use Rattle.sf_term.specs.Trees.{collection_depth}
+use Rattle.sf_term.specs.declared.refusal.BuildRefusal.TheVariants.{Memory}
+use Rattle.sf_term.specs.Entries.{TermBase, absent_collection, collections_in}
+use Rattle.sf_term.specs.Arena.{base_of, lists_of, headers_of, HoldsCollection, collection_of, collection_under, next_collection}
 use Rattle.sf_term.proofs.Entered.{arena_grown, unchanged_grown, MoreLists, same_items, items_put, items_pushed, lists_copied, pushed_at, stored_put, collections_put, collections_counted}
-use Rattle.sf_term.proofs.Kept.{on_any_err, unchanged, same_expressions, members_end, unchanged_keeps, collection_kept}
+use Rattle.sf_term.proofs.Kept.{unchanged, same_expressions, same_self, members_end, unchanged_keeps, collection_kept}
+use Rattle.sf_term.proofs.Refused.{builds_none, builds_starved, still_room}
 use Rattle.sf_term.proofs.program.Program.add_collection.Goals as goal
 
 pub invariant_of-self : goal.invariant_of-self
@@ -20,15 +24,19 @@ invariant_of-self c =
       bodies = p.bodies;
     }
 
-pub returns-in_err-push-clause-err : goal.returns-in_err-push-clause-err
-unfolding headers_of
-returns-in_err-push-clause-err c =
-    let p = c.args.self.now in
-    on_any_err c.from_residual.result (unchanged p _ (same_expressions p.expressions) (lists_copied _ _ refl (ap collections_in c.in_err-push.ensures.items)) refl refl)
+pub returns-in_err-room : goal.returns-in_err-room
+returns-in_err-room c = builds_none _ _ _ _ _ _ c.from_residual.result _ c.from_residual.ensures.1 c.in_err-room.ensures refl (omega (arith, c.depth_of-depth.ensures, ap (λ (x : CollExpr). collection_depth (collection_of c.args.self.now x)) c.deref.ensures)) (λ t. tt, λ t. refl) (same_self c.args.self.now)
 
-pub returns-clause-ok : goal.returns-clause-ok
+pub returns-in_err-push : goal.returns-in_err-push
+unfolding headers_of
+returns-in_err-push c =
+    let p = c.args.self.now in
+    builds_starved _ _ _ _ _ _ _ c.from_residual-in_err-push.result Memory c.from_residual-in_err-push.ensures.1 refl c.in_ok-room.ensures refl (omega (arith, c.depth_of-depth.ensures, ap (λ (x : CollExpr). collection_depth (collection_of c.args.self.now x)) c.deref.ensures)) (λ t. tt, λ t. refl)
+    (unchanged p _ (same_expressions p.expressions) (lists_copied _ _ refl (ap collections_in c.in_err-push.ensures.items)) refl refl)
+
+pub returns : goal.returns
 unfolding headers_of HoldsCollection collection_under next_collection
-returns-clause-ok c =
+returns c =
     let p = c.args.self.now in
     let put = collections_put p.collections.items _ c.args.collection true c.in_ok-push.ensures.items in
     let number : c.len.result ≡ length (collections_in p.collections.items) = omega (arith, c.len.ensures, c.args.self.now.collections.ok.0, collections_counted p.collections.items) in
@@ -36,10 +44,14 @@ returns-clause-ok c =
     let same = unchanged p _ (same_expressions p.expressions) (record { arguments = same_items _ _ _ refl; collections = items_pushed _ _ _ c.args.collection.value put }) refl refl in
     let kept = collection_kept p _ c.args.collection.value (unchanged_keeps p _ same).trees c.requires in
     record {
-      within = there.0;
-      next = ap (λ (n : ℕ). let i : CollectionId = record { 0 = n } in i) number;
-      is = there.1;
-      whole = kept.1;
-      made = kept.0;
-      same = same;
+      ok = record {
+        within = there.0;
+        next = ap (λ (n : ℕ). let i : CollectionId = record { 0 = n } in i) number;
+        is = there.1;
+        whole = kept.1;
+        made = kept.0;
+        same = same;
+      };
+      refused = still_room _ _ _ _ _ _ c.in_ok-room.ensures refl (omega (arith, c.depth_of-depth.ensures, ap (λ (x : CollExpr). collection_depth (collection_of c.args.self.now x)) c.deref.ensures)) (λ t. tt, λ t. refl) tt;
+      err = tt;
     }

@@ -4,7 +4,7 @@ use Rattle.sf_expr.specs.Arena.{expression_of}
 use Rattle.sf_term.specs.Arena.{lists_of, headers_of, expressions_of, expression_count}
 use Rattle.sf_term.proofs.Entered.{arena_with, grown_by, same_lists}
 use Rattle.sf_term.proofs.Kept.{adds_expression, unchanged}
-use Rattle.sf_term.proofs.Refused.{many_as, deep_as}
+use Rattle.sf_term.proofs.Refused.{arena_took, arena_refused}
 use Rattle.sf_term.proofs.program.Program.add_expression.Goals as goal
 
 pub invariant_of-self : goal.invariant_of-self
@@ -16,30 +16,22 @@ invariant_of-self c =
       bodies = p.bodies;
     }
 
-pub returns-in-Ok-clause-ok : goal.returns-in-Ok-clause-ok
-unfolding headers_of expressions_of
-returns-in-Ok-clause-ok c = adds_expression c.args.self.now _ _ _ _ _ c.in-Ok.ensures.ok (same_lists _) refl refl
-
-pub returns-in-Err-clause-many : goal.returns-in-Err-clause-many
-unfolding expression_count
-returns-in-Err-clause-many c = many_as _ _ _ c.from.ensures c.in-Err.ensures.many
-
-pub returns-in-Err-clause-deep : goal.returns-in-Err-clause-deep
-unfolding expression_count expressions_of
-returns-in-Err-clause-deep c = deep_as _ _ _ c.from.ensures c.in-Err.ensures.deep
-
-pub returns-in-Err-clause-err : goal.returns-in-Err-clause-err
-unfolding headers_of
-returns-in-Err-clause-err c = unchanged c.args.self.now _ c.in-Err.ensures.err (same_lists _) refl refl
-
 pub add-requires : goal.add-requires
 unfolding expressions_of
 add-requires c = c.requires
 
-pub returns-in-Ok-clause-many : goal.returns-in-Ok-clause-many
-unfolding expression_count
-returns-in-Ok-clause-many c = (λ e. cc, λ h. let q = c.in-Ok.ensures.many.1 h in cc)
+pub returns-in-Ok : goal.returns-in-Ok
+unfolding headers_of expressions_of expression_count
+returns-in-Ok c = record {
+  ok = adds_expression c.args.self.now _ _ _ _ _ c.in-Ok.ensures.ok (same_lists _) refl refl;
+  refused = arena_took _ _ _ _ _ c.in-Ok.ensures.many c.in-Ok.ensures.deep refl;
+  err = tt;
+}
 
-pub returns-in-Ok-clause-deep : goal.returns-in-Ok-clause-deep
-unfolding expression_count expressions_of
-returns-in-Ok-clause-deep c = (λ e. cc, λ h. let q = c.in-Ok.ensures.deep.1 h in cc)
+pub returns-in-Err : goal.returns-in-Err
+unfolding headers_of expressions_of expression_count
+returns-in-Err c = record {
+  ok = tt;
+  refused = arena_refused _ _ _ _ _ c.from.ensures c.in-Err.ensures.many c.in-Err.ensures.deep refl;
+  err = unchanged c.args.self.now _ c.in-Err.ensures.err (same_lists _) refl refl;
+}

@@ -2,35 +2,21 @@ use Rattle.std.proofs.Common.{refl, ap}
 use Rattle.sf_expr.specs.declared.exprs.ConstantId.{ConstantId}
 use Rattle.sf_expr.specs.declared.exprs.ExprNode.TheVariants as expressions
 use Rattle.sf_expr.specs.Expressions.{literal}
-use Rattle.sf_arena.specs.Arenas.{entries_of}
-use Rattle.sf_term.specs.Arena.{lists_of, headers_of, expressions_of}
-use Rattle.sf_term.proofs.Entered.{arena_with, constant_grown_by, same_lists}
-use Rattle.sf_term.proofs.Kept.{adds_with, constant_beside, put_beside, unchanged, unchanged_after}
+use Rattle.sf_term.specs.Arena.{expressions_of, expression_count}
+use Rattle.sf_term.proofs.Kept.{expression_follows}
+use Rattle.sf_term.proofs.Refused.{builds_none, itself}
 use Rattle.sf_term.proofs.program.Program.constant.Goals as goal
-
-pub invariant_of-self : goal.invariant_of-self
-invariant_of-self c =
-    let p = c.args.self.now in
-    let x = p.expressions in
-    record {
-      arena = arena_with x c.constant.new.self (lists_of p) (entries_of p.terms) (constant_grown_by x c.constant.new.self c.constant.result c.args.value c.constant.ensures.ok c.constant.ensures.err) p.arena;
-      bodies = p.bodies;
-    }
-
-pub returns-in-Ok-clause-ok : goal.returns-in-Ok-clause-ok
-unfolding headers_of expressions_of
-returns-in-Ok-clause-ok c =
-    let added = c.in-Ok.ensures.ok in
-    adds_with c.args.self.now _ _ c.add_expression.result _ _ (λ (n : ConstantId). expressions.Constant n) _ c.args.spot added.next (put_beside c.args.self.now _ (constant_beside _ _ _ _ added) (same_lists _) refl refl) (ap literal added.is) c.add_expression.ensures.ok
-
-pub returns-in-Ok-clause-err : goal.returns-in-Ok-clause-err
-unfolding headers_of
-returns-in-Ok-clause-err c = unchanged_after c.args.self.now _ _ c.add_expression.result (put_beside c.args.self.now _ (constant_beside _ _ _ _ c.in-Ok.ensures.ok) (same_lists _) refl refl) c.add_expression.ensures.err
-
-pub returns-in-Err-clause-err : goal.returns-in-Err-clause-err
-unfolding headers_of
-returns-in-Err-clause-err c = unchanged c.args.self.now _ c.in-Err.ensures.err (same_lists _) refl refl
 
 pub add_expression-requires : goal.add_expression-requires
 unfolding expressions_of
-add_expression-requires c = c.in-Ok.ensures.ok.within
+add_expression-requires c = c.in_ok-constant.ensures.ok.within
+
+pub returns-in_err-constant : goal.returns-in_err-constant
+unfolding expression_count
+returns-in_err-constant c = builds_none _ _ _ _ _ _ c.from_residual.result _ c.from_residual.ensures.1 c.in_err-constant.ensures.refused c.len-count.ensures refl itself c.in_err-constant.ensures.same
+
+pub returns : goal.returns
+unfolding expressions_of
+returns c =
+    let put = c.in_ok-constant.ensures in
+    expression_follows c.args.self.now _ _ c.add_expression.result _ _ (λ (n : ConstantId). expressions.Constant n) _ c.args.spot put.refused.room.2 put.ok.next put.same (ap literal put.ok.is) c.add_expression.ensures

@@ -1,22 +1,18 @@
 use Rattle.std.proofs.Common.{refl, arith}
-use Rattle.sf_expr.specs.Patterns.{pattern_of}
-use Rattle.sf_expr.proofs.Entered.{expression_shallow}
 use Rattle.sf_arena.specs.Arenas.{entries_of}
-use Rattle.sf_term.specs.Arena.{lists_of, headers_of, expression_under}
-use Rattle.sf_term.specs.Names.{HasNames}
+use Rattle.sf_term.specs.Arena.{lists_of, headers_of, expression_under, HoldsExpression}
 use Rattle.sf_term.proofs.Entered.{arena_with, function_grown_by, same_lists}
-use Rattle.sf_term.proofs.Kept.{adds_function, unchanged}
+use Rattle.sf_term.proofs.Kept.{adds_function, unchanged, same_self}
+use Rattle.sf_term.proofs.Refused.{builds_none, still_room}
 use Rattle.sf_term.proofs.program.Program.function.Goals as goal
 
-pub returns-then-not-has_names-clause-deep : goal.returns-then-not-has_names-clause-deep
+pub returns-in_err-room : goal.returns-in_err-room
 unfolding expression_under
-returns-then-not-has_names-clause-deep c = (λ e. cc, λ q. absurd (omega (arith, c.depth.ensures, expression_shallow c.args.self.now.expressions c.args.body)))
+returns-in_err-room c = builds_none _ _ _ _ _ _ c.from_residual.result _ c.from_residual.ensures.1 c.in_err-room.ensures refl (omega (arith, c.max-depth.ensures, c.depth.ensures, c.depth-2.ensures.value)) c.has_names.ensures (same_self c.args.self.now)
 
-pub returns-then-not-has_names-clause-bad_name : goal.returns-then-not-has_names-clause-bad_name
-unfolding expression_under
-returns-then-not-has_names-clause-bad_name c =
-    let none : HasNames (pattern_of c.args.pattern) → ⊥ = λ h. let there = c.has_names.ensures.1 h in cc in
-    (λ e. (omega (arith, c.depth.ensures, expression_shallow c.args.self.now.expressions c.args.body), none), λ q. refl)
+pub function-requires : goal.function-requires
+unfolding HoldsExpression
+function-requires c = c.requires
 
 pub invariant_of-self : goal.invariant_of-self
 invariant_of-self c =
@@ -27,10 +23,18 @@ invariant_of-self c =
       bodies = p.bodies;
     }
 
-pub returns-in-Ok-clause-ok : goal.returns-in-Ok-clause-ok
-unfolding headers_of
-returns-in-Ok-clause-ok c = adds_function c.args.self.now _ _ _ _ c.in-Ok.ensures.ok (same_lists _) refl refl
+pub returns-in-Ok : goal.returns-in-Ok
+unfolding headers_of expression_under
+returns-in-Ok c = record {
+  ok = adds_function c.args.self.now _ _ _ _ c.in-Ok.ensures.ok (same_lists _) refl refl;
+  refused = still_room _ _ _ _ _ _ c.in_ok-room.ensures refl (omega (arith, c.max-depth.ensures, c.depth.ensures, c.depth-2.ensures.value)) c.has_names.ensures tt;
+  err = tt;
+}
 
-pub returns-in-Err-clause-err : goal.returns-in-Err-clause-err
-unfolding headers_of
-returns-in-Err-clause-err c = unchanged c.args.self.now _ c.in-Err.ensures.err (same_lists _) refl refl
+pub returns-in-Err : goal.returns-in-Err
+unfolding headers_of expression_under
+returns-in-Err c = record {
+  ok = tt;
+  refused = still_room _ _ _ _ _ _ c.in_ok-room.ensures refl (omega (arith, c.max-depth.ensures, c.depth.ensures, c.depth-2.ensures.value)) c.has_names.ensures refl;
+  err = unchanged c.args.self.now _ c.in-Err.ensures.err (same_lists _) refl refl;
+}

@@ -1,63 +1,30 @@
-use Rattle.std.proofs.Common.{refl, string_bytes}
-use Rattle.sf_arena.specs.Arenas.{entries_of}
-use Rattle.sf_term.specs.Arena.{lists_of, headers_of, expressions_of, HoldsPatternIn}
-use Rattle.sf_term.proofs.Entered.{arena_with, grown_trans, name_grown_by, pattern_grown_by, unchanged_grown, same_lists}
-use Rattle.sf_term.proofs.Kept.{name_and_pattern, adds_keeping, keeping_deep, term_pattern_there, name_beside, beside_trans, unchanged_beside, put_beside, unchanged, unchanged_after, unchanged_keeps}
+use Rattle.std.proofs.Common.{arith}
+use Rattle.sf_expr.specs.declared.exprs.NameId.{NameId}
+use Rattle.sf_expr.specs.declared.exprs.PatternId.{PatternId}
+use Rattle.sf_term.specs.declared.node.Node.TheVariants as nodes
+use Rattle.sf_term.specs.Arena.{expressions_of, term_count, HoldsPatternIn}
+use Rattle.sf_term.proofs.Kept.{keeping_made, term_follows, both_there, unchanged_keeps}
+use Rattle.sf_term.proofs.Refused.{builds_none, itself}
 use Rattle.sf_term.proofs.program.Program.keeping.Goals as goal
 
-pub invariant_of-self : goal.invariant_of-self
-invariant_of-self c =
-    let p = c.args.self.now in
-    let x = p.expressions in
-    let y = c.name.new.self in
-    let z = c.pattern_in.new.self in
-    record {
-      arena = arena_with x z (lists_of p) (entries_of p.terms) (grown_trans x y z (name_grown_by x y c.name.result (string_bytes c.args.process) c.name.ensures.ok c.name.ensures.err) (pattern_grown_by y z c.pattern_in.result c.args.pattern c.pattern_in.ensures.ok c.pattern_in.ensures.err)) p.arena;
-      bodies = p.bodies;
-    }
-
-pub invariant_of-self-in-Err : goal.invariant_of-self-in-Err
-invariant_of-self-in-Err c =
-    let p = c.args.self.now in
-    record {
-      arena = arena_with p.expressions c.name.new.self (lists_of p) (entries_of p.terms) (unchanged_grown p.expressions c.name.new.self c.in-Err.ensures.err) p.arena;
-      bodies = p.bodies;
-    }
-
 pub add-requires : goal.add-requires
-unfolding headers_of expressions_of HoldsPatternIn
+unfolding expressions_of HoldsPatternIn
 add-requires c =
-    let added = name_and_pattern _ _ _ _ _ _ _ c.in-Ok.ensures.ok c.in-Ok-pattern_in.ensures.ok in
-    let kept = (unchanged_keeps c.args.self.now _ (put_beside c.args.self.now _ added.beside (same_lists _) refl refl)).trees in
-    (kept.terms c.args.source c.requires.source_held, kept.terms c.args.observer c.requires.observer_held, added.name_within, added.pattern_within, kept.terms c.args.body c.requires.body_held)
+    let put = c.in_ok-name.ensures.ok in
+    let kept = (unchanged_keeps c.args.self.now _ c.in_ok-name.ensures.same).trees in
+    (kept.terms c.args.source c.requires.source_held, kept.terms c.args.observer c.requires.observer_held, put.holds_name, put.holds_pattern, kept.terms c.args.body c.requires.body_held)
 
-pub returns-in-Ok-pattern_in-clause-ok : goal.returns-in-Ok-pattern_in-clause-ok
-unfolding headers_of expressions_of
-returns-in-Ok-pattern_in-clause-ok c =
-    adds_keeping c.args.self.now _ _ c.add.result _ _ _ _ c.args.form c.args.source c.args.observer c.args.body c.args.place c.args.spot (name_and_pattern _ _ _ _ _ _ _ c.in-Ok.ensures.ok c.in-Ok-pattern_in.ensures.ok) (same_lists _) refl refl c.add.ensures.ok
+pub returns-in_err-name-clause-builds : goal.returns-in_err-name-clause-builds
+unfolding term_count
+returns-in_err-name-clause-builds c = builds_none _ _ _ _ _ _ c.from_residual.result _ c.from_residual.ensures.1 c.in_err-name.ensures.refused c.len-count.ensures (omega (arith, c.max-parts.ensures, c.max-watched.ensures, c.depth.ensures.value, c.depth-2.ensures.value, c.depth-3.ensures.value)) itself c.in_err-name.ensures.same
 
-pub returns-in-Ok-pattern_in-clause-deep : goal.returns-in-Ok-pattern_in-clause-deep
-unfolding headers_of
-returns-in-Ok-pattern_in-clause-deep c =
-    keeping_deep c.args.self.now _ c.add.result _ _ _ _ c.args.form c.args.source c.args.observer c.args.body c.args.place (name_and_pattern _ _ _ _ _ _ _ c.in-Ok.ensures.ok c.in-Ok-pattern_in.ensures.ok) (same_lists _) refl refl c.add.ensures.deep
+pub returns-clause-builds : goal.returns-clause-builds
+unfolding expressions_of
+returns-clause-builds c =
+    let put = c.in_ok-name.ensures in
+    term_follows {I = NameId × PatternId} c.args.self.now _ _ c.add.result _ _ (λ (k : NameId × PatternId). nodes.Keeping (record { shown = c.args.form; source = c.args.source; observer = c.args.observer; name = k.0; place = c.args.place; pattern = k.1; body = c.args.body })) _ c.args.spot put.refused.room.2 put.ok.next put.same
+    (keeping_made _ _ _ _ _ c.args.form c.args.source c.args.observer c.args.body c.args.place put.ok put.same) c.add.ensures
 
-pub returns-in-Ok-pattern_in-clause-placed : goal.returns-in-Ok-pattern_in-clause-placed
-unfolding headers_of expressions_of
-returns-in-Ok-pattern_in-clause-placed c =
-    let added = name_and_pattern _ _ _ _ _ _ _ c.in-Ok.ensures.ok c.in-Ok-pattern_in.ensures.ok in
-    term_pattern_there c.args.self.now _ _ c.add.result _ _ _ _ _ added.pattern_next added.pattern_within added.pattern_is c.add.ensures.ok
-
-pub returns-in-Ok-pattern_in-clause-err : goal.returns-in-Ok-pattern_in-clause-err
-unfolding headers_of
-returns-in-Ok-pattern_in-clause-err c =
-    let added = name_and_pattern _ _ _ _ _ _ _ c.in-Ok.ensures.ok c.in-Ok-pattern_in.ensures.ok in
-    unchanged_after c.args.self.now _ _ c.add.result (put_beside c.args.self.now _ added.beside (same_lists _) refl refl) c.add.ensures.err
-
-pub returns-in-Err-pattern_in-clause-err : goal.returns-in-Err-pattern_in-clause-err
-unfolding headers_of
-returns-in-Err-pattern_in-clause-err c =
-    put_beside c.args.self.now _ (beside_trans _ _ _ (name_beside _ _ _ _ c.in-Ok.ensures.ok) (unchanged_beside _ _ c.in-Err-pattern_in.ensures.err)) (same_lists _) refl refl
-
-pub returns-in-Err-clause-err : goal.returns-in-Err-clause-err
-unfolding headers_of
-returns-in-Err-clause-err c = unchanged c.args.self.now _ c.in-Err.ensures.err (same_lists _) refl refl
+pub returns-clause-placed : goal.returns-clause-placed
+unfolding expressions_of
+returns-clause-placed c = both_there c.args.self.now _ _ c.add.result _ _ _ _ _ _ c.in_ok-name.ensures.ok c.add.ensures.ok

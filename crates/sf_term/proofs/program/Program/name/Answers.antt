@@ -1,36 +1,22 @@
-use Rattle.std.proofs.Common.{refl, ap, string_bytes}
+use Rattle.std.proofs.Common.{refl, ap}
 use Rattle.sf_expr.specs.declared.exprs.NameId.{NameId}
 use Rattle.sf_expr.specs.declared.exprs.ExprNode.TheVariants as expressions
 use Rattle.sf_expr.specs.Expressions.{variable}
-use Rattle.sf_arena.specs.Arenas.{entries_of}
-use Rattle.sf_term.specs.Arena.{lists_of, headers_of, expressions_of}
-use Rattle.sf_term.proofs.Entered.{arena_with, name_grown_by, same_lists}
-use Rattle.sf_term.proofs.Kept.{adds_with, name_beside, put_beside, unchanged, unchanged_after}
+use Rattle.sf_term.specs.Arena.{expressions_of, expression_count}
+use Rattle.sf_term.proofs.Kept.{expression_follows}
+use Rattle.sf_term.proofs.Refused.{builds_none, itself}
 use Rattle.sf_term.proofs.program.Program.name.Goals as goal
-
-pub invariant_of-self : goal.invariant_of-self
-invariant_of-self c =
-    let p = c.args.self.now in
-    let x = p.expressions in
-    record {
-      arena = arena_with x c.name.new.self (lists_of p) (entries_of p.terms) (name_grown_by x c.name.new.self c.name.result (string_bytes c.args.name) c.name.ensures.ok c.name.ensures.err) p.arena;
-      bodies = p.bodies;
-    }
-
-pub returns-in-Ok-clause-ok : goal.returns-in-Ok-clause-ok
-unfolding headers_of expressions_of
-returns-in-Ok-clause-ok c =
-    let added = c.in-Ok.ensures.ok in
-    adds_with c.args.self.now _ _ c.add_expression.result _ _ (λ (n : NameId). expressions.Name n) _ c.args.spot added.next (put_beside c.args.self.now _ (name_beside _ _ _ _ added) (same_lists _) refl refl) (ap variable added.is) c.add_expression.ensures.ok
-
-pub returns-in-Ok-clause-err : goal.returns-in-Ok-clause-err
-unfolding headers_of
-returns-in-Ok-clause-err c = unchanged_after c.args.self.now _ _ c.add_expression.result (put_beside c.args.self.now _ (name_beside _ _ _ _ c.in-Ok.ensures.ok) (same_lists _) refl refl) c.add_expression.ensures.err
-
-pub returns-in-Err-clause-err : goal.returns-in-Err-clause-err
-unfolding headers_of
-returns-in-Err-clause-err c = unchanged c.args.self.now _ c.in-Err.ensures.err (same_lists _) refl refl
 
 pub add_expression-requires : goal.add_expression-requires
 unfolding expressions_of
-add_expression-requires c = c.in-Ok.ensures.ok.within
+add_expression-requires c = c.in_ok-name.ensures.ok.within
+
+pub returns-in_err-name : goal.returns-in_err-name
+unfolding expression_count
+returns-in_err-name c = builds_none _ _ _ _ _ _ c.from_residual.result _ c.from_residual.ensures.1 c.in_err-name.ensures.refused c.len-count.ensures refl itself c.in_err-name.ensures.same
+
+pub returns : goal.returns
+unfolding expressions_of
+returns c =
+    let put = c.in_ok-name.ensures in
+    expression_follows c.args.self.now _ _ c.add_expression.result _ _ (λ (n : NameId). expressions.Name n) _ c.args.spot put.refused.room.2 put.ok.next put.same (ap variable put.ok.is) c.add_expression.ensures

@@ -5,10 +5,6 @@ pub add_expression-requires : goal.add_expression-requires
 unfolding expressions_of HoldsExpression
 add_expression-requires c = (c.requires.first_held, c.requires.second_held)
 
-pub returns-clause-ok : goal.returns-clause-ok
+pub returns : goal.returns
 unfolding expressions_of expression_under
-returns-clause-ok c = c.add_expression.ensures.ok
-
-pub returns-clause-deep : goal.returns-clause-deep
-unfolding expressions_of expression_under
-returns-clause-deep c = c.add_expression.ensures.deep
+returns c = c.add_expression.ensures

@@ -1,41 +1,28 @@
-use Rattle.std.proofs.Common.{refl}
-use Rattle.sf_arena.specs.Arenas.{entries_of}
-use Rattle.sf_term.specs.Arena.{lists_of, headers_of, expressions_of, HoldsPatternIn}
-use Rattle.sf_term.proofs.Entered.{arena_with, pattern_grown_by, same_lists}
-use Rattle.sf_term.proofs.Kept.{adds_switch, switch_deep, term_pattern_there, pattern_beside, put_beside, unchanged, unchanged_after, unchanged_keeps}
+use Rattle.std.proofs.Common.{arith}
+use Rattle.sf_expr.specs.declared.exprs.PatternId.{PatternId}
+use Rattle.sf_term.specs.declared.node.Node.TheVariants as nodes
+use Rattle.sf_term.specs.Arena.{expressions_of, term_count, HoldsPatternIn}
+use Rattle.sf_term.proofs.Kept.{switch_made, term_follows, term_pattern_there, unchanged_keeps}
+use Rattle.sf_term.proofs.Refused.{builds_none, itself}
 use Rattle.sf_term.proofs.program.Program.switching.Goals as goal
 
-pub invariant_of-self : goal.invariant_of-self
-invariant_of-self c =
-    let p = c.args.self.now in
-    let x = p.expressions in
-    record {
-      arena = arena_with x c.pattern_in.new.self (lists_of p) (entries_of p.terms) (pattern_grown_by x c.pattern_in.new.self c.pattern_in.result c.args.pattern c.pattern_in.ensures.ok c.pattern_in.ensures.err) p.arena;
-      bodies = p.bodies;
-    }
-
 pub add-requires : goal.add-requires
-unfolding headers_of expressions_of HoldsPatternIn
+unfolding expressions_of HoldsPatternIn
 add-requires c =
-    let kept = (unchanged_keeps c.args.self.now _ (put_beside c.args.self.now _ (pattern_beside _ _ _ _ c.in-Ok.ensures.ok) (same_lists _) refl refl)).trees in
-    (kept.terms c.args.source c.requires.source_held, c.in-Ok.ensures.ok.within, kept.terms c.args.body c.requires.body_held)
+    let kept = (unchanged_keeps _ _ c.in_ok-pattern.ensures.same).trees in
+    (kept.terms c.args.source c.requires.source_held, c.in_ok-pattern.ensures.ok.within, kept.terms c.args.body c.requires.body_held)
 
-pub returns-in-Ok-clause-ok : goal.returns-in-Ok-clause-ok
-unfolding headers_of expressions_of
-returns-in-Ok-clause-ok c = adds_switch c.args.self.now _ _ c.add.result _ _ _ _ _ _ c.in-Ok.ensures.ok (same_lists _) refl refl c.add.ensures.ok
+pub returns-in_err-pattern-clause-builds : goal.returns-in_err-pattern-clause-builds
+unfolding term_count
+returns-in_err-pattern-clause-builds c = builds_none _ _ _ _ _ _ c.from_residual.result _ c.from_residual.ensures.1 c.in_err-pattern.ensures.refused c.len-count.ensures (omega (arith, c.max-parts.ensures, c.depth.ensures.value, c.depth-2.ensures.value)) itself c.in_err-pattern.ensures.same
 
-pub returns-in-Ok-clause-deep : goal.returns-in-Ok-clause-deep
-unfolding headers_of
-returns-in-Ok-clause-deep c = switch_deep c.args.self.now _ c.add.result _ c.args.pattern c.args.form c.args.source c.args.body c.in-Ok.ensures.ok (same_lists _) refl refl c.add.ensures.deep
+pub returns-clause-builds : goal.returns-clause-builds
+unfolding expressions_of
+returns-clause-builds c =
+    let put = c.in_ok-pattern.ensures in
+    term_follows c.args.self.now _ _ c.add.result _ _ (λ (q : PatternId). nodes.Switching (record { form = c.args.form; source = c.args.source; pattern = q; body = c.args.body })) _ c.args.spot put.refused.room.2 put.ok.next put.same
+    (switch_made _ _ _ _ c.args.form c.args.source c.args.body put.ok put.same) c.add.ensures
 
-pub returns-in-Ok-clause-placed : goal.returns-in-Ok-clause-placed
-unfolding headers_of expressions_of
-returns-in-Ok-clause-placed c = term_pattern_there c.args.self.now _ _ c.add.result _ _ _ _ _ c.in-Ok.ensures.ok.next c.in-Ok.ensures.ok.within c.in-Ok.ensures.ok.is c.add.ensures.ok
-
-pub returns-in-Ok-clause-err : goal.returns-in-Ok-clause-err
-unfolding headers_of
-returns-in-Ok-clause-err c = unchanged_after c.args.self.now _ _ c.add.result (put_beside c.args.self.now _ (pattern_beside _ _ _ _ c.in-Ok.ensures.ok) (same_lists _) refl refl) c.add.ensures.err
-
-pub returns-in-Err-clause-err : goal.returns-in-Err-clause-err
-unfolding headers_of
-returns-in-Err-clause-err c = unchanged c.args.self.now _ c.in-Err.ensures.err (same_lists _) refl refl
+pub returns-clause-placed : goal.returns-clause-placed
+unfolding expressions_of
+returns-clause-placed c = let put = c.in_ok-pattern.ensures.ok in term_pattern_there c.args.self.now _ _ c.add.result _ _ _ _ _ put.next put.within put.is c.add.ensures.ok
