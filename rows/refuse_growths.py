@@ -1,12 +1,13 @@
 """Plays networks on a few lines with each growth of memory refused in turn, each with and without --plain.
 
 There are a delay of numbers, a loop over pairs, one of texts, events and tables with functions inside, one that calls stored
-functions, one that switches, one that freezes a process and runs it twice, one whose state is saved and returned to, one of templates
-that are given values and processes, one with a probe in what is begun anew, one of forms that remember, one of forms that go by
-time and by numbers of events, and three of collections; and then networks that laws rewrite. A text of all these and of further forms
-is checked and written anew. Then each growth of the program of crates/oven is refused, which adds a function, takes a list of steps, saves
-and returns, and has an actuator act on samples; and each of crates/sftypes, which tells the types that do not fit. Last, each read and
-each write of a run fails in turn, and each write takes nothing in turn.
+functions, one that switches, one that freezes a process and runs it twice, one whose state is saved and returned to, one of
+templates that are given values and processes, one with a probe in what is begun anew, one of forms that remember, one of forms
+that go by time and by numbers of events, and three of collections; and then networks that laws rewrite. A text of all these and
+of further forms is checked and written anew. An edit takes as many growths whether few members stay or many. Then each growth of
+the program of crates/oven is refused, which adds a function, takes a list of steps, saves and returns, and has an actuator act on
+samples; and each of crates/sftypes, which tells the types that do not fit. Last, each read and each write of a run fails in turn,
+and each write takes nothing in turn.
 
     python3 rows/refuse_growths.py --exe PATH [--oven PATH] [--types PATH]
 
@@ -290,6 +291,35 @@ def tell(types, place, shim, templates, told):
     return passed, failed + unmet(told, ends, [(0, "types that are told"), (5, "types without memory")])
 
 
+def growths(exe, path, shim, lines):
+    """How many growths a run makes, at most 8,191."""
+    low, high = 0, 8192
+    while high - low > 1:
+        number = (low + high) // 2
+        low, high = (number, high) if refused(shim, number, [exe, path], lines)[1] else (low, number)
+    return low
+
+
+def edit(exe, place, shim):
+    """Whether an edit takes as many growths whether few of its members stay or many, so that it copies none of their states."""
+    path = os.path.join(place, "network")
+    counts = []
+    for count in (5, 45):
+        members = "empty Int Int"
+        for key in range(count):
+            members = f"add({members}, {key}, (iPre 0 >>> iPre 0))"
+        with open(path, "w") as file:
+            file.write("network 2;\ntemplate main(): (Int, Event Int) ~> Int = (rpSwitchB(")
+            file.write(f"{members}, ks, k => drop(add(use ks, (k + 100), (iPre 0 >>> iPre 0)), (k + 99))) >>> arr t => size(t));\n")
+        runs = [b"0 (1,none)\n" + b"".join(b"5 (1,event %d)\n" % number for number in range(edits)) for edits in (2, 3)]
+        fewer, more = (growths(exe, path, shim, lines) for lines in runs)
+        counts.append(more - fewer)
+    well = 0 < counts[0] == counts[1]
+    if not well:
+        print(f"an edit where 5 and 45 members stay takes {counts[0]} and {counts[1]} growths")
+    return well, not well
+
+
 def built(place, name):
     """A library of rows/, to be loaded before the C library."""
     shim = os.path.join(place, f"{name}.so")
@@ -308,6 +338,7 @@ def main():
         exe = os.path.abspath(options.exe)
         counts = [play(exe, place, shim, *run, *mode) for run in RUNS for mode in ([], ["--plain"])]
         counts += [write(exe, place, shim, "--check", "ok\n"), write(exe, place, shim, "--dump", many())]
+        counts.append(edit(exe, place, shim))
         counts.append(bake(os.path.abspath(options.oven), shim))
         counts += [tell(os.path.abspath(options.types), place, shim, *unfit) for unfit in UNFIT]
         counts.append(fail(exe, place, built(place, "failed_call"), *next(run for run in RUNS if "rpSwitchB" in run[0])))

@@ -18,10 +18,9 @@ HERE = os.path.dirname(os.path.abspath(__file__))
 TOP = os.path.join(HERE, "..")
 CRATES = "# lowest first\nlow: thiserror\nhigh: low\nsfplay: high clap\nsftypes: high\napart: low\n"
 PROVED = [f"sfplay: proving {crate}, {left} of 3 left\n" for crate, left in (("low", 3), ("high", 2), ("sfplay", 1))]
-CALLED = ["lib", "lib", "check", "run", "run"]
 BUILT = "".join(PROVED) + "sfplay: building the program\n"
-# It notes each call, proves each crate but the one that the file `broken` names, and builds the program below, or tries it. A proof of a
-# library or a try goes on as long as the file `lib` or `try` is there.
+# It notes each call, proves all crates but the one that the file `broken` names, and builds the program below, or tries it. A proof or a
+# try goes on as long as the file `all` or `try` is there.
 RT = """#!/bin/sh
 echo "$*" >> "$TOP/calls"
 broken=$(cat "$TOP/broken" 2> /dev/null)
@@ -37,8 +36,13 @@ if [ "$1" = try ]; then
     status=$?
     printf 'checked: ended status=%s\nrun=ended status=%s runners=1 proved=no\n' $status $status >&2
     exit $status
-elif [ "$1" = lib ] || [ "$1" = check ]; then
-    [ "${PWD##*/}" != "$broken" ] || { echo 'why not'; exit 1; }
+elif [ "$1" = all ]; then
+    for crate in low high sfplay; do
+        sleep 0.1
+        echo "== $crate"
+        [ "$crate" = "$broken" ] && printf 'why not\\n== summary\\n%s: failed (1)\\n' "$crate" && exit 1
+    done
+    echo "== summary"
 else
     mkdir -p out
     if [ "${PWD##*/}" = sftypes ]; then
@@ -128,7 +132,7 @@ class Repository:
 
 def first_and_second(at):
     yield "the first run builds", at.prove() == (PLAYED, BUILT, 3)
-    yield "it has all crates proved, and the program built", at.calls() == CALLED
+    yield "it has all crates proved, and the program built", at.calls() == ["all", "run", "run"]
     os.symlink(at.path("sfplay"), at.path("bin/linked"))
     yield "the second only plays", at.play() == (PLAYED, "", 3)
     yield "so does a link to it", at.play(program=at.path("bin/linked")) == (PLAYED, "", 3)
@@ -166,7 +170,7 @@ def two_at_once(at):
     players = [at.start(*words), at.start(*words)]
     played = [player.communicate("0 1\n") for player in players]
     yield "both play", [output for output, _ in played] == [PLAYED, PLAYED]
-    yield "one builds", at.calls() == CALLED
+    yield "one builds", at.calls() == ["all", "run", "run"]
 
 
 def while_it_is_tried(at):
@@ -179,11 +183,11 @@ def while_it_is_tried(at):
 
 
 def while_it_is_built(at):
-    at.write("lib", "")
+    at.write("all", "")
     builder = at.start("--prove")
     at.wait_for("calls")
     yield "a run is answered from the sources", at.play() == (TRIED, NOT_PROVED, 3)
-    os.remove(at.path("lib"))
+    os.remove(at.path("all"))
     builder.communicate()
     yield "and by the program then", at.play() == (PLAYED, "", 3)
 
@@ -192,7 +196,7 @@ def not_proved(at):
     at.write("broken", "high")
     output, errors, status = at.prove()
     yield "nothing is played", (output, status) == ("", 1)
-    yield "the crate is named", "sfplay: high is not proved; " in errors and errors.endswith(":\nwhy not\n")
+    yield "the crate is named", "sfplay: high is not proved; " in errors and errors.endswith("== high\nwhy not\n")
     os.remove(at.path("broken"))
     yield "mended, it plays", at.prove() == (PLAYED, BUILT, 3)
 

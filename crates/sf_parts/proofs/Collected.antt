@@ -89,7 +89,7 @@ module _ (φ : AnswersByName) (p : Plan) (names : Env) (e : Environment) (N : Is
 
 -- ## The members whose keys a function keeps
 
-same_answer : {A : Type 0} (w : Evaluated A) → w ≡ (w >>= λ a. answer a)
+pub same_answer : {A : Type 0} (w : Evaluated A) → w ≡ (w >>= λ a. answer a)
 same_answer (answer a) = refl
 same_answer (failed x) = refl
 
@@ -97,7 +97,7 @@ answers_twice : {A B C : Type 0} (w : Evaluated A) (f : A → B) (g : B → C) �
 answers_twice (answer a) f g = refl
 answers_twice (failed x) f g = refl
 
-answers_alike : {A B : Type 0} (w : Evaluated A) (f g : A → B) → ((a : A) → f a ≡ g a) → (w >>= λ a. answer (f a)) ≡ (w >>= λ a. answer (g a))
+pub answers_alike : {A B : Type 0} (w : Evaluated A) (f g : A → B) → ((a : A) → f a ≡ g a) → (w >>= λ a. answer (f a)) ≡ (w >>= λ a. answer (g a))
 answers_alike (answer a) f g h = ap answer (h a)
 answers_alike (failed x) f g h = refl
 
@@ -115,11 +115,11 @@ followed_by_none : (ms : Members) → followed ms no_members ≡ ms
 followed_by_none no_members = refl
 followed_by_none (member k P ms) = ap (member k P) (followed_by_none ms)
 
-followed_by_one : (ms : Members) (k : KeyData) (P : Process) (ns : Members) → followed ms (member k P ns) ≡ followed (ended_by ms k P) ns
+pub followed_by_one : (ms : Members) (k : KeyData) (P : Process) (ns : Members) → followed ms (member k P ns) ≡ followed (ended_by ms k P) ns
 followed_by_one no_members k P ns = refl
 followed_by_one (member l Q ms) k P ns = ap (member l Q) (followed_by_one ms k P ns)
 
-keys_ended : (ms : Members) (k : KeyData) (P : Process) → keys_in (ended_by ms k P) ≡ keys_in ms ++ k ∷ []
+pub keys_ended : (ms : Members) (k : KeyData) (P : Process) → keys_in (ended_by ms k P) ≡ keys_in ms ++ k ∷ []
 keys_ended no_members k P = refl
 keys_ended (member l Q ms) k P = ap (λ ks. l ∷ ks) (keys_ended ms k P)
 
@@ -166,7 +166,7 @@ module _ (φ : AnswersByName) (p : Plan) (w : Option ℕ) where
     Told k r = Makes (λ b v. b ≡ is_high v) (ask (value_of_key k)) r
 
     -- the first that comes next, with what it tells
-    asked_one : (k : KeyData) (P : Process) (rest done : Members) (v : Data) → ask (value_of_key k) ≡ answer v
+    pub asked_one : (k : KeyData) (P : Process) (rest done : Members) (v : Data) → ask (value_of_key k) ≡ answer v
         → (keep ask (member k P rest) >>= λ ns. answer (followed done ns)) ≡ (keep ask rest >>= λ ns. answer (followed done (cond (is_high v) (member k P ns) ns)))
     asked_one k P rest done v h =
         ap (λ w. (w >>= λ b. keep ask rest >>= λ ns. answer (cond (is_high b) (member k P ns) ns)) >>= λ ns. answer (followed done ns)) h

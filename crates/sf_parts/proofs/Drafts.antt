@@ -1,29 +1,31 @@
 -- Members of an edit, by the changes of a list.
-use Rattle.std.proofs.Common.{◌≡◌, ℕ, zero, suc, Bool, true, false, cond, List, [], ◌∷◌, ◌++◌, Option, Some, None, Result, Ok, Err, set, refl, sym, ap, ◌∙◌, subst}
+use Rattle.std.proofs.Common.{◌≡◌, ℕ, zero, suc, ◌+◌, ◌≤◌, ◌<◌, Bool, true, false, cond, List, [], ◌∷◌, ◌++◌, length, get_or, Option, Some, None, Result, Ok, Err, set, refl, sym, ap, ◌∙◌, subst, arith}
+use Rattle.std.proofs.lemmas.List.{length-append}
 use Rattle.std.specs.Prelude.{IfOk, IfSome}
 use Rattle.std.specs.List.{remove}
 use Rattle.sf_value.specs.Values.{KeyData, Data}
 use Rattle.sf_value.specs.Keys.{key_index}
 use Rattle.sf_func.specs.Registries.{AnswersByName}
+use Rattle.sf_operator.specs.FunctionForms.{value_of_key}
 use Rattle.sf_expr.specs.Expressions.{Expression}
 use Rattle.sf_expr.specs.Evaluation.{Evaluated, answer, ◌>>=◌, eval}
-use Rattle.sf_mean.specs.Lives.{Process, closure, Environment, Members, scope_around}
+use Rattle.sf_mean.specs.Lives.{Process, closure, Environment, Members, no_members, member, scope_around}
 use Rattle.sf_mean.specs.Formulas.{is_high}
-use Rattle.sf_mean.specs.Collections.{as_key, add, drop as drop_members}
+use Rattle.sf_mean.specs.Collections.{as_key, add, drop as drop_members, keep}
 use Rattle.sf_term.specs.Trees.{Term}
 use Rattle.sf_law.specs.declared.plan.Plan.{Plan}
 use Rattle.sf_state.specs.declared.state.State.{State}
 use Rattle.sf_state.specs.declared.state.Gathered.{Gathered}
 use Rattle.sf_state.specs.declared.env.Env.{Env}
 use Rattle.sf_state.specs.Held.{Holding}
-use Rattle.sf_state.specs.Standing.{IsNames, Stands, Gathers, gathers, EachStands, AllFollow, none_follow, more_follow}
+use Rattle.sf_state.specs.Standing.{IsNames, Stands, Gathers, gathers, EachStands, one_stands, AllFollow, none_follow, more_follow, keys_in}
 use Rattle.sf_parts.specs.declared.drafting.Change.{Change}
 use Rattle.sf_parts.specs.declared.drafting.Change.TheVariants.{Put, Add, Take}
 use Rattle.sf_parts.specs.declared.drafting.Draft.{Draft}
 use Rattle.sf_parts.specs.Beginning.{Makes, makes}
 use Rattle.sf_parts.specs.Drafting.{change_one, all_changed, laid_over, drafted, frozen_over, Lays}
 use Rattle.sf_parts.proofs.Places.{among_new, put_at, put_last, take_at_key, none_to_drop}
-use Rattle.sf_parts.proofs.Collected.{goes_on, worth_in, scope_in}
+use Rattle.sf_parts.proofs.Collected.{goes_on, worth_in, scope_in, same_answer, answers_alike, followed, ended_by, followed_by_one, keys_ended, asked_one}
 
 -- one more change comes last
 pub changed_more : {A : Type 0} (worth : State → A) (cs : List Change) (c : Change) (xs : List A) → all_changed worth (cs ++ c ∷ []) xs ≡ change_one worth c (all_changed worth cs xs)
@@ -108,6 +110,111 @@ module _ (φ : AnswersByName) (p : Plan) (bs : List State) (w : Option ℕ) wher
     -- one less
     pub laid_dropped : held x (drop_members k ms) → Lays φ p (eval j (scope_around φ e) >>= λ v. answer (drop_members (as_key v) ms)) (laid_over bs w x)
     laid_dropped G = goes_on stands (eval j (scope_around φ e)) (λ v. answer (drop_members (as_key v) ms)) v (Ok (laid_over bs w x)) (worth_in φ p names e N (eval j) v h) (makes refl (subst (λ k. held x (drop_members k ms)) same G))
+
+-- ## The members whose keys a function keeps
+
+-- those before one, and those after it
+keys_removed : (done : Members) (l : KeyData) (P : Process) (rest : Members) → remove (keys_in (followed done (member l P rest))) (length (keys_in done)) ≡ keys_in (followed done rest)
+keys_removed no_members l P rest = refl
+keys_removed (member k Q done) l P rest = ap (λ ks. k ∷ ks) (keys_removed done l P rest)
+
+key_between : (done : Members) (l : KeyData) (P : Process) (rest : Members) (k : KeyData) → get_or (keys_in (followed done (member l P rest))) (length (keys_in done)) k ≡ l
+key_between no_members l P rest k = refl
+key_between (member m Q done) l P rest k = key_between done l P rest k
+
+as_many_keys : (done next : Members) → length (keys_in (followed done next)) ≡ length (keys_in done) + length (keys_in next)
+as_many_keys no_members next = omega arith
+as_many_keys (member k Q done) next = let more = as_many_keys done next in omega (arith, more)
+
+module _ (φ : AnswersByName) (p : Plan) (bs : List State) (w : Option ℕ) (ask : Data → Evaluated Data) (ms : Members) where
+  each_removed : (done : Members) (l : KeyData) (P : Process) (rest : Members) {cs : List State} → EachStands φ p w cs (followed done (member l P rest)) [] → EachStands φ p w (remove cs (length (keys_in done))) (followed done rest) []
+  each_removed no_members l P rest (one_stands A S) = S
+  each_removed (member k Q done) l P rest (one_stands A S) = one_stands A (each_removed done l P rest S)
+
+  abbrev Goes : Members → Members → Type 0
+  Goes done next = keep ask ms ≡ (keep ask next >>= λ ns. answer (followed done ns))
+
+  -- what is told of a key
+  abbrev pub KeyTold : KeyData → Bool → Type 0
+  KeyTold k b = Makes (λ b v. b ≡ is_high v) (ask (value_of_key k)) (Ok b)
+
+  -- The keys before a place have been asked for, and are kept; the others come next.
+  pub record LeftOver (left : Draft) (at : ℕ) : Type 0 where
+    pub done : Members
+    pub next : Members
+    pub is_at : length (keys_in done) ≡ at
+    pub stand : Gathers φ p (laid_over bs w left) (followed done next) []
+    pub goes : Goes done next
+
+  -- no key has been asked for
+  pub all_next : (left : Draft) → Gathers φ p (laid_over bs w left) ms [] → LeftOver left 0
+  all_next left G = record { done = no_members; next = ms; is_at = refl; stand = G; goes = same_answer (keep ask ms) }
+
+  one_stays : (left : Draft) (at : ℕ) (done : Members) (l : KeyData) (P : Process) (rest : Members) → length (keys_in done) ≡ at → Gathers φ p (laid_over bs w left) (followed done (member l P rest)) [] → Goes done (member l P rest) → KeyTold l true → LeftOver left (at + 1)
+  one_stays left at done l P rest is_at G goes (makes {b = v} h told) =
+      let long = length-append (keys_in done) (l ∷ []) in
+      let more : length (keys_in (ended_by done l P)) ≡ length (keys_in done ++ l ∷ []) = ap length (keys_ended done l P) in
+      record {
+        done = ended_by done l P;
+        next = rest;
+        is_at = omega (arith, is_at, long, more);
+        stand = subst (λ ns. Gathers φ p (laid_over bs w left) ns []) (followed_by_one done l P rest) G;
+        goes = goes ∙ asked_one φ p w ask ms l P rest done v h
+            ∙ answers_alike (keep ask rest) (λ ns. followed done (cond (is_high v) (member l P ns) ns)) (followed (ended_by done l P)) (λ ns. ap (λ b. followed done (cond b (member l P ns) ns)) (sym told) ∙ followed_by_one done l P ns);
+      }
+
+  one_goes : (left less : Draft) (at : ℕ) (done : Members) (l : KeyData) (P : Process) (rest : Members) → length (keys_in done) ≡ at → less.keys ≡ remove left.keys at → less.changes.items ≡ left.changes.items ++ Take at ∷ []
+      → Gathers φ p (laid_over bs w left) (followed done (member l P rest)) [] → Goes done (member l P rest) → KeyTold l false → LeftOver less at
+  one_goes left less at done l P rest is_at keys taken (gathers K S) goes (makes {b = v} h told) =
+      let cs = all_changed (λ a. a) left.changes.items bs in
+      let S' = subst (λ i. EachStands φ p w (remove cs i) (followed done rest) []) is_at (each_removed done l P rest S) in
+      record {
+        done = done;
+        next = rest;
+        is_at = is_at;
+        stand = gathers (keys ∙ ap (λ ks. remove ks at) K ∙ ap (remove (keys_in (followed done (member l P rest)))) (sym is_at) ∙ keys_removed done l P rest)
+            (stand_as φ p bs w (ap (λ (cs : List Change). all_changed (λ a. a) cs bs) taken ∙ changed_more (λ a. a) left.changes.items (Take at) bs) S');
+        goes = goes ∙ asked_one φ p w ask ms l P rest done v h
+            ∙ answers_alike (keep ask rest) (λ ns. followed done (cond (is_high v) (member l P ns) ns)) (followed done) (λ ns. ap (λ b. followed done (cond b (member l P ns) ns)) (sym told));
+      }
+
+  -- the key at the place is kept, or its member is taken out
+  module _ (left : Draft) (at : ℕ) (k : KeyData) (O : LeftOver left at) (short : at < length left.keys) (is : k ≡ get_or left.keys at k) where
+    key_is : (l : KeyData) (P : Process) (rest : Members) → left.keys ≡ keys_in (followed O.done (member l P rest)) → k ≡ l
+    key_is l P rest K = is ∙ ap (λ ks. get_or ks at k) K ∙ ap (λ i. get_or (keys_in (followed O.done (member l P rest))) i k) (sym O.is_at) ∙ key_between O.done l P rest k
+
+    too_short : left.keys ≡ keys_in (followed O.done no_members) → ⊥
+    too_short K =
+        let long = as_many_keys O.done no_members in
+        let same : length left.keys ≡ length (keys_in (followed O.done no_members)) = ap length K in
+        let at_done = O.is_at in
+        absurd (omega (arith, short, long, same, at_done))
+
+    pub kept_on : KeyTold k true → LeftOver left (at + 1)
+    kept_on told = by O.next O.stand O.goes
+      where
+        by : (next : Members) → Gathers φ p (laid_over bs w left) (followed O.done next) [] → Goes O.done next → LeftOver left (at + 1)
+        by no_members (gathers K S) goes = absurd (too_short K)
+        by (member l P rest) (gathers K S) goes = one_stays left at O.done l P rest O.is_at (gathers K S) goes (subst (λ k. KeyTold k true) (key_is l P rest K) told)
+
+    pub taken_out : (less : Draft) → less.keys ≡ remove left.keys at → less.changes.items ≡ left.changes.items ++ Take at ∷ [] → KeyTold k false → LeftOver less at
+    taken_out less keys taken told = by O.next O.stand O.goes
+      where
+        by : (next : Members) → Gathers φ p (laid_over bs w left) (followed O.done next) [] → Goes O.done next → LeftOver less at
+        by no_members (gathers K S) goes = absurd (too_short K)
+        by (member l P rest) (gathers K S) goes = one_goes left less at O.done l P rest O.is_at keys taken (gathers K S) goes (subst (λ k. KeyTold k false) (key_is l P rest K) told)
+
+  -- all have been asked for
+  pub all_left : (left : Draft) (at : ℕ) → LeftOver left at → length left.keys ≤ at → Lays φ p (keep ask ms) (laid_over bs w left)
+  all_left left at O far = by O.next O.stand O.goes
+    where
+      by : (next : Members) → Gathers φ p (laid_over bs w left) (followed O.done next) [] → Goes O.done next → Lays φ p (keep ask ms) (laid_over bs w left)
+      by no_members G goes = makes goes G
+      by (member l P rest) (gathers K S) goes =
+          let long = as_many_keys O.done (member l P rest) in
+          let same : length left.keys ≡ length (keys_in (followed O.done (member l P rest))) = ap length K in
+          let at_done = O.is_at in
+          absurd (omega (arith, far, long, same, at_done))
 
 -- one of two, by a condition
 module _ (φ : AnswersByName) (p : Plan) (W : Evaluated Data) (first second : Evaluated Members) (b : Bool) (h : Holding) where

@@ -153,8 +153,8 @@ fn keep_members<R: Holds>(
     Ok(Gathered { keys, states, wait })
 }
 
-// Whether a function keeps a key, over the value of the names around it.
-fn is_kept<R: Holds>(
+/// Whether a function keeps a key, over the value of the names around it.
+pub(crate) fn is_kept<R: Holds>(
     context: &SampleContext<R>,
     key: &Key,
     code: &Code,

@@ -1,14 +1,16 @@
 //! The members that an edit makes of those that run: what changes in their list.
-ghost use Rattle.std.specs.Prelude.{◌≡◌, [], ℕ, List, Option, false, IsTrue, IfOk, IfSome};
+ghost use Rattle.std.specs.Prelude.{◌≡◌, [], ◌∷◌, ◌++◌, ℕ, List, Option, false, IsTrue, IfOk, IfSome, OnOk};
+ghost use Rattle.std.specs.List.{remove};
 ghost use Rattle.sf_value.specs.Values.{Data};
 ghost use Rattle.sf_value.specs.View.{key_of};
 ghost use Rattle.sf_func.specs.Registries.{AnswersByName};
 ghost use Rattle.sf_expr.specs.Arena.{placed_at, name_at};
-ghost use Rattle.sf_expr.specs.Expressions.{Expression};
+ghost use Rattle.sf_expr.specs.Evaluation.{apply as applied};
+ghost use Rattle.sf_expr.specs.Expressions.{Expression, Function};
 ghost use Rattle.sf_expr.specs.Patterns.{pattern_of};
-ghost use Rattle.sf_code.specs.Worth.{IsCodeOf};
-ghost use Rattle.sf_mean.specs.Lives.{Environment, Process as ProcessOf, Members, bind, collected as collected_in, members_of};
-ghost use Rattle.sf_mean.specs.Collections.{add, drop as without, collect as collected};
+ghost use Rattle.sf_code.specs.Worth.{IsCodeOf, IsCodeOfFunction};
+ghost use Rattle.sf_mean.specs.Lives.{Environment, Process as ProcessOf, Members, bind, collected as collected_in, members_of, scope_around};
+ghost use Rattle.sf_mean.specs.Collections.{add, drop as without, keep, collect as collected};
 ghost use Rattle.sf_law.specs.declared.plan.Plan.{Plan as PlanOf};
 ghost use Rattle.sf_law.specs.Arena.{plan_collection, plan_expressions, plan_tree};
 ghost use Rattle.sf_law.specs.Entries.{IsCodedCollection};
@@ -18,15 +20,18 @@ ghost use Rattle.sf_parts.specs.Contexts.{plan_in, dt_in};
 ghost use Rattle.sf_parts.specs.Collecting.{added_under, dropped_under};
 ghost use Rattle.sf_parts.specs.Drafting.{laid_over, drafted, frozen_over, around_edit, Lays};
 
-use crate::collecting::{as_key, is_met};
+use crate::collecting::{as_key, is_kept, is_met};
 use crate::context::{SampleContext, constant_in, fault_of};
 use sf_code::OpenCode;
 use sf_expr::{NameId, Pat, PatForm, PatternId};
 use sf_func::Holds;
 use sf_law::{Plan, PlanCollection, PlanId};
-use sf_state::{Editing, Env, Gathered, Process, State};
+use sf_state::{Editing, Env, Gathered, NamesIn, Process, State};
 use sf_value::{Fault, Key, Keys};
 use std::alloc::{AllocError, Global};
+
+// so many changes of a list are made one by one
+const MOST_CHANGES: usize = 64;
 
 /// A change in the list of members.
 #[derive(Drop)]
@@ -48,8 +53,8 @@ pub struct Draft {
     pub changes: Vec<Change>,
 }
 
-/// The members that an edit makes of those that run, with these names around it. None where it takes other members, or chooses
-/// some by their keys; an error where it has a fault, or for want of memory.
+/// The members that an edit makes of those that run, with these names around it. None where it takes other members, or leaves out
+/// many by their keys; an error where it has a fault, or for want of memory.
 #[cold]
 #[inline(never)]
 pub fn draft_of<R: Holds>(
@@ -88,7 +93,11 @@ pub fn draft_of<R: Holds>(
                 draft_of(context, editing, second, names)
             }
         }
-        PlanCollection::Empty(_, _) | PlanCollection::Kept(_, _, _) => Ok(None),
+        PlanCollection::Kept(all, _, code) => match draft_of(context, editing, all, names)? {
+            Some(made) => without_unkept(context, made, code, names),
+            None => Ok(None),
+        },
+        PlanCollection::Empty(_, _) => Ok(None),
     }
 }
 
@@ -169,6 +178,47 @@ fn without_dropped<R: Holds>(
         }
         Err(fault) => Err(fault_of(fault)),
     }
+}
+
+// Members without those whose keys a function doesn't keep, which it is asked in order. None where they get many changes, since
+// each of these moves all that stand behind it.
+fn without_unkept<R: Holds>(
+    context: &SampleContext<R>,
+    made: Draft,
+    code: &OpenCode,
+    names: &Env,
+) -> Result<Option<Draft>, Fault>
+    ensures { let φ = R.answers context.now.functions.now in let p = plan_in context.now in
+        IfOk result (λ o. IfSome o (λ left. (f : Function) (e : Environment) (bs : List StateOf) (w : Option ℕ) (ms : Members) → IsCodeOfFunction (plan_expressions p) f code.now → IsNames φ p names.now e → Gathers φ p (laid_over bs w made) ms [] →
+        Lays φ p (keep (λ x. applied f x (scope_around φ e)) ms) (laid_over bs w left))) }
+{
+    let plan = context.plan;
+    let around = code.frame(context.alloc, &NamesIn { plan, names })?;
+    let frame = &around;
+    let mut left = made;
+    let mut at = 0;
+    while at < left.keys.len() {
+        let key = &left.keys.all()[at];
+        let stays = is_kept(context, key, &code.code, frame)?;
+        if stays {
+            at += 1;
+        } else if left.changes.len() < MOST_CHANGES {
+            take(&mut left, at)?;
+        } else {
+            return Ok(None);
+        }
+    }
+    Ok(Some(left))
+}
+
+// Takes the member at a place out.
+fn take(left: &mut Draft, at: usize) -> Result<(), AllocError>
+    ensures keys { OnOk result (left.new.keys ≡ remove left.old.keys at) }
+    ensures changes { OnOk result (left.new.changes.items ≡ left.old.changes.items ++ Change.Take at ∷ []) }
+{
+    left.keys.remove(at);
+    left.changes.push(Change::Take(at))?;
+    Ok(())
 }
 
 // Members with one that begins: at the end, or in the place of the one under its key.

@@ -81,6 +81,21 @@ impl Meter {
         }
     }
 
+    /// It is at zero again, without readings.
+    #[tactic(auto, unfolding(crate::specs::Meters::readings))]
+    #[inline(always)]
+    pub fn reset(&mut self, alloc: Global)
+        ensures entered { entered_of self.new ≡ 0 }
+        ensures height { height_of self.new ≡ 0 }
+        ensures readings { recorded_in self.new ≡ [] }
+    {
+        self.entered = 0;
+        self.height = 0;
+        if !self.readings.is_empty() {
+            self.readings = Readings::new(alloc);
+        }
+    }
+
     /// How many nodes the sample entered.
     pub fn entered(&self) -> u64
         ensures count { result ≡ entered_of self.now }

@@ -9,5 +9,5 @@ pub use env::{Binding, Call, Collected, Env, Given, Handed, NamesIn, Running};
 pub use feedback::Feedback;
 pub use state::{
     Editing, Frozen, Gathered, Gathering, Keeping, Kept, Live, Process, Releasing, State, Switch,
-    Wrap, hold_back_members, own_states, unshare_states,
+    Wrap, hold_back_members, own_states,
 };

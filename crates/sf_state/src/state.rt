@@ -917,29 +917,6 @@ pub fn own_states(alloc: Global, states: Rc<Vec<State>>) -> Result<Vec<State>, A
     }
 }
 
-/// Makes the list of members its owner's alone: where it is shared, one over the same nodes takes its place, and the other
-/// owners keep the list. After an error, which is a want of memory, it is shared as before.
-#[inline(always)]
-pub fn unshare_states(alloc: Global, states: &mut Rc<Vec<State>>) -> Result<(), AllocError>
-    ensures { (φ : AnswersByName) (p : Plan) → AllFollow φ p states.old.value.items states.new.value.items }
-{
-    if Rc::strong_count(states) == 1 {
-        return Ok(());
-    }
-    put_list(alloc, states)
-}
-
-// Puts a list over the same nodes in the place of a list.
-#[cold]
-#[inline(never)]
-fn put_list(alloc: Global, states: &mut Rc<Vec<State>>) -> Result<(), AllocError>
-    ensures { (φ : AnswersByName) (p : Plan) → AllFollow φ p states.old.value.items states.new.value.items }
-{
-    let all = share_all(alloc, &***states)?;
-    *states = Rc::new(alloc, all)?;
-    Ok(())
-}
-
 impl Wrap {
     ghost use Rattle.sf_term.specs.Trees.{Term};
     ghost use Rattle.sf_mean.specs.Meaning.{Network, Made};

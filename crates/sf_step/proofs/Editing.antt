@@ -262,7 +262,7 @@ module _ (φ : AnswersByName) (p : Plan) where
     made_so : {r : Result Holding Fault} → made ≡ r → IsMadeAs made → IsMadeAs r
     made_so same hm = subst IsMadeAs same hm
 
-    fails_so : {f : Fault} {n n' : Meter} → IsMadeAs made → EditSteps φ p k.members made k.shown (step d i) (Err f) n n' inside
+    fails_so : {f : Fault} {n n' : Meter} → IsMadeAs made → EditSteps φ p (held_in k.members) made k.shown (step d i) (Err f) n n' inside
         → (m : Meter) (depth : ℕ) → Ticks m n depth inside → (t : Term) (e : Environment) (L : Life) → IsNames φ p names e → WaitsGathered φ p (Editing k) (closure t e) L → StopsFor (Gives net (closure t e) (step d x ∷ L)) f m n' depth
     fails_so hm (no_memory_before en hn) m depth T t e L N W = memory (ticked_within φ p T en hn)
     fails_so {f = f} {n = n} {n' = n'} hm (old_fails hs) m depth T t e L N W = old_fail names k d x i taken n n' inside f hs m depth T t e L N W
@@ -272,11 +272,11 @@ module _ (φ : AnswersByName) (p : Plan) where
     fails_so {f = f} {n = n} {n' = n'} hm (new_fails {a = a} {h = h} {y = y} {n = n1} hs same hb) m depth T t e L N W =
         new_stops names k d x i taken n n1 inside a y hs v some h (made_so same hm) n' f hb m depth T t e L N W
 
-    runs_so : {l : Gathered} {g : Data} {n n' : Meter} → IsMadeAs made → EditSteps φ p k.members made k.shown (step d i) (Ok (l, g)) n n' inside → (k' : EditingNode) → k' ≡ record { shown = k.shown; members = l; name = k.name; pattern = k.pattern; edit = k.edit }
+    runs_so : {l : Gathered} {g : Data} {n n' : Meter} → IsMadeAs made → EditSteps φ p (held_in k.members) made k.shown (step d i) (Ok (held_in l, g)) n n' inside → (k' : EditingNode) → k' ≡ record { shown = k.shown; members = l; name = k.name; pattern = k.pattern; edit = k.edit }
         → GatheringSteps φ p names (Editing k) (step d x) (Ok ((None, Editing k'), g)) n n' inside
     runs_so {l = l} {g = g} {n = n} {n' = n'} hm (new_run {a = a} {h = h} {y = y} {z = z} {n = n1} hs same hb shows) k' ek = new_runs_on names k d x i taken n n1 inside a y hs v some h (made_so same hm) n' l z g shows k' ek hb
 
     pub edit_answers : {A E : Type 0} (r : Result A E) (l : Gathered) (g : Data) (f : Fault) {n n' : Meter} → IsMadeAs made → (k' : EditingNode) → k' ≡ record { shown = k.shown; members = l; name = k.name; pattern = k.pattern; edit = k.edit }
-        → EditSteps φ p k.members made k.shown (step d i) (left_or r (l, g) f) n n' inside → GatheringSteps φ p names (Editing k) (step d x) (left_or r ((None, Editing k'), g) f) n n' inside
+        → EditSteps φ p (held_in k.members) made k.shown (step d i) (left_or r (held_in l, g) f) n n' inside → GatheringSteps φ p names (Editing k) (step d x) (left_or r ((None, Editing k'), g) f) n n' inside
     edit_answers (Ok u) l g f hm k' ek h = runs_so hm h k' ek
     edit_answers (Err q) l g f hm k' ek h = λ m depth T t e L N W. fails (fails_so hm h m depth T t e L N W)

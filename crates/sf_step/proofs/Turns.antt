@@ -31,10 +31,10 @@ use Rattle.sf_parts.specs.declared.turning.Noted.{Noted}
 use Rattle.sf_parts.specs.declared.meter.Meter.{Meter}
 use Rattle.sf_parts.specs.declared.meter.Spent.{Spent as SpentBetween}
 use Rattle.sf_parts.specs.Meters.{entered_of, height_of, readings}
-use Rattle.sf_parts.specs.Drafting.{change_one, all_changed, drafted, frozen_over}
+use Rattle.sf_parts.specs.Drafting.{change_one, all_changed, laid_over, frozen_over}
 use Rattle.sf_parts.specs.Answering.{Spent, large, memory, answers, fails, CountsAgain, repeated, too_often, not_repeated, left_or}
 use Rattle.sf_parts.proofs.Drafts.{follow_changes}
-use Rattle.sf_step.specs.Edits.{IsBetween, InTurn, left_noted, HaveStepped, all_stepped, one_stepped, later_stopped, one_stopped, no_memory_noted, HaveTurned, all_turned, stays_on, stays_before, stays_not, begins_on, begins_before, begins_not, HeldSteps, HeldStepsAfter, EditSteps}
+use Rattle.sf_step.specs.Edits.{IsBetween, InTurn, left_noted, HaveStepped, all_stepped, one_stepped, later_stopped, one_stopped, no_memory_noted, HaveTurned, all_turned, stays_on, stays_before, stays_not, begins_on, begins_before, begins_not, HeldSteps, HeldStepsAfter, EditSteps, new_fails, new_run}
 use Rattle.sf_step.specs.Sampling.{PartSteps, MemberSteps, MembersSteps, EachSteps}
 use Rattle.sf_step.proofs.Turning.{gone_on}
 use Rattle.sf_step.proofs.Parts.{single, same_once, spent_within, answered, failed}
@@ -444,31 +444,31 @@ module _ (φ : AnswersByName) (p : Plan) where
 
   -- ## A draft
 
-  module _ (g : Gathered) (bs : List State) (fs : AllFollow φ p g.states.value.items bs) (x : Draft) (d : ℕ) (i : Data) (inside : ℕ) (m n : Meter) (ds : List State) (ys : List Data) (gs : List Turn) (h : HaveStepped φ p g.wait (step d i) inside m bs (Ok (ds, (ys, gs))) n) where
+  module _ (g : Holding) (bs : List State) (fs : AllFollow φ p g.states bs) (x : Draft) (d : ℕ) (i : Data) (inside : ℕ) (m n : Meter) (ds : List State) (ys : List Data) (gs : List Turn) (h : HaveStepped φ p g.wait (step d i) inside m bs (Ok (ds, (ys, gs))) n) where
     -- the members that ran
-    pub old_step : HeldSteps φ p (held_in g) (step d i) (Ok (record { keys = g.keys.value; states = ds; wait = None }, table (rows_under g.keys.value ys))) m n inside
-    old_step = held_step (held_in g) d i m n inside ds ys (list_alike φ p fs (stepped_each φ p g.wait d i inside h))
+    pub old_step : HeldSteps φ p g (step d i) (Ok (record { keys = g.keys; states = ds; wait = None }, table (rows_under g.keys ys))) m n inside
+    old_step = held_step g d i m n inside ds ys (list_alike φ p fs (stepped_each φ p g.wait d i inside h))
 
     abbrev pub NewTurns : Result (List State × List Data) Fault → Meter → Type 0
     NewTurns r l = HaveTurned φ p (unwrap_or g.wait d) d inside n (all_changed (λ a. a) x.changes.items ds) (all_changed (λ a. i) x.changes.items ys) (all_changed (λ a. Begins) x.changes.items gs) r l
 
     -- those of the edit
     pub new_step : (es : List State) (zs : List Data) (ks : List KeyData) (l : Meter) → ks ≡ x.keys → NewTurns (Ok (es, zs)) l
-        → HeldStepsAfter φ p (held_in g) m (drafted g d x) (step d i) (Ok (record { keys = ks; states = es; wait = None }, table (rows_under ks zs))) n l inside
+        → HeldStepsAfter φ p g m (laid_over g.states (Some (unwrap_or g.wait d)) x) (step d i) (Ok (record { keys = ks; states = es; wait = None }, table (rows_under ks zs))) n l inside
     new_step es zs ks l same t low ms L (gathers K S) =
         let T = noted_turns φ p g.wait d i inside h (each_follows φ p fs S) in
         let steps = turned_each φ p g.wait d i inside (grown_none n) (changed_turns φ p g.wait d i inside x.changes.items T.1) t in
-        subst (λ (ks : List KeyData). HeldSteps φ p (drafted g d x) (step d i) (Ok (record { keys = ks; states = es; wait = None }, table (rows_under ks zs))) n l inside) (sym same)
-        (held_step (drafted g d x) d i n l inside es zs (list_alike φ p (follow_changes φ p x.changes.items fs) steps))
+        subst (λ (ks : List KeyData). HeldSteps φ p (laid_over g.states (Some (unwrap_or g.wait d)) x) (step d i) (Ok (record { keys = ks; states = es; wait = None }, table (rows_under ks zs))) n l inside) (sym same)
+        (held_step (laid_over g.states (Some (unwrap_or g.wait d)) x) d i n l inside es zs (list_alike φ p (follow_changes φ p x.changes.items fs) steps))
 
-    pub new_stop : (f : Fault) (l : Meter) → NewTurns (Err f) l → HeldStepsAfter φ p (held_in g) m (drafted g d x) (step d i) (Err f) n l inside
+    pub new_stop : (f : Fault) (l : Meter) → NewTurns (Err f) l → HeldStepsAfter φ p g m (laid_over g.states (Some (unwrap_or g.wait d)) x) (step d i) (Err f) n l inside
     new_stop f l t low ms L (gathers K S) =
         let T = noted_turns φ p g.wait d i inside h (each_follows φ p fs S) in
         let steps = turned_fails φ p g.wait d i inside (grown_none n) (changed_turns φ p g.wait d i inside x.changes.items T.1) t in
-        held_stop (drafted g d x) d i n l inside f (list_alike φ p (follow_changes φ p x.changes.items fs) steps)
+        held_stop (laid_over g.states (Some (unwrap_or g.wait d)) x) d i n l inside f (list_alike φ p (follow_changes φ p x.changes.items fs) steps)
 
-    pub new_end : (es : List State) (zs : List Data) (l l2 : Meter) → entered_of l2 ≡ entered_of l → height_of l2 ≡ height_of l → NewTurns (Ok (es, zs)) l → HeldStepsAfter φ p (held_in g) m (drafted g d x) (step d i) (Err Memory) n l2 inside
-    new_end es zs l l2 en hn t low ms L G = held_end (drafted g d x) _ (step d i) _ n l l2 inside en hn (new_step es zs x.keys l refl t low ms L G)
+    pub new_end : (es : List State) (zs : List Data) (l l2 : Meter) → entered_of l2 ≡ entered_of l → height_of l2 ≡ height_of l → NewTurns (Ok (es, zs)) l → HeldStepsAfter φ p g m (laid_over g.states (Some (unwrap_or g.wait d)) x) (step d i) (Err Memory) n l2 inside
+    new_end es zs l l2 en hn t low ms L G = held_end (laid_over g.states (Some (unwrap_or g.wait d)) x) _ (step d i) _ n l l2 inside en hn (new_step es zs x.keys l refl t low ms L G)
 
 -- ## Values that don't show again
 
@@ -552,7 +552,7 @@ shows_so w y v None worth us vs h same e = e ∙ ap worth (same refl) ∙ h (wor
 module _ (φ : AnswersByName) (p : Plan) where
   -- ## Their turns, as they were made
 
-  module _ (g : Gathered) (bs : List State) (x : Draft) (d : ℕ) (i : Data) (inside : ℕ) (m n : Meter) (ds : List State) (ys os : List Data) (gs : List Turn) (h : HaveStepped φ p g.wait (step d i) inside m bs (Ok (ds, (ys, gs))) n) (long : length os ≡ length ys) where
+  module _ (g : Holding) (bs : List State) (x : Draft) (d : ℕ) (i : Data) (inside : ℕ) (m n : Meter) (ds : List State) (ys os : List Data) (gs : List Turn) (h : HaveStepped φ p g.wait (step d i) inside m bs (Ok (ds, (ys, gs))) n) (long : length os ≡ length ys) where
     agreeing : Agree (all_changed (λ a. Begins) x.changes.items gs) (all_changed (λ a. i) x.changes.items os) (all_changed (λ a. i) x.changes.items ys)
     agreeing = agree_all i x.changes.items (first_agree os h long)
 
@@ -589,10 +589,16 @@ changed_long worth other (c ∷ cs) xs ys e = changed_long worth other cs (chang
 
 -- ## Exits
 
-pub edit_stopped : {φ : AnswersByName} {p : Plan} {g : Gathered} {made : Result Holding Fault} {w : Observation} {s : Step} {m n : Meter} {inside : ℕ} {e f : Fault} → f ≡ e → EditSteps φ p g made w s (Err e) m n inside → EditSteps φ p g made w s (Err f) m n inside
+pub edit_stopped : {φ : AnswersByName} {p : Plan} {g : Holding} {made : Result Holding Fault} {w : Observation} {s : Step} {m n : Meter} {inside : ℕ} {e f : Fault} → f ≡ e → EditSteps φ p g made w s (Err e) m n inside → EditSteps φ p g made w s (Err f) m n inside
 edit_stopped {φ} {p} {g} {made} {w} {s} {m} {n} {inside} same h = subst (λ (f : Fault). EditSteps φ p g made w s (Err f) m n inside) (sym same) h
 
-pub pass_edit : {φ : AnswersByName} {p : Plan} {g : Gathered} {made : Result Holding Fault} {w : Observation} {s : Step} {A E : Type 0} {m n : Meter} {inside : ℕ} {f : Fault} (r : Result A E) (y : Gathered × Data) → IsErr r
+-- memory runs out after all of them
+pub edit_late : {φ : AnswersByName} {p : Plan} {g h : Holding} {made : Result Holding Fault} {w : Observation} {s : Step} {y : Data} {m n n2 : Meter} {inside : ℕ} {f : Fault} → f ≡ Memory → entered_of n2 ≡ entered_of n → height_of n2 ≡ height_of n
+    → EditSteps φ p g made w s (Ok (h, y)) m n inside → EditSteps φ p g made w s (Err f) m n2 inside
+edit_late {φ} {p} {g} {h} {made} {w} {s} {y} {m} {n} {n2} {inside} e en hn (new_run {h = k} {l = l} {z = z} {n = n1} old same hb shows) =
+    edit_stopped e (new_fails old same (λ low ms L G. held_end φ p k l s z n1 n n2 inside en hn (hb low ms L G)))
+
+pub pass_edit : {φ : AnswersByName} {p : Plan} {g : Holding} {made : Result Holding Fault} {w : Observation} {s : Step} {A E : Type 0} {m n : Meter} {inside : ℕ} {f : Fault} (r : Result A E) (y : Holding × Data) → IsErr r
     → EditSteps φ p g made w s (Err f) m n inside → EditSteps φ p g made w s (left_or r y f) m n inside
 pass_edit (Ok a) y e h = absurd cc
 pass_edit (Err q) y e h = h

@@ -1,6 +1,10 @@
 -- What the steps of members that are edited answer.
 use Rattle.std.specs.Prelude.{◌≡◌, ℕ, ◌+◌, ◌-◌, ◌≤◌, List, [], ◌∷◌, Option, Some, Result, Ok, Err, length}
+use Rattle.std.specs.Option.{unwrap_or}
+use Rattle.std.specs.declared.alloc.Global.{Global}
+use Rattle.std.specs.declared.rc.Rc.{Rc}
 use Rattle.sf_value.specs.Values.{Data}
+use Rattle.sf_value.specs.declared.keys.Keys.{Keys}
 use Rattle.sf_value.specs.declared.fault.Fault.{Fault}
 use Rattle.sf_value.specs.declared.fault.Fault.TheVariants.{Memory}
 use Rattle.sf_func.specs.Registries.{AnswersByName}
@@ -11,15 +15,17 @@ use Rattle.sf_law.specs.declared.plan.Plan.{Plan}
 use Rattle.sf_law.specs.Arena.{network_of_plan}
 use Rattle.sf_state.specs.declared.state.State.{State}
 use Rattle.sf_state.specs.declared.state.Gathered.{Gathered}
-use Rattle.sf_state.specs.Held.{Holding, held_in}
+use Rattle.sf_state.specs.Held.{Holding, held_as, held_in}
 use Rattle.sf_state.specs.Standing.{Gathers}
 use Rattle.sf_parts.specs.declared.meter.Meter.{Meter}
 use Rattle.sf_parts.specs.declared.meter.Spent.{Spent}
 use Rattle.sf_parts.specs.declared.turning.Turn.{Turn}
 use Rattle.sf_parts.specs.declared.turning.Turn.TheVariants.{Stays, Begins}
 use Rattle.sf_parts.specs.declared.turning.Noted.{Noted}
+use Rattle.sf_parts.specs.Drafting.{laid_over}
 use Rattle.sf_parts.specs.Meters.{entered_of, height_of, readings}
 use Rattle.sf_parts.specs.Answering.{Answers, CountsAgain}
+use Rattle.sf_step.specs.declared.sample.Edit.{Edit}
 use Rattle.sf_step.specs.Sampling.{MemberSteps}
 
 -- ## Members that run, at an edit
@@ -85,12 +91,16 @@ held_as_made (Ok g) = Ok (held_in g)
 held_as_made (Err f) = Err f
 
 -- Members step to a table, and those that an edit made after them; one of the two tables shows.
-pub data EditSteps (φ : AnswersByName) (p : Plan) (g : Gathered) (made : Result Holding Fault) (w : Observation) (s : Step) : Result (Gathered × Data) Fault → Meter → Meter → ℕ → Type 0 where
+pub data EditSteps (φ : AnswersByName) (p : Plan) (g : Holding) (made : Result Holding Fault) (w : Observation) (s : Step) : Result (Holding × Data) Fault → Meter → Meter → ℕ → Type 0 where
   no_memory_before : {m n : Meter} {inside : ℕ} → entered_of n ≡ entered_of m → height_of n ≡ height_of m → EditSteps φ p g made w s (Err Memory) m n inside
-  old_fails : {f : Fault} {m n : Meter} {inside : ℕ} → HeldSteps φ p (held_in g) s (Err f) m n inside → EditSteps φ p g made w s (Err f) m n inside
-  no_memory_between : {a : Holding} {y : Data} {m n n' : Meter} {inside : ℕ} → HeldSteps φ p (held_in g) s (Ok (a, y)) m n inside → entered_of n' ≡ entered_of n → height_of n' ≡ height_of n → EditSteps φ p g made w s (Err Memory) m n' inside
-  made_fails : {a : Holding} {y : Data} {f : Fault} {m n n' : Meter} {inside : ℕ} → HeldSteps φ p (held_in g) s (Ok (a, y)) m n inside → made ≡ Err f → entered_of n' ≡ entered_of n → height_of n' ≡ height_of n → EditSteps φ p g made w s (Err f) m n' inside
-  new_fails : {a h : Holding} {y : Data} {f : Fault} {m n n' : Meter} {inside : ℕ} → HeldSteps φ p (held_in g) s (Ok (a, y)) m n inside → made ≡ Ok h → HeldStepsAfter φ p (held_in g) m h s (Err f) n n' inside → EditSteps φ p g made w s (Err f) m n' inside
-  new_run : {a h : Holding} {l : Gathered} {y z v : Data} {m n n' : Meter} {inside : ℕ}
-      → HeldSteps φ p (held_in g) s (Ok (a, y)) m n inside → made ≡ Ok h → HeldStepsAfter φ p (held_in g) m h s (Ok (held_in l, z)) n n' inside → v ≡ switched_value w y z
+  old_fails : {f : Fault} {m n : Meter} {inside : ℕ} → HeldSteps φ p g s (Err f) m n inside → EditSteps φ p g made w s (Err f) m n inside
+  no_memory_between : {a : Holding} {y : Data} {m n n' : Meter} {inside : ℕ} → HeldSteps φ p g s (Ok (a, y)) m n inside → entered_of n' ≡ entered_of n → height_of n' ≡ height_of n → EditSteps φ p g made w s (Err Memory) m n' inside
+  made_fails : {a : Holding} {y : Data} {f : Fault} {m n n' : Meter} {inside : ℕ} → HeldSteps φ p g s (Ok (a, y)) m n inside → made ≡ Err f → entered_of n' ≡ entered_of n → height_of n' ≡ height_of n → EditSteps φ p g made w s (Err f) m n' inside
+  new_fails : {a h : Holding} {y : Data} {f : Fault} {m n n' : Meter} {inside : ℕ} → HeldSteps φ p g s (Ok (a, y)) m n inside → made ≡ Ok h → HeldStepsAfter φ p g m h s (Err f) n n' inside → EditSteps φ p g made w s (Err f) m n' inside
+  new_run : {a h : Holding} {l : Holding} {y z v : Data} {m n n' : Meter} {inside : ℕ}
+      → HeldSteps φ p g s (Ok (a, y)) m n inside → made ≡ Ok h → HeldStepsAfter φ p g m h s (Ok (l, z)) n n' inside → v ≡ switched_value w y z
       → EditSteps φ p g made w s (Ok (l, v)) m n' inside
+
+-- so they do where the edit is over copies of those that run
+abbrev pub DraftSteps : AnswersByName → Plan → Edit → ℕ → Rc Keys Global → List State → Data → Result (Holding × Data) Fault → Meter → Meter → ℕ → Type 0
+DraftSteps φ p e d keys bs x result m n inside = EditSteps φ p (held_as keys bs e.wait) (Ok (laid_over bs (Some (unwrap_or e.wait d)) e.draft)) e.shown (step d x) result m n inside

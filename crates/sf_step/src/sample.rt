@@ -1,14 +1,16 @@
 //! One sample.
-ghost use Rattle.std.specs.Prelude.{◌≡◌, ◌≤◌, ◌∷◌, None, Some, Ok, length, IsTrue, IsFalse};
+ghost use Rattle.std.specs.Prelude.{◌≡◌, ◌≤◌, ◌∷◌, List, None, Some, Ok, length, IsTrue, IsFalse};
 ghost use Rattle.sf_parts.specs.Beginning.{is_awake, is_in_place};
 ghost use Rattle.sf_mean.specs.Lives.{step, Life, Process as ProcessOf};
-ghost use Rattle.sf_state.specs.Standing.{Stands};
+ghost use Rattle.sf_state.specs.declared.state.State.{State as StateOf};
+ghost use Rattle.sf_state.specs.Held.{held_in, held_as};
+ghost use Rattle.sf_state.specs.Standing.{Stands, AllFollow};
 ghost use Rattle.sf_parts.specs.Answering.{LiveSteps, kept, left_or};
 ghost use Rattle.sf_parts.specs.Contexts.{plan_in, dt_in};
 ghost use Rattle.sf_parts.specs.Drafting.{drafted};
 ghost use Rattle.sf_parts.specs.Meters.{entered_of, height_of, fault_of as fault_in};
 ghost use Rattle.sf_step.specs.Sampling.{StateSteps, SwitchSteps, KeepingSteps, GatheringSteps, MembersSteps, EachSteps, MemberSteps, CountedSteps, left_beside, left_with};
-ghost use Rattle.sf_step.specs.Edits.{HaveStepped, HaveTurned, EditSteps, held_as_made, left_noted};
+ghost use Rattle.sf_step.specs.Edits.{HaveStepped, HaveTurned, EditSteps, DraftSteps, held_as_made, left_noted};
 ghost use Rattle.sf_step.specs.Stepping.{Steps};
 
 use sf_func::Holds;
@@ -21,13 +23,24 @@ use sf_parts::{
 use sf_probe::Readings;
 use sf_state::{
     Editing, Env, Feedback, Gathered, Gathering, Keeping, Live, Releasing, State, Switch, Wrap,
-    hold_back_members, own_states, unshare_states,
+    hold_back_members, own_states,
 };
 use sf_term::{Join, Observation, Switching};
-use sf_value::{Fault, Value, ValueFault};
+use sf_value::{Fault, Keys, Value, ValueFault};
 use std::alloc::Global;
 use std::mem;
 use std::rc::Rc;
+
+// so many members an edit adds without more room
+const ADDED: usize = 4;
+
+/// An edit of members: which of the two tables shows, how long those that ran wait, and what changes.
+#[derive(Drop)]
+struct Edit {
+    shown: Observation,
+    wait: Option<u64>,
+    draft: Draft,
+}
 
 /// The value at the next sample of a network, `dt` milliseconds after the one before, with what its probes recorded, in order;
 /// at the first sample `dt` isn't looked at. The input may be any value: what takes a pair apart takes a value that is none
@@ -49,7 +62,7 @@ pub fn step<R: Holds>(
         Steps (R.answers functions.now) plan.now P (step dt input ∷ L) result state.new meter.new }
     ensures bounded { (entered_of meter.new ≤ 1000000) × (height_of meter.new ≤ 1600) }
 {
-    *meter = Meter::new(alloc);
+    meter.reset(alloc);
     let context = SampleContext {
         alloc,
         plan,
@@ -459,8 +472,8 @@ fn step_made<R: Holds>(
     value: &mut Value,
     meter: &mut Meter,
 ) -> Result<(), Stop>
-    ensures { EditSteps (R.answers context.now.functions.now) (plan_in context.now) members.old (held_as_made made) shown (step (dt_in context.now) value.old)
-        (left_or result (members.new, value.new) (fault_in meter.new)) meter.old meter.new inside }
+    ensures { EditSteps (R.answers context.now.functions.now) (plan_in context.now) (held_in members.old) (held_as_made made) shown (step (dt_in context.now) value.old)
+        (left_or result (held_in members.new, value.new) (fault_in meter.new)) meter.old meter.new inside }
 {
     let Ok(mut begun) = value.clone_in(context.alloc) else {
         return Err(meter.stop(Fault::Memory));
@@ -477,8 +490,7 @@ fn step_made<R: Holds>(
     }
 }
 
-// The sample at which members give way to those of an edit, of which some stay: each that ran is stepped once, where it stands.
-// What it gave is given again by one that stays, and counts again.
+// The sample at which members give way to those of an edit, of which some stay.
 #[cycle(step)]
 #[inline(never)]
 fn step_draft<R: Holds>(
@@ -490,24 +502,75 @@ fn step_draft<R: Holds>(
     value: &mut Value,
     meter: &mut Meter,
 ) -> Result<(), Stop>
-    ensures { EditSteps (R.answers context.now.functions.now) (plan_in context.now) members.old (Ok (drafted members.old (dt_in context.now) draft)) shown (step (dt_in context.now) value.old)
-        (left_or result (members.new, value.new) (fault_in meter.new)) meter.old meter.new inside }
+    ensures { EditSteps (R.answers context.now.functions.now) (plan_in context.now) (held_in members.old) (Ok (drafted members.old (dt_in context.now) draft)) shown (step (dt_in context.now) value.old)
+        (left_or result (held_in members.new, value.new) (fault_in meter.new)) meter.old meter.new inside }
+{
+    let wait = members.wait;
+    let edit = Edit { shown, wait, draft };
+    members.wait = None;
+    let keys = &mut members.keys;
+    let list = &mut members.states;
+    match Rc::get_mut(list) {
+        Some(states) => step_turns(context, edit, keys, states, inside, value, meter),
+        None => step_turns_copy(context, edit, keys, list, inside, value, meter),
+    }
+}
+
+// The same of the keys of members, and of their states in a list that others share: one over the same nodes takes its place.
+#[cycle(step)]
+#[cold]
+#[inline(never)]
+fn step_turns_copy<R: Holds>(
+    context: &SampleContext<R>,
+    edit: Edit,
+    keys: &mut Rc<Keys>,
+    list: &mut Rc<Vec<State>>,
+    inside: u64,
+    value: &mut Value,
+    meter: &mut Meter,
+) -> Result<(), Stop>
+    ensures { DraftSteps (R.answers context.now.functions.now) (plan_in context.now) edit (dt_in context.now) keys.old list.old.value.items value.old
+        (left_or result (held_as keys.new list.new.value.items None, value.new) (fault_in meter.new)) meter.old meter.new inside }
+{
+    let Ok(shared) = list.clone() else {
+        return Err(meter.stop(Fault::Memory));
+    };
+    let Ok(mut own) = own_states(context.alloc, shared) else {
+        return Err(meter.stop(Fault::Memory));
+    };
+    step_turns(context, edit, keys, &mut own, inside, value, meter)?;
+    let Ok(copy) = Rc::new(context.alloc, own) else {
+        return Err(meter.stop(Fault::Memory));
+    };
+    *list = copy;
+    Ok(())
+}
+
+// The same of a list that is their own, or stands for theirs: each that ran is stepped once, where it stands. What it gave is
+// given again by one that stays, and counts again.
+#[cycle(step)]
+#[inline(never)]
+fn step_turns<R: Holds>(
+    context: &SampleContext<R>,
+    edit: Edit,
+    keys: &mut Rc<Keys>,
+    states: &mut Vec<State>,
+    inside: u64,
+    value: &mut Value,
+    meter: &mut Meter,
+) -> Result<(), Stop>
+    ensures { (bs : List StateOf) → AllFollow (R.answers context.now.functions.now) (plan_in context.now) bs states.old.items → DraftSteps (R.answers context.now.functions.now) (plan_in context.now) edit (dt_in context.now) keys.old bs value.old
+        (left_or result (held_as keys.new states.new.items None, value.new) (fault_in meter.new)) meter.old meter.new inside }
 {
     let alloc = context.alloc;
-    let wait = members.wait;
-    let Ok(()) = unshare_states(alloc, &mut members.states) else {
-        return Err(meter.stop(Fault::Memory));
-    };
-    let Some(states) = Rc::get_mut(&mut members.states) else {
-        return Err(meter.stop(Fault::Memory));
-    };
+    let Edit { shown, wait, draft } = edit;
     let noted = step_noted(context, wait, states, inside, &*value, meter)?;
     let Noted { outputs, mut turns } = noted;
-    let Ok((before, mut outputs)) = table_before(alloc, shown, &members.keys, outputs) else {
+    let Ok((before, mut outputs)) = table_before(alloc, shown, &*keys, outputs) else {
         return Err(meter.stop(Fault::Memory));
     };
-    let Draft { keys, changes } = draft;
-    let Ok(keys) = Rc::new(alloc, keys) else {
+    let Draft { keys: all, changes } = draft;
+    let Ok(all) = Rc::new(alloc, all) else {
         return Err(meter.stop(Fault::Memory));
     };
     let Ok(()) = change_all(alloc, &*value, changes, states, &mut outputs, &mut turns) else {
@@ -515,9 +578,8 @@ fn step_draft<R: Holds>(
     };
     let later = wait.unwrap_or(context.dt);
     step_again(context, later, states, &mut outputs, &turns, inside, meter)?;
-    members.wait = None;
-    members.keys = keys;
-    match table_after(alloc, before, &members.keys, outputs) {
+    *keys = all;
+    match table_after(alloc, before, &*keys, outputs) {
         Ok(rows) => {
             *value = rows;
             Ok(())
@@ -541,10 +603,11 @@ fn step_noted<R: Holds>(
         (left_noted result states.new.items (fault_in meter.new)) meter.new }
 {
     let alloc = context.alloc;
-    let Ok(mut outputs) = Vec::with_capacity(alloc, states.len()) else {
+    let room = room_for(states.len());
+    let Ok(mut outputs) = Vec::with_capacity(alloc, room) else {
         return Err(meter.stop(Fault::Memory));
     };
-    let Ok(mut turns) = Vec::with_capacity(alloc, states.len()) else {
+    let Ok(mut turns) = Vec::with_capacity(alloc, room) else {
         return Err(meter.stop(Fault::Memory));
     };
     for ran in states.iter_mut() {
@@ -735,6 +798,13 @@ fn step_waiting<R: Holds>(
     } else {
         step_state(context, state, inside, value, meter)
     }
+}
+
+// Room for so many members, and for some that an edit adds.
+fn room_for(count: usize) -> usize
+    ensures { count ≤ result }
+{
+    count.saturating_add(ADDED)
 }
 
 // Whether a state has lived a step, and not been frozen since.

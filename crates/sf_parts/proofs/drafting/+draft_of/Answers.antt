@@ -1,10 +1,10 @@
 use Rattle.std.proofs.Common.{Some, ap}
 use Rattle.std.specs.Option.{unwrap_or}
-use Rattle.sf_expr.specs.Arena.{expression}
-use Rattle.sf_expr.specs.Evaluation.{answer, ◌>>=◌, eval}
+use Rattle.sf_expr.specs.Arena.{expression, function_at}
+use Rattle.sf_expr.specs.Evaluation.{answer, ◌>>=◌, eval, apply}
 use Rattle.sf_law.specs.Arena.{plan_collection, plan_expressions, plan_tree}
 use Rattle.sf_mean.specs.Lives.{closure, scope_around}
-use Rattle.sf_mean.specs.Collections.{as_key, add, drop, collect}
+use Rattle.sf_mean.specs.Collections.{as_key, add, drop, keep, collect}
 use Rattle.sf_parts.specs.Beginning.{makes}
 use Rattle.sf_parts.specs.Drafting.{drafted, around_edit}
 use Rattle.sf_parts.proofs.Drafts.{all_laid, after_laid, when_drafted, laid_first, laid_second}
@@ -48,6 +48,22 @@ returns-in_ok-without_dropped-in-Some-2 g t c = λ fs v e N C G.
     let coded = rw c.in-Dropped.is at C in
     rw c.in-Dropped.is (after_laid φ p bs w (collect φ (plan_collection p i) a) (λ ms. eval j (scope_around φ a) >>= λ v. answer (drop (as_key v) ms)) (drafted run d c.in-Some-2.made) (drafted run d c.in_ok-without_dropped-in-Some-2.field-0)
     ((rw c.deref-in-Dropped.ensures at (rw c.in-Some-2.is at c.in_ok-made-in-Dropped.ensures)) fs v e N coded.0 G) (λ ms H. c.in_ok-without_dropped-in-Some-2.ensures j a bs w ms coded.1 N H))
+
+pub returns-in-Some-3 : goal.returns-in-Some-3
+returns-in-Some-3 g t c = when_drafted c.without_unkept.result (λ x h fs v e N C G.
+    let φ = g.R.Holds.answers c.args.context.now.functions.now in
+    let p = c.args.context.now.plan.now in
+    let d = c.args.context.now.dt in
+    let run = c.args.editing.now.members in
+    let bs = run.states.value.items in
+    let w = Some (unwrap_or run.wait d) in
+    let a = around_edit p c.args.editing.now v fs e in
+    let i = c.in-Kept.all.value in
+    let f = function_at (plan_expressions p) c.in-Kept.field-1 in
+    let coded = rw c.in-Kept.is at C in
+    rw c.in-Kept.is (after_laid φ p bs w (collect φ (plan_collection p i) a) (λ ms. keep (λ x. apply f x (scope_around φ a)) ms) (drafted run d c.in-Some-3.made) (drafted run d x)
+    ((rw c.deref-in-Kept.ensures at (rw c.in-Some-3.is at c.in_ok-made-in-Kept.ensures)) fs v e N coded.0 G) (λ ms H. h f a bs w ms coded.1 N H)))
+    c.without_unkept.ensures
 
 pub returns-then-met : goal.returns-then-met
 returns-then-met g t c = when_drafted c.draft_of-then-met.result (λ x h fs v e N C G.

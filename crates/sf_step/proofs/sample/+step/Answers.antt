@@ -13,7 +13,7 @@ use Rattle.sf_mean.specs.Lives.{step, Life, Process, each_frozen}
 use Rattle.sf_state.specs.declared.state.Frozen.{Frozen}
 use Rattle.sf_state.specs.declared.state.State.{State}
 use Rattle.sf_state.specs.declared.state.Gathered.{Gathered}
-use Rattle.sf_state.specs.Held.{held_in}
+use Rattle.sf_state.specs.Held.{held_in, held_as}
 use Rattle.sf_state.specs.Standing.{Stands, AllFollow, kept_state, worth_given, Waits, WaitsKeeping, WaitsGathered}
 use Rattle.sf_expr.specs.Evaluation.{answer}
 use Rattle.sf_mean.specs.Meaning.{switched_value}
@@ -36,7 +36,7 @@ use Rattle.sf_step.specs.Sampling.{EachSteps}
 use Rattle.sf_step.proofs.Members.{memory_now, stopped_at, each_first, each_next, each_fails, each_memory, each_last, list_alike, late_list, awake_lived, asleep_fresh, runs_among, begins_among, goes_on_among, members_step, members_fail, members_end, gathered_so, pass_with, Continues as EachContinues}
 use Rattle.sf_step.proofs.Releasing.{run_alike, members_stop, members_memory, sight_fails, sight_memory, members_go_on, released_body_fails, released_body_takes_over}
 use Rattle.sf_step.specs.Edits.{IsBetween, HaveStepped, no_memory_noted, HaveTurned, no_memory_before, old_fails, no_memory_between, made_fails, new_fails as members_fail_anew, new_run, held_as_made}
-use Rattle.sf_step.proofs.Turns.{NotesOn, notes_first, notes_next, notes_fail, notes_memory, notes_last, notes_stopped, notes_long, TurnsOn, this_at, turn_at, turns_first, turns_stay, turns_stay_not, turns_begin, turns_begin_not, turns_last, as_held, held_fails, old_step, new_step, new_stop, new_end, turned_so, not_turned_so, shows_so, held_stop, gathers_frozen, stepped_fails, changed_long, edit_stopped, pass_edit, pass_notes, pass_turns}
+use Rattle.sf_step.proofs.Turns.{NotesOn, notes_first, notes_next, notes_fail, notes_memory, notes_last, notes_stopped, notes_long, TurnsOn, this_at, turn_at, turns_first, turns_stay, turns_stay_not, turns_begin, turns_begin_not, turns_last, as_held, held_fails, old_step, new_step, new_stop, new_end, turned_so, not_turned_so, shows_so, held_stop, gathers_frozen, stepped_fails, changed_long, edit_stopped, edit_late, pass_edit, pass_notes, pass_turns}
 use Rattle.sf_step.proofs.Editing.{members_alone, edit_answers, as_made}
 use Rattle.sf_step.proofs.sample.+step.Goals as goal
 use Rattle.sf_step.proofs.sample.+step.Goals.{step_again-in-Stays+in_ok-repeat-in-Stays, step_again-in-Begins+in_ok-step_waiting-in-Begins}
@@ -739,9 +739,9 @@ step_noted-loop-ran-init g t c =
     record {
       goes_on = subst (λ (gs : List Turn). NotesOn φ p c.args.wait d x c.args.inside m bs [] c.in-Ok.outputs.items gs bs m) (sym c.in-Ok-with_capacity.ensures.items) (subst (λ (ys : List Data). NotesOn φ p c.args.wait d x c.args.inside m bs [] ys [] bs m) (sym c.in-Ok.ensures.items) (notes_first φ p c.args.wait d x c.args.inside m bs));
       as_many = c.in-Ok.ensures.len;
-      room = omega (arith, c.in-Ok.ensures.capacity, c.len.ensures, ap length c.deref_mut-ran-items.ensures.value);
+      room = omega (arith, c.in-Ok.ensures.capacity, c.room_for-room.ensures, c.len.ensures, ap length c.deref_mut-ran-items.ensures.value);
       as_many_turns = c.in-Ok-with_capacity.ensures.len;
-      room_for_turns = omega (arith, c.in-Ok-with_capacity.ensures.capacity, c.len-2.ensures, ap length c.deref_mut-ran-items.ensures.value);
+      room_for_turns = omega (arith, c.in-Ok-with_capacity.ensures.capacity, c.room_for-room.ensures, c.len.ensures, ap length c.deref_mut-ran-items.ensures.value);
     }
 
 pub step_noted-returns-in_default-clone_in : goal.step_noted-returns-in_default-clone_in
@@ -885,161 +885,186 @@ step_again-returns g t c =
 
 -- ## step_draft
 
-pub step_draft-returns-in_default : goal.step_draft-returns-in_default
-step_draft-returns-in_default g t c = edit_stopped c.stop.ensures.fault (no_memory_before c.stop.ensures.entered c.stop.ensures.height)
-
-pub step_draft-returns-in_default-get_mut : goal.step_draft-returns-in_default-get_mut
-step_draft-returns-in_default-get_mut g t c = edit_stopped c.stop-in_default-get_mut.ensures.fault (no_memory_before c.stop-in_default-get_mut.ensures.entered c.stop-in_default-get_mut.ensures.height)
-
-pub step_draft-returns-in_err-noted : goal.step_draft-returns-in_err-noted
-step_draft-returns-in_err-noted g t c =
+pub step_draft-returns-in-Some : goal.step_draft-returns-in-Some
+step_draft-returns-in-Some g t c =
     let φ = g.R.Holds.answers c.args.context.now.functions.now in
     let p = c.args.context.now.plan.now in
-    let run = c.args.members.now in
+    let v = c.args.members.now.states.value in
+    c.step_turns.ensures v.items (subst (λ (w : Vec State Global). AllFollow φ p v.items w.items) (sym c.in-Some.ensures.value) (list_follows φ p v v refl))
+
+pub step_draft-returns-in-None : goal.step_draft-returns-in-None
+step_draft-returns-in-None g t c = c.step_turns_copy.ensures
+
+-- ## step_turns_copy
+
+pub step_turns_copy-returns-in_default : goal.step_turns_copy-returns-in_default
+step_turns_copy-returns-in_default g t c = edit_stopped c.stop.ensures.fault (no_memory_before c.stop.ensures.entered c.stop.ensures.height)
+
+pub step_turns_copy-returns-in_default-own_states : goal.step_turns_copy-returns-in_default-own_states
+step_turns_copy-returns-in_default-own_states g t c = edit_stopped c.stop-in_default-own_states.ensures.fault (no_memory_before c.stop-in_default-own_states.ensures.entered c.stop-in_default-own_states.ensures.height)
+
+pub step_turns_copy-returns-in_err-step_turns : goal.step_turns_copy-returns-in_err-step_turns
+step_turns_copy-returns-in_err-step_turns g t c =
+    let φ = g.R.Holds.answers c.args.context.now.functions.now in
+    let p = c.args.context.now.plan.now in
+    let own = subst (λ (v : Vec State Global). AllFollow φ p v.items c.in-Ok-own_states.own.items) c.in-Ok.ensures.cases (c.in-Ok-own_states.ensures φ p) in
+    pass_edit _ _ c.from_residual.ensures.0 (c.in_err-step_turns.ensures _ own)
+
+pub step_turns_copy-returns-in_default-new : goal.step_turns_copy-returns-in_default-new
+step_turns_copy-returns-in_default-new g t c =
+    let φ = g.R.Holds.answers c.args.context.now.functions.now in
+    let p = c.args.context.now.plan.now in
+    let own = subst (λ (v : Vec State Global). AllFollow φ p v.items c.in-Ok-own_states.own.items) c.in-Ok.ensures.cases (c.in-Ok-own_states.ensures φ p) in
+    edit_late c.stop-in_default-new.ensures.fault c.stop-in_default-new.ensures.entered c.stop-in_default-new.ensures.height (c.in_ok-step_turns.ensures _ own)
+
+pub step_turns_copy-returns : goal.step_turns_copy-returns
+step_turns_copy-returns g t c =
+    let φ = g.R.Holds.answers c.args.context.now.functions.now in
+    let p = c.args.context.now.plan.now in
+    let own = subst (λ (v : Vec State Global). AllFollow φ p v.items c.in-Ok-own_states.own.items) c.in-Ok.ensures.cases (c.in-Ok-own_states.ensures φ p) in
+    rw c.in-Ok-new.ensures.ok (c.in_ok-step_turns.ensures _ own)
+
+-- ## step_turns
+
+pub step_turns-returns-in_err-noted : goal.step_turns-returns-in_err-noted
+step_turns-returns-in_err-noted g t c = λ rs own.
+    let φ = g.R.Holds.answers c.args.context.now.functions.now in
+    let p = c.args.context.now.plan.now in
+    let run = held_as c.args.keys.now rs c.args.edit.wait in
     let d = c.args.context.now.dt in
     let i = c.args.value.now in
     let m = c.args.meter.now in
     let n = c.step_noted.new.meter in
-    let own = subst (λ (v : Vec State Global). AllFollow φ p run.states.value.items v.items) (sym c.in-Some.ensures.value) (c.unshare_states.ensures φ p) in
-    pass_edit _ _ c.from_residual.ensures.0 (old_fails (held_stop φ p (held_in run) d i m n c.args.inside _ (list_alike φ p own (stepped_fails φ p run.wait d i c.args.inside c.in_err-noted.ensures))))
+    pass_edit _ _ c.from_residual.ensures.0 (old_fails (held_stop φ p run d i m n c.args.inside _ (list_alike φ p own (stepped_fails φ p run.wait d i c.args.inside c.in_err-noted.ensures))))
 
-pub step_draft-returns-in_default-table_before : goal.step_draft-returns-in_default-table_before
-step_draft-returns-in_default-table_before g t c =
+pub step_turns-returns-in_default : goal.step_turns-returns-in_default
+step_turns-returns-in_default g t c = λ rs own.
     let φ = g.R.Holds.answers c.args.context.now.functions.now in
     let p = c.args.context.now.plan.now in
-    let run = c.args.members.now in
+    let run = held_as c.args.keys.now rs c.args.edit.wait in
     let d = c.args.context.now.dt in
     let i = c.args.value.now in
     let m = c.args.meter.now in
     let n = c.step_noted.new.meter in
-    let bs = c.in-Some.states.now.items in
+    let bs = c.args.states.now.items in
     let ds = c.step_noted.new.states.items in
     let ys = c.in_ok-noted.noted.outputs.items in
     let gs = c.in_ok-noted.noted.turns.items in
-    let own = subst (λ (v : Vec State Global). AllFollow φ p run.states.value.items v.items) (sym c.in-Some.ensures.value) (c.unshare_states.ensures φ p) in
-    let old = old_step φ p run bs own c.args.draft d i c.args.inside m n ds ys gs c.in_ok-noted.ensures in
-    edit_stopped c.stop-in_default-table_before.ensures.fault (no_memory_between old c.stop-in_default-table_before.ensures.entered c.stop-in_default-table_before.ensures.height)
+    let old = old_step φ p run bs own c.args.edit.draft d i c.args.inside m n ds ys gs c.in_ok-noted.ensures in
+    edit_stopped c.stop.ensures.fault (no_memory_between old c.stop.ensures.entered c.stop.ensures.height)
 
-pub step_draft-returns-in_default-new : goal.step_draft-returns-in_default-new
-step_draft-returns-in_default-new g t c =
+pub step_turns-returns-in_default-new : goal.step_turns-returns-in_default-new
+step_turns-returns-in_default-new g t c = λ rs own.
     let φ = g.R.Holds.answers c.args.context.now.functions.now in
     let p = c.args.context.now.plan.now in
-    let run = c.args.members.now in
+    let run = held_as c.args.keys.now rs c.args.edit.wait in
     let d = c.args.context.now.dt in
     let i = c.args.value.now in
     let m = c.args.meter.now in
     let n = c.step_noted.new.meter in
-    let bs = c.in-Some.states.now.items in
+    let bs = c.args.states.now.items in
     let ds = c.step_noted.new.states.items in
     let ys = c.in_ok-noted.noted.outputs.items in
     let gs = c.in_ok-noted.noted.turns.items in
-    let own = subst (λ (v : Vec State Global). AllFollow φ p run.states.value.items v.items) (sym c.in-Some.ensures.value) (c.unshare_states.ensures φ p) in
-    let old = old_step φ p run bs own c.args.draft d i c.args.inside m n ds ys gs c.in_ok-noted.ensures in
+    let old = old_step φ p run bs own c.args.edit.draft d i c.args.inside m n ds ys gs c.in_ok-noted.ensures in
     edit_stopped c.stop-in_default-new.ensures.fault (no_memory_between old c.stop-in_default-new.ensures.entered c.stop-in_default-new.ensures.height)
 
-pub step_draft-returns-in_default-change_all : goal.step_draft-returns-in_default-change_all
-step_draft-returns-in_default-change_all g t c =
+pub step_turns-returns-in_default-change_all : goal.step_turns-returns-in_default-change_all
+step_turns-returns-in_default-change_all g t c = λ rs own.
     let φ = g.R.Holds.answers c.args.context.now.functions.now in
     let p = c.args.context.now.plan.now in
-    let run = c.args.members.now in
+    let run = held_as c.args.keys.now rs c.args.edit.wait in
     let d = c.args.context.now.dt in
     let i = c.args.value.now in
     let m = c.args.meter.now in
     let n = c.step_noted.new.meter in
-    let bs = c.in-Some.states.now.items in
+    let bs = c.args.states.now.items in
     let ds = c.step_noted.new.states.items in
     let ys = c.in_ok-noted.noted.outputs.items in
     let gs = c.in_ok-noted.noted.turns.items in
-    let own = subst (λ (v : Vec State Global). AllFollow φ p run.states.value.items v.items) (sym c.in-Some.ensures.value) (c.unshare_states.ensures φ p) in
-    let old = old_step φ p run bs own c.args.draft d i c.args.inside m n ds ys gs c.in_ok-noted.ensures in
+    let old = old_step φ p run bs own c.args.edit.draft d i c.args.inside m n ds ys gs c.in_ok-noted.ensures in
     edit_stopped c.stop-in_default-change_all.ensures.fault (no_memory_between old c.stop-in_default-change_all.ensures.entered c.stop-in_default-change_all.ensures.height)
 
-pub step_draft-step_again-requires : goal.step_draft-step_again-requires
-step_draft-step_again-requires g t c =
+pub step_turns-step_again-requires : goal.step_turns-step_again-requires
+step_turns-step_again-requires g t c =
     let φ = g.R.Holds.answers c.args.context.now.functions.now in
     let p = c.args.context.now.plan.now in
-    let run = c.args.members.now in
     let d = c.args.context.now.dt in
     let i = c.args.value.now in
     let m = c.args.meter.now in
     let n = c.step_noted.new.meter in
-    let bs = c.in-Some.states.now.items in
+    let bs = c.args.states.now.items in
     let ds = c.step_noted.new.states.items in
     let ys = c.in_ok-noted.noted.outputs.items in
     let gs = c.in_ok-noted.noted.turns.items in
-    let own = subst (λ (v : Vec State Global). AllFollow φ p run.states.value.items v.items) (sym c.in-Some.ensures.value) (c.unshare_states.ensures φ p) in
-    let old = old_step φ p run bs own c.args.draft d i c.args.inside m n ds ys gs c.in_ok-noted.ensures in
-    let os = c.in-Ok-table_before.outputs.items in
-    let long = notes_long φ p run.wait d i c.args.inside c.in_ok-noted.ensures in
-    let cs = c.args.draft.changes.items in
+    let os = c.in-Ok.outputs.items in
+    let long = notes_long φ p c.args.edit.wait d i c.args.inside c.in_ok-noted.ensures in
+    let cs = c.args.edit.draft.changes.items in
     let states : length c.change_all.new.states.items ≡ length c.deref.result.now = ap length c.in-Ok-change_all.ensures.states ∙ changed_long (λ a. a) (λ a. Begins) cs ds gs long.0 ∙ sym (ap length (c.deref.ensures.value ∙ c.in-Ok-change_all.ensures.turns)) in
-    let outputs : length c.change_all.new.outputs.items ≡ length c.deref.result.now = ap length c.in-Ok-change_all.ensures.outputs ∙ changed_long (λ a. i) (λ a. Begins) cs os gs (c.in-Ok-table_before.ensures.long ∙ long.1) ∙ sym (ap length (c.deref.ensures.value ∙ c.in-Ok-change_all.ensures.turns)) in
+    let outputs : length c.change_all.new.outputs.items ≡ length c.deref.result.now = ap length c.in-Ok-change_all.ensures.outputs ∙ changed_long (λ a. i) (λ a. Begins) cs os gs (c.in-Ok.ensures.long ∙ long.1) ∙ sym (ap length (c.deref.ensures.value ∙ c.in-Ok-change_all.ensures.turns)) in
     grind (arith, states, outputs, c.decreases)
 
-pub step_draft-returns-in_err-step_again : goal.step_draft-returns-in_err-step_again
-step_draft-returns-in_err-step_again g t c =
+pub step_turns-returns-in_err-step_again : goal.step_turns-returns-in_err-step_again
+step_turns-returns-in_err-step_again g t c = λ rs own.
     let φ = g.R.Holds.answers c.args.context.now.functions.now in
     let p = c.args.context.now.plan.now in
-    let run = c.args.members.now in
+    let run = held_as c.args.keys.now rs c.args.edit.wait in
     let d = c.args.context.now.dt in
     let i = c.args.value.now in
     let m = c.args.meter.now in
     let n = c.step_noted.new.meter in
-    let bs = c.in-Some.states.now.items in
+    let bs = c.args.states.now.items in
     let ds = c.step_noted.new.states.items in
     let ys = c.in_ok-noted.noted.outputs.items in
     let gs = c.in_ok-noted.noted.turns.items in
-    let own = subst (λ (v : Vec State Global). AllFollow φ p run.states.value.items v.items) (sym c.in-Some.ensures.value) (c.unshare_states.ensures φ p) in
-    let old = old_step φ p run bs own c.args.draft d i c.args.inside m n ds ys gs c.in_ok-noted.ensures in
-    let os = c.in-Ok-table_before.outputs.items in
-    let turned = not_turned_so φ p run bs c.args.draft d i c.args.inside m n ds ys os gs c.in_ok-noted.ensures c.in-Ok-table_before.ensures.long c.step_again.new.meter c.unwrap_or-later.ensures c.in-Ok-change_all.ensures.states c.in-Ok-change_all.ensures.outputs (c.deref.ensures.value ∙ c.in-Ok-change_all.ensures.turns) _ c.in_err-step_again.ensures in
-    pass_edit _ _ c.from_residual-in_err-step_again.ensures.0 (members_fail_anew old refl (new_stop φ p run bs own c.args.draft d i c.args.inside m n ds ys gs c.in_ok-noted.ensures _ c.step_again.new.meter turned))
+    let old = old_step φ p run bs own c.args.edit.draft d i c.args.inside m n ds ys gs c.in_ok-noted.ensures in
+    let os = c.in-Ok.outputs.items in
+    let turned = not_turned_so φ p run bs c.args.edit.draft d i c.args.inside m n ds ys os gs c.in_ok-noted.ensures c.in-Ok.ensures.long c.step_again.new.meter c.unwrap_or-later.ensures c.in-Ok-change_all.ensures.states c.in-Ok-change_all.ensures.outputs (c.deref.ensures.value ∙ c.in-Ok-change_all.ensures.turns) _ c.in_err-step_again.ensures in
+    pass_edit _ _ c.from_residual-in_err-step_again.ensures.0 (members_fail_anew old refl (new_stop φ p run bs own c.args.edit.draft d i c.args.inside m n ds ys gs c.in_ok-noted.ensures _ c.step_again.new.meter turned))
 
-pub step_draft-returns-in-Ok-table_after : goal.step_draft-returns-in-Ok-table_after
-step_draft-returns-in-Ok-table_after g t c =
+pub step_turns-returns-in-Ok-table_after : goal.step_turns-returns-in-Ok-table_after
+step_turns-returns-in-Ok-table_after g t c = λ rs own.
     let φ = g.R.Holds.answers c.args.context.now.functions.now in
     let p = c.args.context.now.plan.now in
-    let run = c.args.members.now in
+    let run = held_as c.args.keys.now rs c.args.edit.wait in
     let d = c.args.context.now.dt in
     let i = c.args.value.now in
     let m = c.args.meter.now in
     let n = c.step_noted.new.meter in
-    let bs = c.in-Some.states.now.items in
+    let bs = c.args.states.now.items in
     let ds = c.step_noted.new.states.items in
     let ys = c.in_ok-noted.noted.outputs.items in
     let gs = c.in_ok-noted.noted.turns.items in
-    let own = subst (λ (v : Vec State Global). AllFollow φ p run.states.value.items v.items) (sym c.in-Some.ensures.value) (c.unshare_states.ensures φ p) in
-    let old = old_step φ p run bs own c.args.draft d i c.args.inside m n ds ys gs c.in_ok-noted.ensures in
-    let os = c.in-Ok-table_before.outputs.items in
+    let old = old_step φ p run bs own c.args.edit.draft d i c.args.inside m n ds ys gs c.in_ok-noted.ensures in
+    let os = c.in-Ok.outputs.items in
     let es = c.step_again.new.states.items in
     let zs = c.step_again.new.outputs.items in
-    let turned = turned_so φ p run bs c.args.draft d i c.args.inside m n ds ys os gs c.in_ok-noted.ensures c.in-Ok-table_before.ensures.long c.step_again.new.meter c.unwrap_or-later.ensures c.in-Ok-change_all.ensures.states c.in-Ok-change_all.ensures.outputs (c.deref.ensures.value ∙ c.in-Ok-change_all.ensures.turns) es zs c.in_ok-step_again.ensures in
-    let cs = c.args.draft.changes.items in
-    let ks = c.in-Ok-new.keys.value in
-    let before = c.in-Ok-table_before.before in
-    new_run old refl (new_step φ p run bs own c.args.draft d i c.args.inside m n ds ys gs c.in_ok-noted.ensures es turned.vs ks c.step_again.new.meter c.in-Ok-new.ensures.ok turned.turned)
-    (shows_so c.args.shown (table (rows_under run.keys.value ys)) c.in-Ok-table_after.rows before (λ zs. table (rows_under ks zs)) zs turned.vs c.in-Ok-table_before.ensures.shows (λ none. turned.same (ap (all_changed (λ a. i) cs) (c.in-Ok-table_before.ensures.same none))) c.in-Ok-table_after.ensures)
+    let turned = turned_so φ p run bs c.args.edit.draft d i c.args.inside m n ds ys os gs c.in_ok-noted.ensures c.in-Ok.ensures.long c.step_again.new.meter c.unwrap_or-later.ensures c.in-Ok-change_all.ensures.states c.in-Ok-change_all.ensures.outputs (c.deref.ensures.value ∙ c.in-Ok-change_all.ensures.turns) es zs c.in_ok-step_again.ensures in
+    let cs = c.args.edit.draft.changes.items in
+    let ks = c.in-Ok-new.all.value in
+    let before = c.in-Ok.before in
+    new_run old refl (new_step φ p run bs own c.args.edit.draft d i c.args.inside m n ds ys gs c.in_ok-noted.ensures es turned.vs ks c.step_again.new.meter c.in-Ok-new.ensures.ok turned.turned)
+    (shows_so c.args.edit.shown (table (rows_under run.keys ys)) c.in-Ok-table_after.rows before (λ zs. table (rows_under ks zs)) zs turned.vs c.in-Ok.ensures.shows (λ none. turned.same (ap (all_changed (λ a. i) cs) (c.in-Ok.ensures.same none))) c.in-Ok-table_after.ensures)
 
-pub step_draft-returns : goal.step_draft-returns
-step_draft-returns g t c =
+pub step_turns-returns : goal.step_turns-returns
+step_turns-returns g t c = λ rs own.
     let φ = g.R.Holds.answers c.args.context.now.functions.now in
     let p = c.args.context.now.plan.now in
-    let run = c.args.members.now in
+    let run = held_as c.args.keys.now rs c.args.edit.wait in
     let d = c.args.context.now.dt in
     let i = c.args.value.now in
     let m = c.args.meter.now in
     let n = c.step_noted.new.meter in
-    let bs = c.in-Some.states.now.items in
+    let bs = c.args.states.now.items in
     let ds = c.step_noted.new.states.items in
     let ys = c.in_ok-noted.noted.outputs.items in
     let gs = c.in_ok-noted.noted.turns.items in
-    let own = subst (λ (v : Vec State Global). AllFollow φ p run.states.value.items v.items) (sym c.in-Some.ensures.value) (c.unshare_states.ensures φ p) in
-    let old = old_step φ p run bs own c.args.draft d i c.args.inside m n ds ys gs c.in_ok-noted.ensures in
-    let os = c.in-Ok-table_before.outputs.items in
+    let old = old_step φ p run bs own c.args.edit.draft d i c.args.inside m n ds ys gs c.in_ok-noted.ensures in
+    let os = c.in-Ok.outputs.items in
     let es = c.step_again.new.states.items in
     let zs = c.step_again.new.outputs.items in
-    let turned = turned_so φ p run bs c.args.draft d i c.args.inside m n ds ys os gs c.in_ok-noted.ensures c.in-Ok-table_before.ensures.long c.step_again.new.meter c.unwrap_or-later.ensures c.in-Ok-change_all.ensures.states c.in-Ok-change_all.ensures.outputs (c.deref.ensures.value ∙ c.in-Ok-change_all.ensures.turns) es zs c.in_ok-step_again.ensures in
-    edit_stopped c.stop-in-Err.ensures.fault (members_fail_anew old refl (new_end φ p run bs own c.args.draft d i c.args.inside m n ds ys gs c.in_ok-noted.ensures es turned.vs c.step_again.new.meter c.stop-in-Err.new.self c.stop-in-Err.ensures.entered c.stop-in-Err.ensures.height turned.turned))
+    let turned = turned_so φ p run bs c.args.edit.draft d i c.args.inside m n ds ys os gs c.in_ok-noted.ensures c.in-Ok.ensures.long c.step_again.new.meter c.unwrap_or-later.ensures c.in-Ok-change_all.ensures.states c.in-Ok-change_all.ensures.outputs (c.deref.ensures.value ∙ c.in-Ok-change_all.ensures.turns) es zs c.in_ok-step_again.ensures in
+    edit_stopped c.stop-in-Err.ensures.fault (members_fail_anew old refl (new_end φ p run bs own c.args.edit.draft d i c.args.inside m n ds ys gs c.in_ok-noted.ensures es turned.vs c.step_again.new.meter c.stop-in-Err.new.self c.stop-in-Err.ensures.entered c.stop-in-Err.ensures.height turned.turned))
 
 -- ## step_members
 

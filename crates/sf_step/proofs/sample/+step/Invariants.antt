@@ -140,6 +140,12 @@ decreases-step_made g l = 20 * (1600 - l.inside) + 11
 abbrev pub decreases-step_draft : goal.decreases-step_draft
 decreases-step_draft g l = 20 * (1600 - l.inside) + 11
 
+abbrev pub decreases-step_turns_copy : goal.decreases-step_turns_copy
+decreases-step_turns_copy g l = 20 * (1600 - l.inside) + 10
+
+abbrev pub decreases-step_turns : goal.decreases-step_turns
+decreases-step_turns g l = 20 * (1600 - l.inside) + 9
+
 abbrev pub decreases-step_noted : goal.decreases-step_noted
 decreases-step_noted g l = 20 * (1600 - l.inside) + 7
 
