@@ -141,7 +141,7 @@ def figures_of(crate, kept):
         source.count(True),
         *(sum(1 for _ in lines_of(crate, part)) for part in ("specs", "proofs")),
         kept["functions"].get(crate),
-        len(os.listdir(bodies)) if os.path.isdir(bodies) else 0,
+        sum(name.endswith(".edit") for name in os.listdir(bodies)) if os.path.isdir(bodies) else 0,
         (taken["proofs"] + taken.get("tests", 0)) / 60 if "proofs" in taken else None,
         taken["bodies"] / 60 if "bodies" in taken else None,
     ]

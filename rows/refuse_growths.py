@@ -300,7 +300,14 @@ def growths(exe, path, shim, lines):
     return low
 
 
-def edit(exe, place, shim):
+# Edits in which one member comes and one goes.
+EDITS = [
+    "drop(add(use ks, (k + 100), (iPre 0 >>> iPre 0)), (k + 99))",
+    "keep(add(use ks, (k + 100), (iPre 0 >>> iPre 0)), j => (j != (k + 99)))",
+]
+
+
+def edit(exe, place, shim, term):
     """Whether an edit takes as many growths whether few of its members stay or many, so that it copies none of their states."""
     path = os.path.join(place, "network")
     counts = []
@@ -309,14 +316,13 @@ def edit(exe, place, shim):
         for key in range(count):
             members = f"add({members}, {key}, (iPre 0 >>> iPre 0))"
         with open(path, "w") as file:
-            file.write("network 2;\ntemplate main(): (Int, Event Int) ~> Int = (rpSwitchB(")
-            file.write(f"{members}, ks, k => drop(add(use ks, (k + 100), (iPre 0 >>> iPre 0)), (k + 99))) >>> arr t => size(t));\n")
+            file.write(f"network 2;\ntemplate main(): (Int, Event Int) ~> Int = (rpSwitchB({members}, ks, k => {term}) >>> arr t => size(t));\n")
         runs = [b"0 (1,none)\n" + b"".join(b"5 (1,event %d)\n" % number for number in range(edits)) for edits in (2, 3)]
         fewer, more = (growths(exe, path, shim, lines) for lines in runs)
         counts.append(more - fewer)
     well = 0 < counts[0] == counts[1]
     if not well:
-        print(f"an edit where 5 and 45 members stay takes {counts[0]} and {counts[1]} growths")
+        print(f"{term}: where 5 and 45 members stay, it takes {counts[0]} and {counts[1]} growths")
     return well, not well
 
 
@@ -338,7 +344,7 @@ def main():
         exe = os.path.abspath(options.exe)
         counts = [play(exe, place, shim, *run, *mode) for run in RUNS for mode in ([], ["--plain"])]
         counts += [write(exe, place, shim, "--check", "ok\n"), write(exe, place, shim, "--dump", many())]
-        counts.append(edit(exe, place, shim))
+        counts += [edit(exe, place, shim, term) for term in EDITS]
         counts.append(bake(os.path.abspath(options.oven), shim))
         counts += [tell(os.path.abspath(options.types), place, shim, *unfit) for unfit in UNFIT]
         counts.append(fail(exe, place, built(place, "failed_call"), *next(run for run in RUNS if "rpSwitchB" in run[0])))
