@@ -115,7 +115,7 @@ def load():
 def crates():
     """The crates in the order of crates.txt."""
     with open(os.path.join(TOP, "crates.txt")) as file:
-        return [line.partition(":")[0].strip() for line in file if ":" in line.partition("#")[0]]
+        return [line.partition(":")[0].split()[0] for line in file if ":" in line.partition("#")[0]]
 
 
 def is_test(path):
