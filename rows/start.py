@@ -17,10 +17,10 @@ import time
 HERE = os.path.dirname(os.path.abspath(__file__))
 TOP = os.path.join(HERE, "..")
 CRATES = "# lowest first\nlow: thiserror\nhigh: low\nsfplay: high clap\nsftypes: high\napart: low\n"
-PROVED = [f"sfplay: proving {crate}, {left} of 3 left\n" for crate, left in (("low", 3), ("high", 2), ("sfplay", 1))]
-BUILT = "".join(PROVED) + "sfplay: building the program\n"
-# It notes each call, proves all crates but the one that the file `broken` names, and builds the program below, or tries it. A proof or a
-# try goes on as long as the file `all` or `try` is there.
+BEGUN = (("low", 4), ("high", 3), ("sfplay, sftypes", 2))
+BUILT = "".join(f"sfplay: proving {crates}, {left} of 4 left\n" for crates, left in BEGUN)
+# It notes each call, proves all crates but the one that the file `broken` names, over the libraries of those below it, and builds the
+# programs below, or tries one. A proof or a try goes on as long as the file `lib` or `try` is there.
 RT = """#!/bin/sh
 echo "$*" >> "$TOP/calls"
 broken=$(cat "$TOP/broken" 2> /dev/null)
@@ -36,13 +36,12 @@ if [ "$1" = try ]; then
     status=$?
     printf 'checked: ended status=%s\nrun=ended status=%s runners=1 proved=no\n' $status $status >&2
     exit $status
-elif [ "$1" = all ]; then
-    for crate in low high sfplay; do
-        sleep 0.1
-        echo "== $crate"
-        [ "$crate" = "$broken" ] && printf 'why not\\n== summary\\n%s: failed (1)\\n' "$crate" && exit 1
-    done
-    echo "== summary"
+elif [ "$1" = lib ]; then
+    crate=${PWD##*/}
+    [ $crate != high ] || [ -e ../low/out/rlib/stamp ] || exit 1
+    [ $crate != "$broken" ] || { echo 'why not'; exit 1; }
+    mkdir -p out/rlib
+    touch out/rlib/stamp
 else
     mkdir -p out
     if [ "${PWD##*/}" = sftypes ]; then
@@ -132,7 +131,8 @@ class Repository:
 
 def first_and_second(at):
     yield "the first run builds", at.prove() == (PLAYED, BUILT, 3)
-    yield "it has all crates proved, and the program built", at.calls() == ["all", "run", "run"]
+    yield "it has all crates proved, and the programs built", at.calls() == ["lib", "lib", "run", "run"]
+    yield "what is made of a crate stands with it, and no copy is left", os.path.exists(at.path("crates/low/out/rlib/stamp")) and not os.path.exists(at.path("crates/sfplay/out/lanes"))
     os.symlink(at.path("sfplay"), at.path("bin/linked"))
     yield "the second only plays", at.play() == (PLAYED, "", 3)
     yield "so does a link to it", at.play(program=at.path("bin/linked")) == (PLAYED, "", 3)
@@ -170,7 +170,7 @@ def two_at_once(at):
     players = [at.start(*words), at.start(*words)]
     played = [player.communicate("0 1\n") for player in players]
     yield "both play", [output for output, _ in played] == [PLAYED, PLAYED]
-    yield "one builds", at.calls() == ["all", "run", "run"]
+    yield "one builds", at.calls() == ["lib", "lib", "run", "run"]
 
 
 def while_it_is_tried(at):
@@ -183,11 +183,11 @@ def while_it_is_tried(at):
 
 
 def while_it_is_built(at):
-    at.write("all", "")
+    at.write("lib", "")
     builder = at.start("--prove")
     at.wait_for("calls")
     yield "a run is answered from the sources", at.play() == (TRIED, NOT_PROVED, 3)
-    os.remove(at.path("all"))
+    os.remove(at.path("lib"))
     builder.communicate()
     yield "and by the program then", at.play() == (PLAYED, "", 3)
 
