@@ -21,7 +21,7 @@ DOCUMENT = "docs/EMBEDDING.md"
 # A paragraph that begins with the name of a source, and what is shown of it.
 SHOWN = re.compile(r"^`((?:crates|embedding)/[\w/]+\.\w+)`.*\n\n((?:(?:    .*)?\n)+)", re.MULTILINE)
 # What is left out where a tool is not there: the commands that begin with these words.
-TOOLS = {"cc": ("cc ", "./average"), "cargo": ("cargo ",)}
+TOOLS = {"cc": ("cc ", "./average", "./side_by_side"), "cargo": ("cargo ",)}
 
 
 def gathered(folder):

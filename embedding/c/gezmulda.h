@@ -8,7 +8,7 @@
 
 /* How a run ended: the statuses of sfplay. */
 enum {
-    GEZMULDA_DONE = 0,     /* all lines were played */
+    GEZMULDA_DONE = 0,     /* all lines were played, or those that were fed so far */
     GEZMULDA_FAULT = 3,    /* a sample had a fault, which the last line names */
     GEZMULDA_BAD_LINE = 4, /* a line was refused, which the last line names */
     GEZMULDA_REFUSED = 5,  /* the network was refused, and nothing was played */
@@ -30,5 +30,33 @@ uint8_t gezmulda_play(const uint8_t *net, size_t net_length, const uint8_t *inpu
  * for, as `C5 BarePre 2:31`, is written as far as the room takes it, and `given` says how many bytes that has. All else as above.
  */
 uint8_t gezmulda_check(const uint8_t *net, size_t net_length, uint8_t *out, size_t room, size_t *given);
+
+/*
+ * A run that is kept between calls: a handle. Before `gezmulda_make` and after `gezmulda_free` it holds nothing, as `{ NULL }`; between
+ * them it holds a run, and what lies behind its pointer is the library's alone. It is not copied, since a copy would be a second owner
+ * of the same run. It may be moved. Each handle stays on the thread that made it; other threads may have handles of their own.
+ */
+typedef struct gezmulda_engine {
+    void *held;
+} gezmulda_engine;
+
+/*
+ * Puts a run of the network that a text is into a handle that holds nothing: GEZMULDA_DONE; or GEZMULDA_REFUSED where the text is
+ * refused or memory runs out, and the handle holds nothing still. It says what probes read where `probes` is true.
+ */
+uint8_t gezmulda_make(const uint8_t *net, size_t net_length, bool probes, gezmulda_engine *engine);
+
+/*
+ * Feeds a piece of its input to the run in a handle. What that gives is kept in the handle until it is taken, and `waiting` says how
+ * many bytes that are. A line is played once its line feed is there; `save NAME` and `back NAME` are lines too. The answer is
+ * GEZMULDA_DONE while the run goes on; or GEZMULDA_FAULT or GEZMULDA_BAD_LINE once it has ended, and then nothing changes it any more.
+ */
+uint8_t gezmulda_feed(gezmulda_engine *engine, const uint8_t *piece, size_t piece_length, size_t *waiting);
+
+/* Takes what waits in a handle: as much as the room takes is written there, and no longer waits. Answers how many bytes that are. */
+size_t gezmulda_take(gezmulda_engine *engine, uint8_t *room, size_t room_length);
+
+/* Lets the run in a handle go, and gives back all its memory. The handle holds nothing then. */
+void gezmulda_free(gezmulda_engine *engine);
 
 #endif

@@ -3,12 +3,16 @@
     import gezmulda
     gezmulda.play("network 1;\\ntemplate main(): Int ~> Int = iPre 0;\\n", "0 1\\n20 2\\n").lines
 
+    with gezmulda.Engine("network 1;\\ntemplate main(): Int ~> Int = iPre 0;\\n") as engine:
+        engine.feed("0 1\\n")
+
 The library is libgezmulda.so, which embedding/build.py makes, in the folder that GEZMULDA names, or in embedding/out. The proof ends
-at the call of `gezmulda_play`: nothing proves what stands here.
+at the calls of the library: nothing proves what stands here.
 """
 
 import ctypes
 import os
+import threading
 from typing import NamedTuple
 
 DONE, FAULT, BAD_LINE, REFUSED, NO_ROOM = 0, 3, 4, 5, 6
@@ -22,12 +26,25 @@ class Played(NamedTuple):
     lines: str
 
 
+class Handle(ctypes.Structure):
+    """What the library keeps a run by. It holds one from `gezmulda_make` to `gezmulda_free`."""
+
+    _fields_ = [("held", ctypes.c_void_p)]
+
+
 def opened():
     library = ctypes.CDLL(os.path.join(os.environ.get("GEZMULDA", BESIDE), "libgezmulda.so"))
     bytes_in, size = ctypes.c_char_p, ctypes.c_size_t
     library.gezmulda_play.argtypes = [bytes_in, size, bytes_in, size, ctypes.c_bool, ctypes.c_char_p, size, ctypes.POINTER(size)]
     library.gezmulda_check.argtypes = [bytes_in, size, ctypes.c_char_p, size, ctypes.POINTER(size)]
     library.gezmulda_play.restype = library.gezmulda_check.restype = ctypes.c_uint8
+    handle = ctypes.POINTER(Handle)
+    library.gezmulda_make.argtypes = [bytes_in, size, ctypes.c_bool, handle]
+    library.gezmulda_feed.argtypes = [handle, bytes_in, size, ctypes.POINTER(size)]
+    library.gezmulda_take.argtypes = [handle, ctypes.c_char_p, size]
+    library.gezmulda_free.argtypes = [handle]
+    library.gezmulda_make.restype = library.gezmulda_feed.restype = ctypes.c_uint8
+    library.gezmulda_take.restype, library.gezmulda_free.restype = size, None
     return library
 
 
@@ -58,3 +75,48 @@ def refusal(network):
     out, given = ctypes.create_string_buffer(64), ctypes.c_size_t()
     status = LIBRARY.gezmulda_check(network, len(network), out, len(out), given)
     return None if status == DONE else out.raw[: given.value].decode()
+
+
+class Engine:
+    """A run that is fed its input piece by piece. It stays on the thread that made it, and keeps its memory until it is closed.
+
+    `end` is the status with which the run has ended, or None while it goes on.
+    """
+
+    def __init__(self, network, probes=False):
+        """A run at its start, of the network that a text is, which calls no stored functions. ValueError says what it is refused for."""
+        text = network.encode()
+        self.end, self.thread, self.handle = None, threading.get_ident(), Handle()
+        if LIBRARY.gezmulda_make(text, len(text), probes, self.handle) != DONE:
+            self.handle = None
+            raise ValueError(refusal(network) or "Memory")
+
+    def feed(self, piece):
+        """Feeds a piece of the input, and answers what it gives. A line is played once its line feed is there. After the end it gives nothing."""
+        self.look()
+        piece, waiting = piece.encode(), ctypes.c_size_t()
+        status = LIBRARY.gezmulda_feed(self.handle, piece, len(piece), waiting)
+        room = ctypes.create_string_buffer(max(waiting.value, 1))
+        taken = LIBRARY.gezmulda_take(self.handle, room, waiting.value)
+        self.end = status or None
+        return room.raw[:taken].decode()
+
+    def close(self):
+        """Lets the run go, with its memory. A second time it does nothing."""
+        if self.handle:
+            self.look()
+            LIBRARY.gezmulda_free(self.handle)
+            self.handle = None
+
+    def look(self):
+        """Refuses what would break the library's contract."""
+        if not self.handle:
+            raise ValueError("the engine is closed")
+        if threading.get_ident() != self.thread:
+            raise RuntimeError("the engine belongs to another thread")
+
+    def __enter__(self):
+        return self
+
+    def __exit__(self, *_):
+        self.close()

@@ -1,10 +1,11 @@
 """Tests of gezmulda.py: python3 -m unittest, in this folder."""
 
+import ctypes
 import threading
 import unittest
 
 import gezmulda
-from gezmulda import BAD_LINE, DONE, FAULT, REFUSED, play, refusal
+from gezmulda import BAD_LINE, DONE, FAULT, REFUSED, Engine, play, refusal
 
 AVERAGE = "network 1;\ntemplate main(): Int ~> Int = ((iPre 0 &&& identity) >>> arr (before, reading) => ((before + reading) div 2));\n"
 
@@ -60,6 +61,81 @@ class Plays(unittest.TestCase):
         for thread in threads:
             thread.join()
         self.assertEqual(runs, [alone] * 4)
+
+
+class Engines(unittest.TestCase):
+    def test_two_engines_are_fed_by_turns(self):
+        with Engine(AVERAGE) as one, Engine(AVERAGE) as other:
+            self.assertEqual(one.feed("0 10\n"), "> 0 5\n")
+            self.assertEqual(other.feed("0 100\n"), "> 0 50\n")
+            self.assertEqual(one.feed("20 20\n"), "> 20 15\n")
+            self.assertEqual(other.feed("20 200\n"), "> 20 150\n")
+            self.assertEqual((one.end, other.end), (None, None))
+
+    def test_an_engine_goes_back_to_what_it_kept(self):
+        with Engine(AVERAGE) as one, Engine(AVERAGE) as other:
+            self.assertEqual(one.feed("0 10\nsave here\n20 20\n"), "> 0 5\n> 20 15\n")
+            self.assertEqual(other.feed("0 100\n"), "> 0 50\n")
+            self.assertEqual(one.feed("back here\n30 40\n"), "> 30 25\n")
+            self.assertEqual(other.feed("back here\n"), "! line 2 NoSave\n")
+            self.assertEqual((one.end, other.end), (None, BAD_LINE))
+
+    def test_a_line_is_played_once_it_is_complete(self):
+        with Engine(AVERAGE) as engine:
+            self.assertEqual([engine.feed(piece) for piece in ("0 1", "0\n20 2", "0\n")], ["", "> 0 5\n", "> 20 15\n"])
+
+    def test_nothing_comes_behind_the_end(self):
+        with Engine("network 1;\ntemplate main(): Int ~> Int = arr x => (10 div x);\n") as engine:
+            self.assertEqual(engine.feed("0 5\n1 0\n1 2\n"), "> 0 2\n! 1 DivideByZero\n")
+            self.assertEqual((engine.feed("1 2\n"), engine.end), ("", FAULT))
+
+    def test_readings_are_given_where_they_are_asked_for(self):
+        with Engine("network 1;\ntemplate main(): Int ~> Int = (probe level >>> arr x => (2 * x));\n", probes=True) as engine:
+            self.assertEqual(engine.feed("0 1\n"), "? level 1\n> 0 2\n")
+
+    def test_no_engine_is_made_of_a_refused_network(self):
+        with self.assertRaisesRegex(ValueError, "C7 NoMain 1:1"):
+            Engine("network 1;\n")
+
+    def test_what_is_not_taken_waits(self):
+        with Engine(AVERAGE) as engine:
+            waiting, lines, rooms = ctypes.c_size_t(), b"0 10\n20 20\n20 x\n20 30\n", (4, 0, 9, 100, 100)
+            status = gezmulda.LIBRARY.gezmulda_feed(engine.handle, lines, len(lines), waiting)
+            said = [take(engine, room) for room in rooms]
+            self.assertEqual((status, waiting.value), (BAD_LINE, len("> 0 5\n> 20 15\n! line 3 BadValue\n")))
+            self.assertEqual(said, [b"> 0 ", b"", b"5\n> 20 15", b"\n! line 3 BadValue\n", b""])
+
+    def test_an_engine_says_what_play_says(self):
+        lines = ["0 1\n", *(f"1 {number}\n" for number in range(1, 2000))]
+        with Engine(AVERAGE) as engine:
+            self.assertEqual((DONE, "".join(map(engine.feed, lines))), play(AVERAGE, "".join(lines)))
+
+    def test_a_closed_engine_is_closed(self):
+        engine = Engine(AVERAGE)
+        engine.close()
+        engine.close()
+        self.assertRaises(ValueError, engine.feed, "0 1\n")
+
+    def test_an_engine_stays_on_its_thread(self):
+        failures = []
+        with Engine(AVERAGE) as engine:
+            def elsewhere():
+                try:
+                    engine.feed("0 10\n")
+                except RuntimeError as error:
+                    failures.append(str(error))
+
+            thread = threading.Thread(target=elsewhere)
+            thread.start()
+            thread.join()
+            self.assertEqual((failures, engine.feed("0 10\n")), (["the engine belongs to another thread"], "> 0 5\n"))
+
+
+def take(engine, room):
+    """What waits, as far as a room of that size takes it."""
+    out = ctypes.create_string_buffer(room + 1)
+    taken = gezmulda.LIBRARY.gezmulda_take(engine.handle, out, room)
+    return out.raw[:taken]
 
 
 if __name__ == "__main__":

@@ -8,6 +8,9 @@ ghost use Rattle.sf_player.specs.Counting.{inner_of};
 ghost use Rattle.sf_player.specs.Statuses.{status_of};
 ghost use Rattle.sf_player.specs.Telling.{Plays};
 
+pub mod engine;
+pub mod handle;
+mod loose;
 pub mod refusal;
 
 use sf_func::Registry;

@@ -1,6 +1,7 @@
 -- Which types differ in a network that is refused, and where.
 use Rattle.std.specs.Prelude.{◌≡◌, ◌≢◌, ◌<◌, ◌⊎◌, ℕ, ℤ, IsTrue, List, [], ◌∷◌, Option, Some, None, slice_get}
 use Rattle.sf_value.specs.Values.{Name, KeyKind, Kind, bool_kind, int_kind, pair_kind, event_kind, table_kind}
+use Rattle.sf_value.specs.KindView.{key_kind_of}
 use Rattle.sf_refusal.specs.declared.spot.Spot.{Spot}
 use Rattle.sf_func.specs.Registries.{TypesByName}
 use Rattle.sf_operator.specs.Kinds.{kind_of_keys}
@@ -55,6 +56,8 @@ use Rattle.sf_term.specs.Trees.{Template}
 use Rattle.sf_term.specs.Arena.{tree, term_node_at, term_spot_at, expressions_of, arguments_under, arguments_of, collection_under, collection_of, collection_at, headers_of, templates_of}
 use Rattle.sf_mean.specs.Contexts.{NameKind, value, process, collection, Bindings, Signature, signature_named, Context, names_of_values, context_of, inside_pattern}
 use Rattle.sf_mean.specs.Typing.{bare_kind, value_kind, takes_input, selected_kind, accumulated_argument, accumulated_kind, Takes, Collects, ArgumentsFit, IsTyped}
+use Rattle.sf_check.specs.declared.body.Body.{Body}
+use Rattle.sf_check.specs.declared.body.Edit.{Edit}
 use Rattle.sf_check.specs.Names.{NamesDiffer}
 use Rattle.sf_check.specs.Breaking.{kind_named, pattern_in, name_in, keeping_inside, members_inside, BindsInside, BodyWanted, ArgumentsLeft, Reaches, ReachesMembers}
 use Rattle.sf_check.specs.Answering.{ArgumentFits}
@@ -286,6 +289,13 @@ BodyStops p Δ s q u a b c d = BodyDiffers p Δ s q u a b c d ⊎ (BindsInside (
 -- what differs in an edit or within it
 abbrev pub EditUnfit : Program → Context → Spot → PatternId → CollectionId → KeyKind → (a b c : Kind) → Difference → Type 0
 EditUnfit p Δ s q u k a b c d = EditDiffers p Δ s q u k a b c d ⊎ (BindsInside (pattern_in p q) c Δ × CollectionDiffers p (inside_pattern (pattern_in p q) c Δ) (collection_under p u) a d)
+
+-- the same by what a body or an edit is typed by
+abbrev pub StopsBody : Program → Context → Body → Difference → Type 0
+StopsBody p Δ b d = BodyStops p Δ b.spot b.pattern b.term b.input.now b.wanted.now b.payload.now d
+
+abbrev pub StopsEdit : Program → Context → Edit → Difference → Type 0
+StopsEdit p Δ e d = EditUnfit p Δ e.spot e.form.pattern e.form.edit (key_kind_of e.wanted.now.keys) e.input.now e.wanted.now.output e.payload.now d
 
 -- With functions of these types, so it is in a template, or its term gives outputs of another type than its header says.
 pub data TemplateDiffers (fs : TypesByName) (p : Program) (h : Header) : Difference → Type 0 where

@@ -41,6 +41,8 @@ use Rattle.sf_mean.specs.Contexts.{NameKind, value, process, collection, Binding
 use Rattle.sf_mean.specs.Typing.{bare_kind, value_kind, takes_input, takes_time, timed_kind, takes_number, selected_kind, accumulated_argument, accumulated_kind}
 use Rattle.sf_mean.specs.Inference.{value_is_argument}
 use Rattle.sf_check.specs.Standing.{kind_named, pattern_in, name_in, keeping_inside, members_inside}
+use Rattle.sf_check.specs.declared.body.Body.{Body}
+use Rattle.sf_check.specs.declared.body.Edit.{Edit}
 use Rattle.sf_check.specs.declared.member_types.MemberTypes.{MemberTypes}
 
 -- whether a type has at most 256 nodes, as those of inputs have
@@ -316,6 +318,14 @@ term_judged p t = judged_below p (suc (term_number t)) t
 -- the same, where this is its node
 abbrev pub judged_as : Program → TermId → Node → TermJudge
 judged_as p t n = node_judged p (term_judged p) (term_spot_at p t) n
+
+-- the type of a body's outputs, by what it is typed by
+abbrev pub judged_body : Program → Body → Context → Result Kind Breach
+judged_body p b Γ = body_judged p b.spot b.pattern (term_judged p b.term) b.input.now b.wanted.now b.payload.now Γ
+
+-- the same of the types of an edit
+abbrev pub judged_edit : Program → Edit → Context → Result (KeyKind × Kind) Breach
+judged_edit p e Γ = edit_judged p e.spot e.form.pattern (members_judged p (term_judged p) (collection_under p e.form.edit)) e.input.now (key_kind_of e.wanted.now.keys, e.wanted.now.output) e.payload.now Γ
 
 -- with functions of these types, the type that a template's term takes its header's inputs to: that of its header's outputs
 unfoldable pub template_judged : TypesByName → Program → Header → Result Kind Breach

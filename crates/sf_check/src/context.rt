@@ -4,6 +4,7 @@ ghost use Rattle.sf_value.specs.KindView.{key_kind_of};
 ghost use Rattle.sf_func.specs.Signatures.{signatures_in};
 ghost use Rattle.sf_refusal.specs.Refusals.{OrMemory};
 ghost use Rattle.sf_expr.specs.Arena.{placed_at};
+ghost use Rattle.sf_expr.specs.Contexts.{exprs_in, types_around};
 ghost use Rattle.sf_expr.specs.Refusals.{PatternRefused};
 ghost use Rattle.sf_expr.specs.Judging.{binding_at, Stops};
 ghost use Rattle.sf_expr.specs.Scopes.{entries_in};
@@ -16,7 +17,7 @@ ghost use Rattle.sf_check.specs.Judging.{process_at, members_at};
 use crate::collection_types::CollectionTypes;
 use crate::process_types::ProcessTypes;
 use indexmap::IndexSet;
-use sf_expr::{Frame, Meaning, NameId, PatternId, TypeScope};
+use sf_expr::{ExprContext, Frame, Meaning, NameId, PatternId, TypeScope};
 use sf_func::Signatures;
 use sf_refusal::{Refusal, Rule, Spot};
 use sf_term::{Program, Template};
@@ -70,6 +71,19 @@ impl<'a> TypingContext<'a> {
             names,
             functions,
         })
+    }
+
+    /// What expressions of the program are typed under, among the names around the term.
+    pub(crate) fn expressions<'b>(&'b self) -> ExprContext<'b, 'a>
+        ensures program { exprs_in result ≡ expressions_of (program_in self.now) }
+        ensures names { types_around result ≡ names_of_values (context_in self.now) }
+    {
+        ExprContext {
+            alloc: self.alloc,
+            exprs: self.program.expressions(),
+            names: &self.names,
+            functions: self.functions,
+        }
     }
 
     /// The template of a name, or `None` where there is none.

@@ -22,9 +22,10 @@ ghost use Rattle.sf_check.specs.Standing.{bindings_from, inside_names};
 ghost use Rattle.sf_check.specs.Names.{names_of_set, program_names, NamesDiffer};
 ghost use Rattle.sf_check.specs.Refusing.{RefusesNetwork};
 ghost use Rattle.sf_check.specs.Breaking.{pattern_in, keeping_inside, members_inside, BindsInside, ArgumentKeeps};
-ghost use Rattle.sf_check.specs.Differing.{bare_wants, value_wants, input_wants, timed_wants, start_wants, accumulated_wants, made_wants, PrimitiveDiffers, BodyStops, EditUnfit, TermDiffers, CollectionDiffers, ArgumentDiffersWithin, TemplateDiffers, NetworkDiffers};
+ghost use Rattle.sf_check.specs.Differing.{bare_wants, value_wants, input_wants, timed_wants, start_wants, accumulated_wants, made_wants, PrimitiveDiffers, StopsBody, StopsEdit, TermDiffers, CollectionDiffers, ArgumentDiffersWithin, TemplateDiffers, NetworkDiffers};
 
 use crate::blaming::{suits_keys, suits_members, suits_type};
+use crate::body::{Body, Edit};
 use crate::call_differing::explain_fit;
 use crate::context::TypingContext;
 use crate::member_types::{MemberTypes, table_type, type_of_keys};
@@ -71,15 +72,8 @@ fn answer(
     ensures ok { IfOk result (λ t. FunctionTakes (names_of_values (context_in context.now)) (function_at (expressions_of (program_in context.now)) function) argument.now t) }
     ensures err { IfErr result (λ b. Explains (FunctionDiffers (expressions_of (program_in context.now)) (names_of_values (context_in context.now)) function argument.now spot) b) }
 {
-    explain_function(
-        context.alloc,
-        context.program.expressions(),
-        function,
-        argument,
-        &context.names,
-        context.functions,
-        spot,
-    )
+    let expressions = context.expressions();
+    explain_function(&expressions, function, argument, spot)
 }
 
 /// Which inputs a primitive without constants wants; none where any will do.
@@ -455,15 +449,15 @@ fn explain_basic(
     let output = part(context, form.source, input)?;
     suited(context.alloc, &output, Some(Wanted::EventBeside), spot)?;
     let (value, payload) = value_and_payload(&output, spot)?;
-    explain_body(
-        context,
-        form.pattern,
+    let body = Body {
+        pattern: form.pattern,
         payload,
-        form.body,
+        term: form.body,
         input,
-        value,
+        wanted: value,
         spot,
-    )
+    };
+    explain_body(context, &body)
 }
 
 /// What differs in a term that gives way at an event beside its input, on inputs of a type.
@@ -484,15 +478,15 @@ fn explain_recurring(
     suited(context.alloc, input, Some(Wanted::EventBeside), spot)?;
     let (value, payload) = value_and_payload(input, spot)?;
     let output = part(context, form.source, value)?;
-    explain_body(
-        context,
-        form.pattern,
+    let body = Body {
+        pattern: form.pattern,
         payload,
-        form.body,
-        value,
-        &output,
+        term: form.body,
+        input: value,
+        wanted: &output,
         spot,
-    )
+    };
+    explain_body(context, &body)
 }
 
 /// What differs in a term that gives way at the event that an observer sees, and is then known by a name, on inputs of a type.
@@ -514,35 +508,25 @@ fn explain_keeping(
     let seen = part(context, form.observer, &watched)?;
     suited(context.alloc, &seen, Some(Wanted::Event), spot)?;
     let event = payload(&seen, spot)?;
-    explain_kept(
-        context,
-        form.name,
-        form.pattern,
-        event,
-        form.body,
+    let body = Body {
+        pattern: form.pattern,
+        payload: event,
+        term: form.body,
         input,
-        &value,
+        wanted: &value,
         spot,
-    )
+    };
+    explain_kept(context, form.name, &body)
 }
 
 /// What differs in a body inside the name of a process from the one type to the other and a pattern for payloads of a type.
 #[cycle(explain)]
-fn explain_kept(
-    context: &TypingContext,
-    name: NameId,
-    pattern: PatternId,
-    payload: &Ty,
-    body: TermId,
-    input: &Ty,
-    wanted: &Ty,
-    spot: Spot,
-) -> Result<(), Blame>
-    requires { Fits input.now }
-    ensures { IfErr result (λ b. Explains (BodyStops (program_in context.now) (keeping_inside (program_in context.now) name input.now wanted.now (context_in context.now)) spot pattern body input.now wanted.now payload.now) b) }
+fn explain_kept(context: &TypingContext, name: NameId, body: &Body) -> Result<(), Blame>
+    requires { Fits body.now.input.now }
+    ensures { IfErr result (λ b. Explains (StopsBody (program_in context.now) (keeping_inside (program_in context.now) name body.now.input.now body.now.wanted.now (context_in context.now)) body.now) b) }
 {
-    let names = (&*context).process_name(name, &*input, &*wanted)?;
-    explain_inside(context, &names, pattern, payload, body, input, wanted, spot)
+    let names = (&*context).process_name(name, &*body.input, &*body.wanted)?;
+    explain_inside(context, &names, body)
 }
 
 /// What differs in members that give way at the event that an observer sees, and are then known by a name, on inputs of a type.
@@ -565,34 +549,30 @@ fn explain_releasing(
     let seen = part(context, form.observer, &watched)?;
     suited(context.alloc, &seen, Some(Wanted::Event), spot)?;
     let event = payload(&seen, spot)?;
-    explain_released(context, form, event, input, &types, &table, spot)
+    let body = Body {
+        pattern: form.pattern,
+        payload: event,
+        term: form.body,
+        input,
+        wanted: &table,
+        spot,
+    };
+    explain_released(context, form.name, &types, &body)
 }
 
 /// What differs in the body of members that give way to it, inside their name and a pattern for payloads of a type.
 #[cycle(explain)]
 fn explain_released(
     context: &TypingContext,
-    form: Releasing,
-    payload: &Ty,
-    input: &Ty,
+    name: NameId,
     types: &MemberTypes,
-    table: &Ty,
-    spot: Spot,
+    body: &Body,
 ) -> Result<(), Blame>
-    requires { Fits input.now }
-    ensures { IfErr result (λ b. Explains (BodyStops (program_in context.now) (members_inside (program_in context.now) form.name (key_kind_of types.now.keys) input.now types.now.output (context_in context.now)) spot form.pattern form.body input.now table.now payload.now) b) }
+    requires { Fits body.now.input.now }
+    ensures { IfErr result (λ b. Explains (StopsBody (program_in context.now) (members_inside (program_in context.now) name (key_kind_of types.now.keys) body.now.input.now types.now.output (context_in context.now)) body.now) b) }
 {
-    let names = (&*context).members_name(form.name, types.keys, &*input, &types.output)?;
-    explain_inside(
-        context,
-        &names,
-        form.pattern,
-        payload,
-        form.body,
-        input,
-        table,
-        spot,
-    )
+    let names = (&*context).members_name(name, types.keys, &*body.input, &types.output)?;
+    explain_inside(context, &names, body)
 }
 
 /// What differs in members that are edited at each event beside their inputs, on inputs of a type.
@@ -612,27 +592,32 @@ fn explain_editing(
     suited(context.alloc, input, Some(Wanted::EventBeside), spot)?;
     let (value, payload) = value_and_payload(input, spot)?;
     let types = members_at_part(context, term, form.members, value)?;
-    explain_edited(context, term, form, payload, value, &types, spot)
+    let edit = Edit {
+        form,
+        payload,
+        input: value,
+        wanted: &types,
+        spot,
+    };
+    explain_edited(context, term, &edit)
 }
 
 /// What differs in an edit, which is to have the types of members, inside their name and a pattern for payloads of a type.
 #[cycle(explain)]
-fn explain_edited(
-    context: &TypingContext,
-    term: TermId,
-    form: Editing,
-    payload: &Ty,
-    input: &Ty,
-    wanted: &MemberTypes,
-    spot: Spot,
-) -> Result<(), Blame>
-    requires fits { Fits input.now }
-    requires below { CollectionBelow (term_number term) (collection_under (program_in context.now) form.edit) }
-    requires shallow { collection_depth (collection_of (program_in context.now) (collection_under (program_in context.now) form.edit)) ≤ 64 }
-    ensures { IfErr result (λ b. Explains (EditUnfit (program_in context.now) (members_inside (program_in context.now) form.name (key_kind_of wanted.now.keys) input.now wanted.now.output (context_in context.now)) spot form.pattern form.edit (key_kind_of wanted.now.keys) input.now wanted.now.output payload.now) b) }
+fn explain_edited(context: &TypingContext, term: TermId, edit: &Edit) -> Result<(), Blame>
+    requires fits { Fits edit.now.input.now }
+    requires below { CollectionBelow (term_number term) (collection_under (program_in context.now) edit.now.form.edit) }
+    requires shallow { collection_depth (collection_of (program_in context.now) (collection_under (program_in context.now) edit.now.form.edit)) ≤ 64 }
+    ensures { IfErr result (λ b. Explains (StopsEdit (program_in context.now) (members_inside (program_in context.now) edit.now.form.name (key_kind_of edit.now.wanted.now.keys) edit.now.input.now edit.now.wanted.now.output (context_in context.now)) edit.now) b) }
 {
-    let names = (&*context).members_name(form.name, wanted.keys, &*input, &wanted.output)?;
-    explain_edit_inside(context, &names, term, form, payload, input, wanted, spot)
+    let wanted = edit.wanted;
+    let names = (&*context).members_name(
+        edit.form.name,
+        wanted.keys,
+        &*edit.input,
+        &wanted.output,
+    )?;
+    explain_edit_inside(context, &names, term, edit)
 }
 
 /// What differs in an edit, which is to have the types of members, inside names and a pattern for payloads of a type.
@@ -641,40 +626,35 @@ fn explain_edit_inside(
     context: &TypingContext,
     names: &Frame,
     term: TermId,
-    form: Editing,
-    payload: &Ty,
-    input: &Ty,
-    wanted: &MemberTypes,
-    spot: Spot,
+    edit: &Edit,
 ) -> Result<(), Blame>
-    requires fits { Fits input.now }
-    requires below { CollectionBelow (term_number term) (collection_under (program_in context.now) form.edit) }
-    requires shallow { collection_depth (collection_of (program_in context.now) (collection_under (program_in context.now) form.edit)) ≤ 64 }
-    ensures { IfErr result (λ b. Explains (EditUnfit (program_in context.now) (inside_names names.now (context_in context.now)) spot form.pattern form.edit (key_kind_of wanted.now.keys) input.now wanted.now.output payload.now) b) }
+    requires fits { Fits edit.now.input.now }
+    requires below { CollectionBelow (term_number term) (collection_under (program_in context.now) edit.now.form.edit) }
+    requires shallow { collection_depth (collection_of (program_in context.now) (collection_under (program_in context.now) edit.now.form.edit)) ≤ 64 }
+    ensures { IfErr result (λ b. Explains (StopsEdit (program_in context.now) (inside_names names.now (context_in context.now)) edit.now) b) }
 {
     let inner = (&*context).within(&*names)?;
-    explain_edit(&inner, term, form, payload, input, wanted, spot)
+    explain_edit(&inner, term, edit)
 }
 
 /// What differs in an edit, which is to have the types of members, inside a pattern for payloads of a type.
 #[cycle(explain)]
-fn explain_edit(
-    context: &TypingContext,
-    term: TermId,
-    form: Editing,
-    payload: &Ty,
-    input: &Ty,
-    wanted: &MemberTypes,
-    spot: Spot,
-) -> Result<(), Blame>
-    requires fits { Fits input.now }
-    requires below { CollectionBelow (term_number term) (collection_under (program_in context.now) form.edit) }
-    requires shallow { collection_depth (collection_of (program_in context.now) (collection_under (program_in context.now) form.edit)) ≤ 64 }
-    ensures { IfErr result (λ b. Explains (EditUnfit (program_in context.now) (context_in context.now) spot form.pattern form.edit (key_kind_of wanted.now.keys) input.now wanted.now.output payload.now) b) }
+fn explain_edit(context: &TypingContext, term: TermId, edit: &Edit) -> Result<(), Blame>
+    requires fits { Fits edit.now.input.now }
+    requires below { CollectionBelow (term_number term) (collection_under (program_in context.now) edit.now.form.edit) }
+    requires shallow { collection_depth (collection_of (program_in context.now) (collection_under (program_in context.now) edit.now.form.edit)) ≤ 64 }
+    ensures { IfErr result (λ b. Explains (StopsEdit (program_in context.now) (context_in context.now) edit.now) b) }
 {
-    let names = bound(&*context, form.pattern, &*payload, spot)?;
-    let given = members_part_within(context, &names, term, form.edit, input)?;
-    suits_members(context.alloc, &given, wanted.keys, &wanted.output, spot)
+    let names = bound(&*context, edit.form.pattern, &*edit.payload, edit.spot)?;
+    let given = members_part_within(context, &names, term, edit.form.edit, edit.input)?;
+    let wanted = edit.wanted;
+    suits_members(
+        context.alloc,
+        &given,
+        wanted.keys,
+        &wanted.output,
+        edit.spot,
+    )
 }
 
 /// The types of the collection at an id, which a form has, inside names, on inputs of a type, or what differs in it.
@@ -803,41 +783,24 @@ fn used_part(
 
 /// What differs in a body inside names and a pattern for payloads of a type.
 #[cycle(explain)]
-fn explain_inside(
-    context: &TypingContext,
-    names: &Frame,
-    pattern: PatternId,
-    payload: &Ty,
-    body: TermId,
-    input: &Ty,
-    wanted: &Ty,
-    spot: Spot,
-) -> Result<(), Blame>
-    requires { Fits input.now }
-    ensures { IfErr result (λ b. Explains (BodyStops (program_in context.now) (inside_names names.now (context_in context.now)) spot pattern body input.now wanted.now payload.now) b) }
+fn explain_inside(context: &TypingContext, names: &Frame, body: &Body) -> Result<(), Blame>
+    requires { Fits body.now.input.now }
+    ensures { IfErr result (λ b. Explains (StopsBody (program_in context.now) (inside_names names.now (context_in context.now)) body.now) b) }
 {
     let inner = (&*context).within(&*names)?;
-    explain_body(&inner, pattern, payload, body, input, wanted, spot)
+    explain_body(&inner, body)
 }
 
 /// What differs in a body, which is to take inputs of a type to what is wanted of it, inside a pattern for payloads of a type.
 #[cycle(explain)]
-fn explain_body(
-    context: &TypingContext,
-    pattern: PatternId,
-    payload: &Ty,
-    body: TermId,
-    input: &Ty,
-    wanted: &Ty,
-    spot: Spot,
-) -> Result<(), Blame>
-    requires { Fits input.now }
-    ensures { IfErr result (λ b. Explains (BodyStops (program_in context.now) (context_in context.now) spot pattern body input.now wanted.now payload.now) b) }
+fn explain_body(context: &TypingContext, body: &Body) -> Result<(), Blame>
+    requires { Fits body.now.input.now }
+    ensures { IfErr result (λ b. Explains (StopsBody (program_in context.now) (context_in context.now) body.now) b) }
 {
-    let names = bound(&*context, pattern, &*payload, spot)?;
-    let given = part_within(context, &names, body, input)?;
-    let wanted = Some(Wanted::Exactly(wanted.clone_in(context.alloc)?));
-    suited(context.alloc, &given, wanted, spot)
+    let names = bound(&*context, body.pattern, &*body.payload, body.spot)?;
+    let given = part_within(context, &names, body.term, body.input)?;
+    let wanted = Some(Wanted::Exactly(body.wanted.clone_in(context.alloc)?));
+    suited(context.alloc, &given, wanted, body.spot)
 }
 
 /// The names of a pattern for a type, or what differs.
@@ -1009,24 +972,24 @@ fn explain_primitive_at(
     explain_primitive(context, primitive, input, context.program.spot(term))
 }
 
-/// The type of the outputs of the body of a template inside the names of its parameters, on inputs of a type, or what differs in
-/// it. The names of templates are those of all, in order.
+/// The type of the outputs of the body of a template inside the names of its parameters, on its inputs, or what differs in it. The
+/// names of templates are those of all, in order.
 fn template_part(
     alloc: Global,
     program: &Program,
     templates: &IndexSet<String>,
     functions: &Signatures,
     names: &Frame,
-    body: TermId,
-    input: &Ty,
+    template: &Template,
 ) -> Result<Ty, Blame>
-    requires listed { names_of_set templates.now ≡ program_names program.now }
-    requires fits { Fits input.now }
-    ensures ok { IfOk result (λ t. Takes (context_with (signatures_in functions.now) (bindings_from (entries_in names.now)) (templates_of program.now)) (tree program.now body) input.now t) }
-    ensures err { IfErr result (λ b. Explains (TermDiffers program.now (context_with (signatures_in functions.now) (bindings_from (entries_in names.now)) (templates_of program.now)) body input.now) b) }
+    requires { names_of_set templates.now ≡ program_names program.now }
+    ensures ok { IfOk result (λ t. Takes (context_with (signatures_in functions.now) (bindings_from (entries_in names.now)) (templates_of program.now)) (tree program.now template.now.body) template.now.input t) }
+    ensures err { IfErr result (λ b. Explains (TermDiffers program.now (context_with (signatures_in functions.now) (bindings_from (entries_in names.now)) (templates_of program.now)) template.now.body template.now.input) b) }
 {
     let context = TypingContext::of_body(alloc, program, templates, functions, &*names)?;
-    part(&context, body, input)
+    let input = template.input();
+    prove!(input.nodes() <= 256);
+    part(&context, template.body(), input)
 }
 
 /// What differs in a template. The names are those of all templates, in order.
@@ -1041,10 +1004,8 @@ fn explain_template(
     ensures { IfErr result (λ b. Explains (TemplateDiffers (signatures_in functions.now) program.now template.now) b) }
 {
     let parameters = parameter_names(alloc, template.parameters())?;
-    let input = template.input();
-    prove!(input.nodes() <= 256);
     let body = template.body();
-    let output = template_part(alloc, program, names, functions, &parameters, body, input)?;
+    let output = template_part(alloc, program, names, functions, &parameters, template)?;
     let wanted = Some(Wanted::Exactly(template.output().clone_in(alloc)?));
     suited(alloc, &output, wanted, program.spot(body))
 }

@@ -2,6 +2,7 @@
 #![tactic(auto)]
 
 mod blaming;
+mod body;
 mod call_differing;
 mod calling;
 mod checked;

@@ -24,17 +24,18 @@ ghost use Rattle.sf_operator.specs.Breaches.{AnswersKind};
 ghost use Rattle.sf_operator.specs.Kinds.{same_kind, parts_of, payload_of};
 ghost use Rattle.sf_mean.specs.Typing.{value_kind, takes_input as an_input, takes_time as a_time, timed_kind, takes_number as a_number, selected_kind, accumulated_argument, accumulated_kind, IsTyped};
 ghost use Rattle.sf_check.specs.Contexts.{program_in, context_in};
-ghost use Rattle.sf_check.specs.Judging.{asked, beside_at, wanted_at, fed_at, primitive_judged, body_judged, edit_judged, argument_judged, members_judged, judged_as, term_judged, GivesMembers};
+ghost use Rattle.sf_check.specs.Judging.{asked, beside_at, wanted_at, fed_at, primitive_judged, argument_judged, members_judged, judged_as, term_judged, judged_body, judged_edit, GivesMembers};
 ghost use Rattle.sf_check.specs.Answering.{AnswersBare, AnswersTerm, AnswersMembers};
 ghost use Rattle.sf_check.specs.Names.{names_of_set, program_names};
 ghost use Rattle.sf_check.specs.Breaking.{IsNoEventBeside, TemplateBreaks, AreTyped, IsFirstBreak};
 
+use crate::body::{Body, Edit};
 use crate::context::TypingContext;
 use crate::member_types::{MemberTypes, are_members, table_type, type_of_keys};
 use crate::parameters::parameter_names;
 use indexmap::IndexSet;
 use sf_expr::{
-    ConstantForm, ConstantId, ExprId, Frame, FunctionId, NameId, PatternId, function_type, type_of,
+    ConstantForm, ConstantId, ExprId, Frame, FunctionId, NameId, function_type, type_of,
 };
 use sf_func::Signatures;
 use sf_operator::{event_type, pair_type as pair_of, payload, same};
@@ -333,15 +334,8 @@ fn answer_type(
 ) -> Result<Ty, Refusal>
     ensures { GivesFound result (function_judged (expressions_of (program_in context.now)) function spot argument.now (names_of_values (context_in context.now))) }
 {
-    function_type(
-        context.alloc,
-        context.program.expressions(),
-        function,
-        argument,
-        &context.names,
-        context.functions,
-        spot,
-    )
+    let expressions = context.expressions();
+    function_type(&expressions, function, argument, spot)
 }
 
 /// The type of what the function of an accumulation takes, with a value of a type, on inputs of a type. Refused at the spot
@@ -562,20 +556,12 @@ fn wanted_output(output: Ty, wanted: &Ty, spot: Spot) -> Result<Ty, Refusal>
 /// The type of the outputs of a body, on inputs of a type, which gives what is wanted of it inside the pattern for payloads of
 /// a type.
 #[cycle(output)]
-fn body_output(
-    context: &TypingContext,
-    pattern: PatternId,
-    payload: &Ty,
-    body: TermId,
-    input: &Ty,
-    wanted: &Ty,
-    spot: Spot,
-) -> Result<Ty, Refusal>
-    ensures { GivesFound result (body_judged (program_in context.now) spot pattern (term_judged (program_in context.now) body) input.now wanted.now payload.now (context_in context.now)) }
+fn body_output(context: &TypingContext, body: &Body) -> Result<Ty, Refusal>
+    ensures { GivesFound result (judged_body (program_in context.now) body.now (context_in context.now)) }
 {
-    let names = (&*context).pattern_names(pattern, &*payload, spot)?;
-    let given = output_within(context, &names, body, input)?;
-    wanted_output(given, wanted, spot)
+    let names = (&*context).pattern_names(body.pattern, &*body.payload, body.spot)?;
+    let given = output_within(context, &names, body.term, body.input)?;
+    wanted_output(given, body.wanted, body.spot)
 }
 
 /// The type of the outputs of a body inside names, on inputs of a type.
@@ -680,15 +666,15 @@ fn basic_output(
     let spot = context.program.spot(term);
     let output = judge(context, form.source, input)?;
     let (value, payload) = value_and_payload(&output, spot)?;
-    body_output(
-        context,
-        form.pattern,
+    let body = Body {
+        pattern: form.pattern,
         payload,
-        form.body,
+        term: form.body,
         input,
-        value,
+        wanted: value,
         spot,
-    )
+    };
+    body_output(context, &body)
 }
 
 /// The type of the outputs of a term that gives way at an event beside its input, on inputs of a type.
@@ -707,15 +693,15 @@ fn recurring_output(
     let spot = context.program.spot(term);
     let (value, payload) = value_and_payload(input, spot)?;
     let output = judge(context, form.source, value)?;
-    body_output(
-        context,
-        form.pattern,
+    let body = Body {
+        pattern: form.pattern,
         payload,
-        form.body,
-        value,
-        &output,
+        term: form.body,
+        input: value,
+        wanted: &output,
         spot,
-    )
+    };
+    body_output(context, &body)
 }
 
 /// The type of the outputs of a term that gives way to another inside a pattern at the event that an observer sees, and is
@@ -736,54 +722,35 @@ fn keeping_output(
     let watched = both_at(context.alloc, input, &value, spot)?;
     let seen = judge(context, form.observer, &watched)?;
     let payload = payload_at(&seen, spot)?;
-    kept_output(
-        context,
-        form.name,
-        form.pattern,
+    let body = Body {
+        pattern: form.pattern,
         payload,
-        form.body,
+        term: form.body,
         input,
-        &value,
+        wanted: &value,
         spot,
-    )
+    };
+    kept_output(context, form.name, &body)
 }
 
 /// The type of the outputs of a body, on inputs of a type, which gives what is wanted of it inside the pattern for payloads of
 /// a type and the name of a process from the one to the other.
 #[cycle(output)]
-fn kept_output(
-    context: &TypingContext,
-    name: NameId,
-    pattern: PatternId,
-    payload: &Ty,
-    body: TermId,
-    input: &Ty,
-    wanted: &Ty,
-    spot: Spot,
-) -> Result<Ty, Refusal>
-    ensures { GivesFound result (body_judged (program_in context.now) spot pattern (term_judged (program_in context.now) body) input.now wanted.now payload.now (keeping_inside (program_in context.now) name input.now wanted.now (context_in context.now))) }
+fn kept_output(context: &TypingContext, name: NameId, body: &Body) -> Result<Ty, Refusal>
+    ensures { GivesFound result (judged_body (program_in context.now) body.now (keeping_inside (program_in context.now) name body.now.input.now body.now.wanted.now (context_in context.now))) }
 {
-    let names = (&*context).process_name(name, &*input, &*wanted)?;
-    body_within(context, &names, pattern, payload, body, input, wanted, spot)
+    let names = (&*context).process_name(name, &*body.input, &*body.wanted)?;
+    body_within(context, &names, body)
 }
 
 /// The type of the outputs of a body inside names, on inputs of a type, which gives what is wanted of it inside the pattern
 /// for payloads of a type.
 #[cycle(output)]
-fn body_within(
-    context: &TypingContext,
-    names: &Frame,
-    pattern: PatternId,
-    payload: &Ty,
-    body: TermId,
-    input: &Ty,
-    wanted: &Ty,
-    spot: Spot,
-) -> Result<Ty, Refusal>
-    ensures { GivesFound result (body_judged (program_in context.now) spot pattern (term_judged (program_in context.now) body) input.now wanted.now payload.now (inside_names names.now (context_in context.now))) }
+fn body_within(context: &TypingContext, names: &Frame, body: &Body) -> Result<Ty, Refusal>
+    ensures { GivesFound result (judged_body (program_in context.now) body.now (inside_names names.now (context_in context.now))) }
 {
     let inner = (&*context).within(&*names)?;
-    body_output(&inner, pattern, payload, body, input, wanted, spot)
+    body_output(&inner, body)
 }
 
 /// The types of the collection of a name, whose members are given inputs of a type.
@@ -920,7 +887,15 @@ fn releasing_output(
     let watched = both_at(context.alloc, input, &table, spot)?;
     let seen = judge(context, form.observer, &watched)?;
     let payload = payload_at(&seen, spot)?;
-    released_output(context, form, payload, input, &types, &table, spot)
+    let body = Body {
+        pattern: form.pattern,
+        payload,
+        term: form.body,
+        input,
+        wanted: &table,
+        spot,
+    };
+    released_output(context, form.name, &types, &body)
 }
 
 /// The type of the outputs of the body of members that give way to it, on inputs of a type, which gives their tables inside the
@@ -928,26 +903,14 @@ fn releasing_output(
 #[cycle(output)]
 fn released_output(
     context: &TypingContext,
-    form: Releasing,
-    payload: &Ty,
-    input: &Ty,
+    name: NameId,
     types: &MemberTypes,
-    table: &Ty,
-    spot: Spot,
+    body: &Body,
 ) -> Result<Ty, Refusal>
-    ensures { GivesFound result (body_judged (program_in context.now) spot form.pattern (term_judged (program_in context.now) form.body) input.now table.now payload.now (members_inside (program_in context.now) form.name (key_kind_of types.now.keys) input.now types.now.output (context_in context.now))) }
+    ensures { GivesFound result (judged_body (program_in context.now) body.now (members_inside (program_in context.now) name (key_kind_of types.now.keys) body.now.input.now types.now.output (context_in context.now))) }
 {
-    let names = (&*context).members_name(form.name, types.keys, &*input, &types.output)?;
-    body_within(
-        context,
-        &names,
-        form.pattern,
-        payload,
-        form.body,
-        input,
-        table,
-        spot,
-    )
+    let names = (&*context).members_name(name, types.keys, &*body.input, &types.output)?;
+    body_within(context, &names, body)
 }
 
 /// The type of the outputs of members that are edited at each event beside their inputs, on inputs of a type.
@@ -966,28 +929,33 @@ fn editing_output(
     let spot = context.program.spot(term);
     let (value, payload) = value_and_payload(input, spot)?;
     let types = judge_members(context, term, form.members, value)?;
-    edited_types(context, term, form, payload, value, &types, spot)?;
+    let edit = Edit {
+        form,
+        payload,
+        input: value,
+        wanted: &types,
+        spot,
+    };
+    edited_types(context, term, &edit)?;
     table_at(context.alloc, &types, spot)
 }
 
 /// The types of an edit, on inputs of a type, which has the types that are wanted of it inside the pattern for payloads of a
 /// type and the name of members of these types.
 #[cycle(output)]
-fn edited_types(
-    context: &TypingContext,
-    term: TermId,
-    form: Editing,
-    payload: &Ty,
-    input: &Ty,
-    wanted: &MemberTypes,
-    spot: Spot,
-) -> Result<MemberTypes, Refusal>
-    requires below { CollectionBelow (term_number term) (collection_under (program_in context.now) form.edit) }
-    requires shallow { collection_depth (collection_of (program_in context.now) (collection_under (program_in context.now) form.edit)) ≤ 64 }
-    ensures { GivesMembers result (edit_judged (program_in context.now) spot form.pattern (members_judged (program_in context.now) (term_judged (program_in context.now)) (collection_under (program_in context.now) form.edit)) input.now (key_kind_of wanted.now.keys, wanted.now.output) payload.now (members_inside (program_in context.now) form.name (key_kind_of wanted.now.keys) input.now wanted.now.output (context_in context.now))) }
+fn edited_types(context: &TypingContext, term: TermId, edit: &Edit) -> Result<MemberTypes, Refusal>
+    requires below { CollectionBelow (term_number term) (collection_under (program_in context.now) edit.now.form.edit) }
+    requires shallow { collection_depth (collection_of (program_in context.now) (collection_under (program_in context.now) edit.now.form.edit)) ≤ 64 }
+    ensures { GivesMembers result (judged_edit (program_in context.now) edit.now (members_inside (program_in context.now) edit.now.form.name (key_kind_of edit.now.wanted.now.keys) edit.now.input.now edit.now.wanted.now.output (context_in context.now))) }
 {
-    let names = (&*context).members_name(form.name, wanted.keys, &*input, &wanted.output)?;
-    edit_within(context, &names, term, form, payload, input, wanted, spot)
+    let wanted = edit.wanted;
+    let names = (&*context).members_name(
+        edit.form.name,
+        wanted.keys,
+        &*edit.input,
+        &wanted.output,
+    )?;
+    edit_within(context, &names, term, edit)
 }
 
 /// The types of an edit inside names, on inputs of a type, which has the types that are wanted of it inside the pattern for
@@ -997,39 +965,27 @@ fn edit_within(
     context: &TypingContext,
     names: &Frame,
     term: TermId,
-    form: Editing,
-    payload: &Ty,
-    input: &Ty,
-    wanted: &MemberTypes,
-    spot: Spot,
+    edit: &Edit,
 ) -> Result<MemberTypes, Refusal>
-    requires below { CollectionBelow (term_number term) (collection_under (program_in context.now) form.edit) }
-    requires shallow { collection_depth (collection_of (program_in context.now) (collection_under (program_in context.now) form.edit)) ≤ 64 }
-    ensures { GivesMembers result (edit_judged (program_in context.now) spot form.pattern (members_judged (program_in context.now) (term_judged (program_in context.now)) (collection_under (program_in context.now) form.edit)) input.now (key_kind_of wanted.now.keys, wanted.now.output) payload.now (inside_names names.now (context_in context.now))) }
+    requires below { CollectionBelow (term_number term) (collection_under (program_in context.now) edit.now.form.edit) }
+    requires shallow { collection_depth (collection_of (program_in context.now) (collection_under (program_in context.now) edit.now.form.edit)) ≤ 64 }
+    ensures { GivesMembers result (judged_edit (program_in context.now) edit.now (inside_names names.now (context_in context.now))) }
 {
     let inner = (&*context).within(&*names)?;
-    edit_types(&inner, term, form, payload, input, wanted, spot)
+    edit_types(&inner, term, edit)
 }
 
 /// The types of an edit, on inputs of a type, which has the types that are wanted of it inside the pattern for payloads of a
 /// type.
 #[cycle(output)]
-fn edit_types(
-    context: &TypingContext,
-    term: TermId,
-    form: Editing,
-    payload: &Ty,
-    input: &Ty,
-    wanted: &MemberTypes,
-    spot: Spot,
-) -> Result<MemberTypes, Refusal>
-    requires below { CollectionBelow (term_number term) (collection_under (program_in context.now) form.edit) }
-    requires shallow { collection_depth (collection_of (program_in context.now) (collection_under (program_in context.now) form.edit)) ≤ 64 }
-    ensures { GivesMembers result (edit_judged (program_in context.now) spot form.pattern (members_judged (program_in context.now) (term_judged (program_in context.now)) (collection_under (program_in context.now) form.edit)) input.now (key_kind_of wanted.now.keys, wanted.now.output) payload.now (context_in context.now)) }
+fn edit_types(context: &TypingContext, term: TermId, edit: &Edit) -> Result<MemberTypes, Refusal>
+    requires below { CollectionBelow (term_number term) (collection_under (program_in context.now) edit.now.form.edit) }
+    requires shallow { collection_depth (collection_of (program_in context.now) (collection_under (program_in context.now) edit.now.form.edit)) ≤ 64 }
+    ensures { GivesMembers result (judged_edit (program_in context.now) edit.now (context_in context.now)) }
 {
-    let names = (&*context).pattern_names(form.pattern, &*payload, spot)?;
-    let given = members_within(context, &names, term, form.edit, input)?;
-    same_members(&given, wanted, spot)?;
+    let names = (&*context).pattern_names(edit.form.pattern, &*edit.payload, edit.spot)?;
+    let given = members_within(context, &names, term, edit.form.edit, edit.input)?;
+    same_members(&given, edit.wanted, edit.spot)?;
     Ok(given)
 }
 
@@ -1239,23 +1195,23 @@ pub(crate) fn members_at(
     judge_members(context, form, members, input)
 }
 
-/// The type of the outputs of the body of a template inside the names of its parameters, on inputs of a type. The names of
-/// templates are those of all, in order.
+/// The type of the outputs of the body of a template inside the names of its parameters, on its inputs. The names of templates
+/// are those of all, in order.
 fn template_output(
     alloc: Global,
     program: &Program,
     templates: &IndexSet<String>,
     functions: &Signatures,
     names: &Frame,
-    body: TermId,
-    input: &Ty,
+    template: &Template,
 ) -> Result<Ty, Refusal>
-    requires listed { names_of_set templates.now ≡ program_names program.now }
-    requires fits { Fits input.now }
-    ensures { AnswersTerm program.now (context_with (signatures_in functions.now) (bindings_from (entries_in names.now)) (templates_of program.now)) body input.now result }
+    requires { names_of_set templates.now ≡ program_names program.now }
+    ensures { AnswersTerm program.now (context_with (signatures_in functions.now) (bindings_from (entries_in names.now)) (templates_of program.now)) template.now.body template.now.input result }
 {
     let context = TypingContext::of_body(alloc, program, templates, functions, &*names)?;
-    output_of(&context, body, input)
+    let input = template.input();
+    prove!(input.nodes() <= 256);
+    output_of(&context, template.body(), input)
 }
 
 /// Whether a template's term takes its header's input to its header's output, inside its parameters. The names are those of
@@ -1272,10 +1228,8 @@ pub(crate) fn check_template(
     ensures err { IfErr result (OrMemory (TemplateBreaks (signatures_in functions.now) program.now template.now)) }
 {
     let parameters = parameter_names(alloc, template.parameters())?;
-    let input = template.input();
-    prove!(input.nodes() <= 256);
     let body = template.body();
-    let output = template_output(alloc, program, names, functions, &parameters, body, input)?;
+    let output = template_output(alloc, program, names, functions, &parameters, template)?;
     if same_type(&output, template.output()) {
         Ok(())
     } else {

@@ -66,8 +66,14 @@ pub(crate) fn run<F: Holds>(
         Code::Mapped(part, mapping, body) => {
             mapped(alloc, part, *mapping, body, frames, functions)
         }
-        Code::Folded(first, folding, second, body) => {
-            folded(alloc, first, *folding, second, body, frames, functions)
+        Code::Folded(first, Folding::Match, second, body) => {
+            matched(alloc, first, second, body, frames, functions)
+        }
+        Code::Folded(first, Folding::Merge, second, body) => {
+            merged(alloc, first, second, body, frames, functions)
+        }
+        Code::Folded(first, Folding::Fold, second, body) => {
+            fold(alloc, first, second, body, frames, functions)
         }
         Code::Called(function, part) => { called(alloc, function, part, frames, functions) }
     }
@@ -518,26 +524,6 @@ fn occurring(alloc: Global, payload: Result<Value, EvalFault>) -> Result<Value, 
     ensures { (worth : Evaluated Data) → Evaluates payload worth → Evaluates result (followed worth (λ x. worth_as (event_data x))) }
 {
     Ok(Value::event(alloc, payload?)?)
-}
-
-/// What a form makes of two codes and a function, or the first fault.
-#[cycle(run)]
-fn folded<F: Holds>(
-    alloc: Global,
-    first: &Code,
-    folding: Folding,
-    second: &Code,
-    body: &Code,
-    frames: &Frames,
-    functions: &F,
-) -> Result<Value, EvalFault>
-    ensures { Evaluates result (worth_of (trees.folded (code_of first.now) folding (code_of second.now) (code_of body.now)) (frames_of frames.now) (F.answers functions.now)) }
-{
-    match folding {
-        Folding::Match => matched(alloc, first, second, body, frames, functions),
-        Folding::Merge => merged(alloc, first, second, body, frames, functions),
-        Folding::Fold => fold(alloc, first, second, body, frames, functions),
-    }
 }
 
 /// What a function answers to an event's payload, or, where there is no event, what the second code is worth, or the first

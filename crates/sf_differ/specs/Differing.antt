@@ -1,12 +1,10 @@
 -- Which types differ in an expression that is refused, and where.
-use Rattle.std.specs.Prelude.{◌≡◌, ◌++◌, Some}
+use Rattle.std.specs.Prelude.{◌≡◌, Some}
 use Rattle.sf_value.specs.Values.{Kind, pair_kind, IsNoPair}
 use Rattle.sf_refusal.specs.declared.spot.Spot.{Spot}
 use Rattle.sf_refusal.specs.declared.rule.Rule.TheVariants.{Mismatch}
 use Rattle.sf_refusal.specs.Refusals.{breach_of}
 use Rattle.sf_func.specs.Registries.{FunctionTypes, types_named}
-use Rattle.sf_func.specs.declared.signatures.Signatures.{Signatures}
-use Rattle.sf_func.specs.Signatures.{signatures_in}
 use Rattle.sf_operator.specs.declared.operator.Operator.{Operator}
 use Rattle.sf_operator.specs.declared.operator.Unary.{Unary}
 use Rattle.sf_operator.specs.Kinds.{unary_kind, binary_kind, conditional_kind, mapped_argument, mapped_kind, called_kind, folded_argument, folded_kind}
@@ -18,27 +16,15 @@ use Rattle.sf_expr.specs.declared.exprs.FunctionId.{FunctionId}
 use Rattle.sf_expr.specs.declared.exprs.ExprNode.{ExprNode}
 use Rattle.sf_expr.specs.declared.exprs.ExprNode.TheVariants as nodes
 use Rattle.sf_expr.specs.declared.exprs.Exprs.{Exprs}
-use Rattle.sf_expr.specs.declared.frame.Frame.{Frame}
-use Rattle.sf_expr.specs.declared.scope.TypeScope.{TypeScope}
 use Rattle.sf_expr.specs.Expressions.{Pattern, both}
 use Rattle.sf_expr.specs.Patterns.{PlacedPattern, pattern_of}
 use Rattle.sf_expr.specs.Arena.{expression, node_at, spot_at, name_at, placed_at, pattern_at, body_at}
-use Rattle.sf_expr.specs.Typing.{Names, Fits, functions_of, with_types, Binds, HasType}
-use Rattle.sf_expr.specs.Meanings.{names_from}
-use Rattle.sf_expr.specs.Scopes.{names_of, entries_in, entries_around}
+use Rattle.sf_expr.specs.Typing.{Names, Fits, functions_of, Binds, HasType}
 use Rattle.sf_expr.specs.Refusals.{PatternRefused}
 use Rattle.sf_differ.specs.declared.difference.Difference.{Difference}
 use Rattle.sf_differ.specs.declared.difference.Wanted.TheVariants.{Pair}
 use Rattle.sf_differ.specs.Differences.{DiffersAt}
 use Rattle.sf_differ.specs.Wanting.{IsMade}
-
--- the types of names, and those of functions
-abbrev pub types_under : TypeScope → Signatures → Names
-types_under names functions = with_types (signatures_in functions) (names_of names)
-
--- the same with the names of a frame inside
-abbrev pub types_inside : Frame → TypeScope → Signatures → Names
-types_inside frame names functions = with_types (signatures_in functions) (names_from (entries_in frame ++ entries_around names))
 
 -- A part of a type is none of pairs, where a part of a pattern is a pair.
 pub data Unpaired : Pattern → Kind → Kind → Type 0 where

@@ -5,9 +5,12 @@ ghost use Rattle.sf_expr.specs.Arena.{expression, node_at, id_number, PartsBelow
 ghost use Rattle.sf_expr.specs.Arena.{function_at};
 ghost use Rattle.sf_expr.specs.Expressions.{function as function_of};
 ghost use Rattle.sf_expr.specs.Patterns.{pattern_of};
-ghost use Rattle.sf_expr.specs.Typing.{HasType, FunctionTakes};
+ghost use Rattle.sf_expr.specs.Typing.{with_types, HasType, FunctionTakes};
+ghost use Rattle.sf_expr.specs.Scopes.{names_of};
+ghost use Rattle.sf_expr.specs.Contexts.{exprs_in, types_around, types_within};
+ghost use Rattle.sf_func.specs.Signatures.{signatures_in};
 ghost use Rattle.sf_differ.specs.Differences.{Explains};
-ghost use Rattle.sf_differ.specs.Differing.{types_under, types_inside, ExpressionDiffers, BoundDiffers, FunctionDiffers};
+ghost use Rattle.sf_differ.specs.Differing.{ExpressionDiffers, BoundDiffers, FunctionDiffers};
 
 use crate::blame::Blame;
 use crate::difference::Wanted;
@@ -18,8 +21,8 @@ use crate::wanting::{
     right_wanted, second_wanted,
 };
 use sf_expr::{
-    ExprId, ExprNode, Exprs, Folded, Frame, FunctionId, Mapped, NameId, Operator, Pat, TypeScope,
-    Unary, type_of,
+    ExprContext, ExprId, ExprNode, Exprs, Folded, Frame, FunctionId, Mapped, NameId, Operator, Pat,
+    TypeScope, Unary, type_of,
 };
 use sf_func::Signatures;
 use sf_operator::{folded_argument_type, mapped_argument_type};
@@ -30,58 +33,48 @@ use std::alloc::Global;
 /// What differs in an expression that is refused: the types of a part of the form that is blamed, and of those that are wanted
 /// in its place. Silent where no types are compared, and where the expression has a type.
 #[cycle(explain)]
-fn explain(
-    alloc: Global,
-    exprs: &Exprs,
-    id: ExprId,
-    names: &TypeScope,
-    functions: &Signatures,
-) -> Result<(), Blame>
-    ensures { IfErr result (λ b. Explains (ExpressionDiffers exprs.now (types_under names.now functions.now) id) b) }
+fn explain(context: &ExprContext, id: ExprId) -> Result<(), Blame>
+    ensures { IfErr result (λ b. Explains (ExpressionDiffers (exprs_in context.now) (types_around context.now) id) b) }
 {
-    match exprs.node(id) {
+    match context.exprs.node(id) {
         ExprNode::Unit => Ok(()),
         ExprNode::Truth(_) => Ok(()),
         ExprNode::Int(_) => Ok(()),
         ExprNode::Constant(_) => Ok(()),
         ExprNode::Name(_) => Ok(()),
-        ExprNode::Pair(first, second) => {
-            explain_pair(alloc, exprs, id, first, second, names, functions)
-        }
-        ExprNode::Applied(operator, part) => {
-            explain_applied(alloc, exprs, id, operator, part, names, functions)
-        }
+        ExprNode::Pair(first, second) => { explain_pair(context, id, first, second) }
+        ExprNode::Applied(operator, part) => { explain_applied(context, id, operator, part) }
         ExprNode::Operation(left, operator, right) => {
-            explain_operation(alloc, exprs, id, left, operator, right, names, functions)
+            explain_operation(context, id, left, operator, right)
         }
         ExprNode::Conditional(condition, first, second) => {
-            explain_conditional(alloc, exprs, id, condition, first, second, names, functions)
+            explain_conditional(context, id, condition, first, second)
         }
-        ExprNode::Mapped(node) => explain_mapped(alloc, exprs, id, node, names, functions),
-        ExprNode::Folded(node) => explain_folded(alloc, exprs, id, node, names, functions),
+        ExprNode::Mapped(node) => explain_mapped(context, id, node),
+        ExprNode::Folded(node) => explain_folded(context, id, node),
         ExprNode::Called(function, place, part) => {
-            explain_called(alloc, exprs, id, function, place, part, names, functions)
+            explain_called(context, id, function, place, part)
         }
     }
 }
 
 /// The type of an expression, or what differs in it.
 #[cycle(explain)]
-pub fn typed(
-    alloc: Global,
-    exprs: &Exprs,
-    id: ExprId,
-    names: &TypeScope,
-    functions: &Signatures,
-) -> Result<Ty, Blame>
-    ensures ok { IfOk result (λ t. HasType (types_under names.now functions.now) (expression exprs.now id) t) }
-    ensures err { IfErr result (λ b. Explains (ExpressionDiffers exprs.now (types_under names.now functions.now) id) b) }
+fn part_type(context: &ExprContext, id: ExprId) -> Result<Ty, Blame>
+    ensures ok { IfOk result (λ t. HasType (types_around context.now) (expression (exprs_in context.now) id) t) }
+    ensures err { IfErr result (λ b. Explains (ExpressionDiffers (exprs_in context.now) (types_around context.now) id) b) }
 {
-    match type_of(alloc, exprs, id, names, functions) {
+    match type_of(
+        context.alloc,
+        context.exprs,
+        id,
+        context.names,
+        context.functions,
+    ) {
         Ok(ty) => Ok(ty),
         Err(Refusal::Memory) => Err(Blame::Memory),
         Err(Refusal::Broken(_)) => {
-            explain(alloc, exprs, id, names, functions)?;
+            explain(context, id)?;
             Err(Blame::Silent)
         }
     }
@@ -90,228 +83,205 @@ pub fn typed(
 /// What differs in the pair at an id.
 #[cycle(explain)]
 fn explain_pair(
-    alloc: Global,
-    exprs: &Exprs,
+    context: &ExprContext,
     id: ExprId,
     first: ExprId,
     second: ExprId,
-    names: &TypeScope,
-    functions: &Signatures,
 ) -> Result<(), Blame>
-    requires there { node_at exprs.now id ≡ ExprNode.Pair first second }
+    requires there { node_at (exprs_in context.now) id ≡ ExprNode.Pair first second }
     requires below { PartsBelow (ExprNode.Pair first second) (id_number id) }
-    ensures { IfErr result (λ b. Explains (ExpressionDiffers exprs.now (types_under names.now functions.now) id) b) }
+    ensures { IfErr result (λ b. Explains (ExpressionDiffers (exprs_in context.now) (types_around context.now) id) b) }
 {
-    typed(alloc, exprs, first, names, functions)?;
-    typed(alloc, exprs, second, names, functions)?;
+    part_type(context, first)?;
+    part_type(context, second)?;
     Ok(())
 }
 
 /// What differs in the operator on its operand at an id.
 #[cycle(explain)]
 fn explain_applied(
-    alloc: Global,
-    exprs: &Exprs,
+    context: &ExprContext,
     id: ExprId,
     operator: Unary,
     part: ExprId,
-    names: &TypeScope,
-    functions: &Signatures,
 ) -> Result<(), Blame>
-    requires there { node_at exprs.now id ≡ ExprNode.Applied operator part }
+    requires there { node_at (exprs_in context.now) id ≡ ExprNode.Applied operator part }
     requires below { PartsBelow (ExprNode.Applied operator part) (id_number id) }
-    ensures { IfErr result (λ b. Explains (ExpressionDiffers exprs.now (types_under names.now functions.now) id) b) }
+    ensures { IfErr result (λ b. Explains (ExpressionDiffers (exprs_in context.now) (types_around context.now) id) b) }
 {
-    let given = typed(alloc, exprs, part, names, functions)?;
-    suited(alloc, &given, operand_wanted(operator), exprs.spot(id))
+    let given = part_type(context, part)?;
+    suited(
+        context.alloc,
+        &given,
+        operand_wanted(operator),
+        context.exprs.spot(id),
+    )
 }
 
 /// What differs in the operator between its operands at an id.
 #[cycle(explain)]
 fn explain_operation(
-    alloc: Global,
-    exprs: &Exprs,
+    context: &ExprContext,
     id: ExprId,
     left: ExprId,
     operator: Operator,
     right: ExprId,
-    names: &TypeScope,
-    functions: &Signatures,
 ) -> Result<(), Blame>
-    requires there { node_at exprs.now id ≡ ExprNode.Operation left operator right }
+    requires there { node_at (exprs_in context.now) id ≡ ExprNode.Operation left operator right }
     requires below { PartsBelow (ExprNode.Operation left operator right) (id_number id) }
-    ensures { IfErr result (λ b. Explains (ExpressionDiffers exprs.now (types_under names.now functions.now) id) b) }
+    ensures { IfErr result (λ b. Explains (ExpressionDiffers (exprs_in context.now) (types_around context.now) id) b) }
 {
-    let spot = exprs.spot(id);
-    let first = typed(alloc, exprs, left, names, functions)?;
-    let second = typed(alloc, exprs, right, names, functions)?;
-    suited(alloc, &first, left_wanted(operator), spot)?;
-    let wanted = right_wanted(alloc, operator, &first)?;
-    suited(alloc, &second, wanted, spot)
+    let spot = context.exprs.spot(id);
+    let first = part_type(context, left)?;
+    let second = part_type(context, right)?;
+    suited(context.alloc, &first, left_wanted(operator), spot)?;
+    let wanted = right_wanted(context.alloc, operator, &first)?;
+    suited(context.alloc, &second, wanted, spot)
 }
 
 /// What differs in the conditional at an id.
 #[cycle(explain)]
 fn explain_conditional(
-    alloc: Global,
-    exprs: &Exprs,
+    context: &ExprContext,
     id: ExprId,
     condition: ExprId,
     first: ExprId,
     second: ExprId,
-    names: &TypeScope,
-    functions: &Signatures,
 ) -> Result<(), Blame>
-    requires there { node_at exprs.now id ≡ Conditional condition first second }
+    requires there { node_at (exprs_in context.now) id ≡ Conditional condition first second }
     requires below { PartsBelow (Conditional condition first second) (id_number id) }
-    ensures { IfErr result (λ b. Explains (ExpressionDiffers exprs.now (types_under names.now functions.now) id) b) }
+    ensures { IfErr result (λ b. Explains (ExpressionDiffers (exprs_in context.now) (types_around context.now) id) b) }
 {
-    let spot = exprs.spot(id);
-    let truth = typed(alloc, exprs, condition, names, functions)?;
-    let one = typed(alloc, exprs, first, names, functions)?;
-    let other = typed(alloc, exprs, second, names, functions)?;
-    suited(alloc, &truth, Some(Wanted::Exactly(Ty::bool())), spot)?;
-    suited(alloc, &other, Some(Wanted::Exactly(one)), spot)
+    let spot = context.exprs.spot(id);
+    let truth = part_type(context, condition)?;
+    let one = part_type(context, first)?;
+    let other = part_type(context, second)?;
+    let wanted = Some(Wanted::Exactly(Ty::bool()));
+    suited(context.alloc, &truth, wanted, spot)?;
+    suited(context.alloc, &other, Some(Wanted::Exactly(one)), spot)
 }
 
 /// What differs in the mapping at an id.
 #[cycle(explain)]
-fn explain_mapped(
-    alloc: Global,
-    exprs: &Exprs,
-    id: ExprId,
-    node: Mapped,
-    names: &TypeScope,
-    functions: &Signatures,
-) -> Result<(), Blame>
-    requires there { node_at exprs.now id ≡ ExprNode.Mapped node }
+fn explain_mapped(context: &ExprContext, id: ExprId, node: Mapped) -> Result<(), Blame>
+    requires there { node_at (exprs_in context.now) id ≡ ExprNode.Mapped node }
     requires below { PartsBelow (ExprNode.Mapped node) (id_number id) }
-    ensures { IfErr result (λ b. Explains (ExpressionDiffers exprs.now (types_under names.now functions.now) id) b) }
+    ensures { IfErr result (λ b. Explains (ExpressionDiffers (exprs_in context.now) (types_around context.now) id) b) }
 {
-    let spot = exprs.spot(id);
-    let given = typed(alloc, exprs, node.part, names, functions)?;
-    suited(alloc, &given, mapping_wanted(node.mapping), spot)?;
-    let argument = mapped_argument_type(alloc, node.mapping, &given, spot)?;
-    let pattern = exprs.placed(node.pattern);
-    let made = typed_behind(
-        alloc, exprs, pattern, node.body, &argument, names, functions, spot,
-    )?;
-    suited(alloc, &made, mapped_wanted(node.mapping), spot)
+    let spot = context.exprs.spot(id);
+    let given = part_type(context, node.part)?;
+    suited(context.alloc, &given, mapping_wanted(node.mapping), spot)?;
+    let argument = mapped_argument_type(context.alloc, node.mapping, &given, spot)?;
+    let pattern = context.exprs.placed(node.pattern);
+    let made = part_behind(context, pattern, node.body, &argument, spot)?;
+    suited(context.alloc, &made, mapped_wanted(node.mapping), spot)
 }
 
 /// What differs in the fold at an id.
 #[cycle(explain)]
-fn explain_folded(
-    alloc: Global,
-    exprs: &Exprs,
-    id: ExprId,
-    node: Folded,
-    names: &TypeScope,
-    functions: &Signatures,
-) -> Result<(), Blame>
-    requires there { node_at exprs.now id ≡ ExprNode.Folded node }
+fn explain_folded(context: &ExprContext, id: ExprId, node: Folded) -> Result<(), Blame>
+    requires there { node_at (exprs_in context.now) id ≡ ExprNode.Folded node }
     requires below { PartsBelow (ExprNode.Folded node) (id_number id) }
-    ensures { IfErr result (λ b. Explains (ExpressionDiffers exprs.now (types_under names.now functions.now) id) b) }
+    ensures { IfErr result (λ b. Explains (ExpressionDiffers (exprs_in context.now) (types_around context.now) id) b) }
 {
-    let spot = exprs.spot(id);
-    let one = typed(alloc, exprs, node.first, names, functions)?;
-    let other = typed(alloc, exprs, node.second, names, functions)?;
-    suited(alloc, &one, folding_wanted(node.folding), spot)?;
-    let argument = folded_argument_type(alloc, node.folding, &one, &other, spot)?;
-    let pattern = exprs.placed(node.pattern);
-    let made = typed_behind(
-        alloc, exprs, pattern, node.body, &argument, names, functions, spot,
-    )?;
-    let wanted = second_wanted(alloc, node.folding, &one)?;
-    suited(alloc, &other, wanted, spot)?;
-    let wanted = folded_wanted(alloc, node.folding, &one, &other)?;
-    suited(alloc, &made, wanted, spot)
+    let spot = context.exprs.spot(id);
+    let one = part_type(context, node.first)?;
+    let other = part_type(context, node.second)?;
+    suited(context.alloc, &one, folding_wanted(node.folding), spot)?;
+    let argument = folded_argument_type(context.alloc, node.folding, &one, &other, spot)?;
+    let pattern = context.exprs.placed(node.pattern);
+    let made = part_behind(context, pattern, node.body, &argument, spot)?;
+    let wanted = second_wanted(context.alloc, node.folding, &one)?;
+    suited(context.alloc, &other, wanted, spot)?;
+    let wanted = folded_wanted(context.alloc, node.folding, &one, &other)?;
+    suited(context.alloc, &made, wanted, spot)
 }
 
 /// What differs in the call of a stored function at an id.
 #[cycle(explain)]
 fn explain_called(
-    alloc: Global,
-    exprs: &Exprs,
+    context: &ExprContext,
     id: ExprId,
     function: NameId,
     place: Spot,
     part: ExprId,
-    names: &TypeScope,
-    functions: &Signatures,
 ) -> Result<(), Blame>
-    requires there { node_at exprs.now id ≡ ExprNode.Called function place part }
+    requires there { node_at (exprs_in context.now) id ≡ ExprNode.Called function place part }
     requires below { PartsBelow (ExprNode.Called function place part) (id_number id) }
-    ensures { IfErr result (λ b. Explains (ExpressionDiffers exprs.now (types_under names.now functions.now) id) b) }
+    ensures { IfErr result (λ b. Explains (ExpressionDiffers (exprs_in context.now) (types_around context.now) id) b) }
 {
-    let given = typed(alloc, exprs, part, names, functions)?;
-    let Some(types) = functions.find(exprs.name_of(function)) else {
+    let given = part_type(context, part)?;
+    let Some(types) = context.functions.find(context.exprs.name_of(function)) else {
         return Ok(());
     };
-    let wanted = Some(Wanted::Exactly(types.from().clone_in(alloc)?));
-    suited(alloc, &given, wanted, exprs.spot(id))
+    let wanted = Some(Wanted::Exactly(types.from().clone_in(context.alloc)?));
+    suited(context.alloc, &given, wanted, context.exprs.spot(id))
 }
 
 /// The type of an expression where a pattern before it binds names for the parts of a type, or what differs.
 #[cycle(explain)]
-fn typed_behind(
-    alloc: Global,
-    exprs: &Exprs,
+fn part_behind(
+    context: &ExprContext,
     pattern: &Pat,
     body: ExprId,
     from: &Ty,
-    around: &TypeScope,
-    functions: &Signatures,
     at: Spot,
 ) -> Result<Ty, Blame>
-    ensures ok { IfOk result (λ t. FunctionTakes (types_under around.now functions.now) (function_of (pattern_of pattern.now) (expression exprs.now body)) from.now t) }
-    ensures err { IfErr result (λ b. Explains (BoundDiffers exprs.now (types_under around.now functions.now) pattern.now body from.now at) b) }
+    ensures ok { IfOk result (λ t. FunctionTakes (types_around context.now) (function_of (pattern_of pattern.now) (expression (exprs_in context.now) body)) from.now t) }
+    ensures err { IfErr result (λ b. Explains (BoundDiffers (exprs_in context.now) (types_around context.now) pattern.now body from.now at) b) }
 {
-    match Frame::of_pattern(alloc, pattern, from, at) {
-        Ok(frame) => typed_within(alloc, exprs, body, &frame, around, functions),
-        Err(refusal) => Err(pattern_blame(alloc, pattern, from, refusal)),
+    match Frame::of_pattern(context.alloc, pattern, from, at) {
+        Ok(frame) => part_within(context, body, &frame),
+        Err(refusal) => Err(pattern_blame(context.alloc, pattern, from, refusal)),
     }
 }
 
 /// The type of an expression where a frame puts names behind those around it, or what differs.
 #[cycle(explain)]
-fn typed_within(
+fn part_within(context: &ExprContext, body: ExprId, frame: &Frame) -> Result<Ty, Blame>
+    ensures ok { IfOk result (λ t. HasType (types_within frame.now context.now) (expression (exprs_in context.now) body) t) }
+    ensures err { IfErr result (λ b. Explains (ExpressionDiffers (exprs_in context.now) (types_within frame.now context.now) body) b) }
+{
+    let names = (&*context.names).within(context.alloc, &*frame)?;
+    let inner = ExprContext {
+        alloc: context.alloc,
+        exprs: context.exprs,
+        names: &names,
+        functions: context.functions,
+    };
+    part_type(&inner, body)
+}
+
+/// The type of an expression, or what differs in it.
+pub fn typed(
     alloc: Global,
     exprs: &Exprs,
-    body: ExprId,
-    frame: &Frame,
-    around: &TypeScope,
+    id: ExprId,
+    names: &TypeScope,
     functions: &Signatures,
 ) -> Result<Ty, Blame>
-    ensures ok { IfOk result (λ t. HasType (types_inside frame.now around.now functions.now) (expression exprs.now body) t) }
-    ensures err { IfErr result (λ b. Explains (ExpressionDiffers exprs.now (types_inside frame.now around.now functions.now) body) b) }
+    ensures ok { IfOk result (λ t. HasType (with_types (signatures_in functions.now) (names_of names.now)) (expression exprs.now id) t) }
+    ensures err { IfErr result (λ b. Explains (ExpressionDiffers exprs.now (with_types (signatures_in functions.now) (names_of names.now)) id) b) }
 {
-    let names = (&*around).within(alloc, &*frame)?;
-    typed(alloc, exprs, body, &names, functions)
+    let context = ExprContext {
+        alloc,
+        exprs,
+        names,
+        functions,
+    };
+    part_type(&context, id)
 }
 
 /// The type that a function takes values of a type to, or what differs.
-pub fn explain_function<'a>(
-    alloc: Global,
-    exprs: &'a Exprs,
+pub fn explain_function(
+    context: &ExprContext,
     function: FunctionId,
-    from: &'a Ty,
-    names: &TypeScope<'a>,
-    functions: &Signatures,
+    from: &Ty,
     at: Spot,
 ) -> Result<Ty, Blame>
-    ensures ok { IfOk result (λ t. FunctionTakes (types_under names.now functions.now) (function_at exprs.now function) from.now t) }
-    ensures err { IfErr result (λ b. Explains (FunctionDiffers exprs.now (types_under names.now functions.now) function from.now at) b) }
+    ensures ok { IfOk result (λ t. FunctionTakes (types_around context.now) (function_at (exprs_in context.now) function) from.now t) }
+    ensures err { IfErr result (λ b. Explains (FunctionDiffers (exprs_in context.now) (types_around context.now) function from.now at) b) }
 {
-    let pattern = exprs.pattern(function);
-    typed_behind(
-        alloc,
-        exprs,
-        pattern,
-        exprs.body(function),
-        from,
-        names,
-        functions,
-        at,
-    )
+    let pattern = context.exprs.pattern(function);
+    part_behind(context, pattern, context.exprs.body(function), from, at)
 }

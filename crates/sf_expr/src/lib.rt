@@ -26,4 +26,4 @@ pub use sf_operator::{
     Arithmetic, Comparison, Equality, Folding, Logic, Mapping, Merge, Operator, Unary,
 };
 pub use sf_refusal::{Refusal, Rule, Spot};
-pub use typing::{function_type, pair_type, type_of};
+pub use typing::{ExprContext, function_type, pair_type, type_of};

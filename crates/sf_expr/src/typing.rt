@@ -76,11 +76,11 @@ fn name_type(alloc: Global, names: &TypeScope, name: &str, at: Spot) -> Result<T
 
 /// What expressions are typed under: the arena that they stand in, the names around them, and the types of stored functions.
 #[derive(Clone, Copy)]
-pub(crate) struct ExprContext<'a, 'n> {
-    alloc: Global,
-    exprs: &'a Exprs,
-    names: &'a TypeScope<'n>,
-    functions: &'a Signatures,
+pub struct ExprContext<'a, 'n> {
+    pub alloc: Global,
+    pub exprs: &'a Exprs,
+    pub names: &'a TypeScope<'n>,
+    pub functions: &'a Signatures,
 }
 
 /// The type of an expression, or the first refusal, parts first.
@@ -274,30 +274,16 @@ pub fn type_of(
 ///
 /// `DuplicateName` where two names of its pattern are the same, with the place of the later one, then `Mismatch` at `at`
 /// where the pattern does not fit the type, then what its body is refused for.
-pub fn function_type<'a>(
-    alloc: Global,
-    exprs: &'a Exprs,
+pub fn function_type(
+    context: &ExprContext,
     function: FunctionId,
-    from: &'a Ty,
-    names: &TypeScope<'a>,
-    functions: &Signatures,
+    from: &Ty,
     at: Spot,
 ) -> Result<Ty, Refusal>
-    ensures typed { TypesFunction (with_types (signatures_in functions.now) (names_of names.now)) (function_at exprs.now function) from.now result }
-    ensures first { JudgesFunction exprs.now (with_types (signatures_in functions.now) (names_of names.now)) function from.now at result }
-    ensures judged { GivesFound result (function_judged exprs.now function at from.now (with_types (signatures_in functions.now) (names_of names.now))) }
+    ensures typed { TypesFunction (types_around context.now) (function_at (exprs_in context.now) function) from.now result }
+    ensures first { JudgesFunction (exprs_in context.now) (types_around context.now) function from.now at result }
+    ensures judged { GivesFound result (function_judged (exprs_in context.now) function at from.now (types_around context.now)) }
 {
-    let context = ExprContext {
-        alloc,
-        exprs,
-        names,
-        functions,
-    };
-    judge_part(
-        &context,
-        exprs.pattern(function),
-        exprs.body(function),
-        from,
-        at,
-    )
+    let pattern = context.exprs.pattern(function);
+    judge_part(context, pattern, context.exprs.body(function), from, at)
 }

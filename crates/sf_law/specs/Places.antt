@@ -1,12 +1,14 @@
 -- The places of a template's parameters.
 use Rattle.std.specs.Prelude.{◌≡◌, ℕ, List, [], ◌∷◌, map, Option, None, bytes_eq}
-use Rattle.std.specs.BTreeMap.{BTreeMap, get_by_text}
+use Rattle.std.specs.BTreeMap.{BTreeMap, get}
+use Rattle.std.specs.Ordering.{nat_cmp}
 use Rattle.std.specs.List.{AllZip}
-use Rattle.std.specs.declared.alloc.Global.{Global}
-use Rattle.std.specs.declared.string.String.{String}
 use Rattle.sf_value.specs.Values.{Name}
 use Rattle.sf_expr.specs.declared.exprs.Exprs.{Exprs}
+use Rattle.sf_expr.specs.declared.exprs.NameId.{NameId}
+use Rattle.sf_expr.specs.declared.exprs.numbers.Numbers.{Numbers}
 use Rattle.sf_expr.specs.Arena.{name_at}
+use Rattle.sf_expr.specs.Numbered.{number_at}
 use Rattle.sf_expr.specs.Meanings.{place_behind}
 use Rattle.sf_law.specs.Headers.{ParameterHeader, PlanHeader}
 
@@ -19,10 +21,10 @@ abbrev pub last_parameter : Name → List Name → Option ℕ
 last_parameter x [] = None
 last_parameter x (y ∷ ys) = place_behind (bytes_eq x y) (last_parameter x ys)
 
--- under each name stands the place of its last parameter, if there is one
-abbrev pub PlacesLast : Exprs → PlanHeader → BTreeMap (String Global) ℕ → Type 0
-PlacesLast x h places = (y : Name) → get_by_text places y ≡ last_parameter y (names_of_parameters x h.parameters)
+-- under the number of each name stands the place of its last parameter, if there is one
+abbrev pub PlacesLast : Exprs → Numbers → PlanHeader → BTreeMap ℕ ℕ → Type 0
+PlacesLast x n h places = (k : NameId) → get nat_cmp places (number_at n k) ≡ last_parameter (name_at x k) (names_of_parameters x h.parameters)
 
 -- the same of templates
-abbrev pub ArePlaces : Exprs → List PlanHeader → List (BTreeMap (String Global) ℕ) → Type 0
-ArePlaces x hs places = AllZip (PlacesLast x) hs places
+abbrev pub ArePlaces : Exprs → Numbers → List PlanHeader → List (BTreeMap ℕ ℕ) → Type 0
+ArePlaces x n hs places = AllZip (PlacesLast x n) hs places

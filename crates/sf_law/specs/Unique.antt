@@ -1,8 +1,7 @@
 -- That a node is coded has one proof at most, so a plan can keep it.
 use Rattle.std.specs.Prelude.{◌≡◌, ℕ, Bool, true, nat_eq, bytes_eq, refl, Result, Ok, Err, Option, List, [], ◌∷◌, slice_index_or}
-use Rattle.std.specs.BTreeMap.{BTreeMap, get_by_text}
-use Rattle.std.specs.declared.alloc.Global.{Global}
-use Rattle.std.specs.declared.string.String.{String}
+use Rattle.std.specs.BTreeMap.{BTreeMap, get}
+use Rattle.std.specs.Ordering.{nat_cmp}
 use Rattle.std.specs.Coded.{Coded-set, code_by, coded_result, codes, Unit-prop}
 use Rattle.sf_value.specs.Values.{Name, Data}
 use Rattle.sf_value.specs.declared.fault.ValueFault.{ValueFault}
@@ -22,7 +21,8 @@ use Rattle.sf_code.specs.Compiling.{is_closed}
 use Rattle.sf_code.specs.Around.{patterns_around}
 use Rattle.sf_expr.specs.declared.exprs.numbers.NumberedPattern.{NumberedPattern}
 use Rattle.sf_expr.specs.declared.exprs.numbers.NumberedPattern.TheVariants.{Unnamed, Name as Numbered, Both'}
-use Rattle.sf_expr.specs.Numbered.{TellsName}
+use Rattle.sf_expr.specs.declared.exprs.numbers.Numbers.{Numbers}
+use Rattle.sf_expr.specs.Numbered.{number_at, TellsName}
 use Rattle.sf_code.specs.Worth.{frame_around, is_closed_within, IsCodeOf, IsCodeOfFunction}
 use Rattle.sf_law.specs.declared.node.PlanArgument.{PlanArgument}
 use Rattle.sf_law.specs.declared.node.PlanArgument.TheVariants as arguments
@@ -141,8 +141,8 @@ TellsName-prop m x (Both' a s b t) (both p q) = λ k l i. (TellsName-prop m x s 
 place-set : (a b : Option ℕ) → IsProp (a ≡ b)
 place-set = Coded-set (Prim.hlevel codes)
 
-pub ArePlaces-prop : (x : Exprs) (hs : List PlanHeader) (ps : List (BTreeMap (String Global) ℕ)) → IsProp (ArePlaces x hs ps)
-ArePlaces-prop x [] [] = Unit-prop
-ArePlaces-prop x [] (p ∷ ps) = λ a. absurd a
-ArePlaces-prop x (h ∷ hs) [] = λ a. absurd a
-ArePlaces-prop x (h ∷ hs) (p ∷ ps) = λ a b i. ((λ y. place-set (get_by_text p y) (last_parameter y (names_of_parameters x h.parameters)) (a.0 y) (b.0 y) i), ArePlaces-prop x hs ps a.1 b.1 i)
+pub ArePlaces-prop : (x : Exprs) (n : Numbers) (hs : List PlanHeader) (ps : List (BTreeMap ℕ ℕ)) → IsProp (ArePlaces x n hs ps)
+ArePlaces-prop x n [] [] = Unit-prop
+ArePlaces-prop x n [] (p ∷ ps) = λ a. absurd a
+ArePlaces-prop x n (h ∷ hs) [] = λ a. absurd a
+ArePlaces-prop x n (h ∷ hs) (p ∷ ps) = λ a b i. ((λ k. place-set (get nat_cmp p (number_at n k)) (last_parameter (name_at x k) (names_of_parameters x h.parameters)) (a.0 k) (b.0 k) i), ArePlaces-prop x n hs ps a.1 b.1 i)

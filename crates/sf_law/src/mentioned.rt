@@ -206,17 +206,15 @@ impl Binder {
         ensures { let e = plan_expressions plan.now in result ≡ binds_name (bound_pattern e self) (name_at e name) }
     {
         match self {
-            Binder::Pattern(pattern) => binds(plan.numbered(pattern), plan.number(name)),
+            Binder::Pattern(pattern) => plan.binds(pattern, name),
             Binder::Name(own) => plan.same_name(name, own),
-            Binder::Both(own, pattern) => {
-                plan.same_name(name, own) || binds(plan.numbered(pattern), plan.number(name))
-            }
+            Binder::Both(own, pattern) => plan.same_name(name, own) || plan.binds(pattern, name),
         }
     }
 }
 
 // Whether a pattern binds the name of a number.
-fn binds(pattern: &NumberedPattern, number: usize) -> bool
+pub(crate) fn binds(pattern: &NumberedPattern, number: usize) -> bool
     ensures { (x : NameOf) (p : PatternOf) → TellsName number x pattern.now p → result ≡ binds_name p x }
 {
     match pattern {

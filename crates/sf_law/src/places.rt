@@ -1,26 +1,30 @@
 //! Where the parameters of templates stand.
 ghost use Rattle.std.specs.Prelude.{◌≡◌, IfOk};
-ghost use Rattle.std.specs.BTreeMap.{get_by_text};
-ghost use Rattle.sf_value.specs.Values.{Name};
+ghost use Rattle.std.specs.BTreeMap.{get};
+ghost use Rattle.std.specs.Ordering.{nat_cmp};
+ghost use Rattle.sf_expr.specs.declared.exprs.Exprs.{Exprs as ExprsOf};
+ghost use Rattle.sf_expr.specs.declared.exprs.NameId.{NameId as NameIdOf};
+ghost use Rattle.sf_expr.specs.Arena.{name_at};
+ghost use Rattle.sf_expr.specs.Numbered.{number_at, AreNumbers};
 ghost use Rattle.sf_law.specs.Places.{last_parameter, names_of_parameters, ArePlaces};
 
 use crate::template::{PlanParameter, PlanTemplate};
-use sf_expr::Exprs;
+use sf_expr::Numbers;
 use std::alloc::{AllocError, Global};
 use std::collections::BTreeMap;
 
-/// The place of the last parameter of each name, from 0.
+/// The place of the last parameter of each name, from 0, under the name's number.
 fn places_of(
     alloc: Global,
-    exprs: &Exprs,
+    numbers: &Numbers,
     parameters: &[PlanParameter],
-) -> Result<BTreeMap<String, usize>, AllocError>
-    ensures { IfOk result (λ places. (x : Name) → get_by_text places x ≡ last_parameter x (names_of_parameters exprs.now parameters.now)) }
+) -> Result<BTreeMap<usize, usize>, AllocError>
+    ensures { IfOk result (λ places. (e : ExprsOf) → AreNumbers e numbers.now → (k : NameIdOf)
+        → get nat_cmp places (number_at numbers.now k) ≡ last_parameter (name_at e k) (names_of_parameters e parameters.now)) }
 {
     let mut places = BTreeMap::new(alloc);
     for place in 0..parameters.len() {
-        let name = exprs.name_of(parameters[place].name());
-        places.insert(String::from_str(alloc, name)?, place)?;
+        places.insert(numbers.number(parameters[place].name()), place)?;
     }
     Ok(places)
 }
@@ -28,21 +32,21 @@ fn places_of(
 /// The same of each template.
 pub(crate) fn all_places(
     alloc: Global,
-    exprs: &Exprs,
+    numbers: &Numbers,
     templates: &[PlanTemplate],
-) -> Result<Vec<BTreeMap<String, usize>>, AllocError>
-    ensures { IfOk result (λ places. ArePlaces exprs.now templates.now places.items) }
+) -> Result<Vec<BTreeMap<usize, usize>>, AllocError>
+    ensures { IfOk result (λ places. (e : ExprsOf) → AreNumbers e numbers.now → ArePlaces e numbers.now templates.now places.items) }
 {
     let mut places = Vec::with_capacity(alloc, templates.len())?;
     for template in templates {
-        places.push(places_of(alloc, exprs, template.parameters())?)?;
+        places.push(places_of(alloc, numbers, template.parameters())?)?;
     }
     Ok(places)
 }
 
-/// The place of a name.
-pub(crate) fn place_in(places: &BTreeMap<String, usize>, name: &str) -> Option<usize>
-    ensures { result ≡ get_by_text places.now name.now }
+/// The place under a number.
+pub(crate) fn place_in(places: &BTreeMap<usize, usize>, number: usize) -> Option<usize>
+    ensures { result ≡ get nat_cmp places.now number }
 {
-    places.get(name).copied()
+    places.get(&number).copied()
 }

@@ -7,7 +7,7 @@ ghost use Rattle.sf_term.specs.Trees.{primitive, bare};
 ghost use Rattle.std.specs.Prelude.{map, length, option_map};
 ghost use Rattle.sf_law.specs.Headers.{place_named, rebodied, NumbersFirst, no_header};
 ghost use Rattle.sf_law.specs.Places.{last_parameter, names_of_parameters, ArePlaces};
-ghost use Rattle.sf_law.specs.Mentioned.{AreCovered, MayCover};
+ghost use Rattle.sf_law.specs.Mentioned.{AreCovered, MayCover, binds_name};
 ghost use Rattle.sf_law.specs.Entries.{ArePlanNodes, BindsNames, IsCoded, is_whole, calls_first, parts_end};
 ghost use Rattle.sf_law.specs.Asking.{AreAsked, is_asked};
 ghost use Rattle.sf_law.specs.declared.mentioned.Mentioned.TheVariants.{Any as any_name};
@@ -19,7 +19,7 @@ ghost use Rattle.sf_law.specs.Unique.{IsCoded-prop, BindsNames-prop, ArePlaces-p
 ghost use Rattle.std.proofs.Props.{props};
 
 use crate::asked::asked_names;
-use crate::mentioned::Mentioned;
+use crate::mentioned::{Mentioned, binds};
 use crate::mentions::mentions_of;
 use crate::node::{PlanId, PlanNode, PlanPrimitive, TemplateId};
 use crate::places::{all_places, place_in};
@@ -39,7 +39,7 @@ pub struct Plan {
     nodes: Vec<PlanNode>,
     templates: Vec<PlanTemplate>,
     numbers: IndexMap<String, usize>,
-    places: Vec<BTreeMap<String, usize>>,
+    places: Vec<BTreeMap<usize, usize>>,
     main: PlanId,
     asked: Mentioned,
     mentions: Vec<Mentioned>,
@@ -52,7 +52,7 @@ pub struct Plan {
     ghost covered: { AreCovered expressions nodes.items mentions.items },
     ghost bound: { All (BindsNames expressions) templates.items } by { Prim.hlevel (props, BindsNames-prop) },
     ghost numbered: { NumbersFirst numbers templates.items },
-    ghost placed: { ArePlaces expressions templates.items places.items } by { Prim.hlevel (props, ArePlaces-prop) },
+    ghost placed: { ArePlaces expressions numbering templates.items places.items } by { Prim.hlevel (props, ArePlaces-prop) },
     ghost same: { identity ≡ primitive_node (bare_node identity_form) },
     ghost nothing: { absent ≡ no_header },
 }
@@ -105,7 +105,7 @@ impl Plan {
     {
         let numbering = Numbers::of(alloc, &expressions)?;
         let numbers = first_templates(alloc, &templates)?;
-        let places = all_places(alloc, &expressions, &templates)?;
+        let places = all_places(alloc, &numbering, &templates)?;
         Ok(Plan {
             expressions,
             numbering,
@@ -247,7 +247,7 @@ impl Plan {
         ensures { result ≡ last_parameter (name_at (plan_expressions self.now) name) (names_of_parameters (plan_expressions self.now) (header_at self.now id).parameters) }
     {
         match self.places.get(id.0) {
-            Some(places) => place_in(places, self.expressions.name_of(name)),
+            Some(places) => place_in(places, self.number(name)),
             None => None,
         }
     }
@@ -286,6 +286,13 @@ impl Plan {
         ensures { let e = plan_expressions self.now in result ≡ bytes_eq (name_at e first) (name_at e second) }
     {
         self.number(first) == self.number(second)
+    }
+
+    /// Whether a pattern binds a name. No text is compared.
+    pub fn binds(&self, pattern: PatternId, name: NameId) -> bool
+        ensures { let e = plan_expressions self.now in result ≡ binds_name (pattern_of (placed_at e pattern)) (name_at e name) }
+    {
+        binds(self.numbered(pattern), self.number(name))
     }
 
     /// Whether it may ask what a process of this name began as: where it doesn't, that need not be kept.

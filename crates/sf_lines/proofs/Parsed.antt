@@ -1,7 +1,6 @@
 -- What the parts of a line make of it.
 use Rattle.std.proofs.Common.{◌≡◌, ◌≢◌, ◌↔◌, ℕ, suc, ◌-◌, ◌<◌, ◌≤◌, min, Bool, true, false, List, [], ◌∷◌, ◌++◌, length, take, drop, get_or, codes, Some, None, Result, Ok, Err, refl, sym, ◌∙◌, ap, subst, arith}
-use Rattle.std.specs.Prelude.{IsTrue, IfOk, IfErr, not, nat_eq}
-use Rattle.std.specs.Cmp.Lexicographic.{pointwise, same_text, other_text}
+use Rattle.std.specs.Prelude.{IsTrue, IfOk, IfErr}
 use Rattle.std.specs.Char.{is_ascii_digit}
 use Rattle.std.specs.Str.Parse.{digits_value}
 use Rattle.std.proofs.lemmas.Bool.{false≢true}
@@ -157,20 +156,6 @@ pub not_blank : (b : Bool) (P : Type 0) → b ≡ false → (IsTrue b ↔ P) →
 not_blank b P e h p = false≢true (sym e ∙ h.1 p)
 
 -- what the test of a value for `=` told
-pub differs : (value other : List ℕ) → other ≡ codes "=" → true ≡ not (pointwise nat_eq value other) → value ≢ codes "="
-differs value other e test = at (pointwise nat_eq value other) refl test
-  where
-    at : (b : Bool) → b ≡ pointwise nat_eq value other → true ≡ not b → value ≢ codes "="
-    at true is h = absurd (false≢true (sym h))
-    at false is h = λ same. other_text value other is (same ∙ sym e)
-
-pub equals : (value other : List ℕ) → other ≡ codes "=" → false ≡ not (pointwise nat_eq value other) → value ≡ codes "="
-equals value other e test = at (pointwise nat_eq value other) refl test
-  where
-    at : (b : Bool) → b ≡ pointwise nat_eq value other → false ≡ not b → value ≡ codes "="
-    at true is h = same_text value other is ∙ e
-    at false is h = absurd (false≢true h)
-
 pub step_positive : (n d : ℕ) → n ≡ min d step_cap → 0 < n → 0 < d
 step_positive n d e h = omega arith
 

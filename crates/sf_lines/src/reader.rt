@@ -1,5 +1,5 @@
 //! Input lines.
-ghost use Rattle.std.specs.Prelude.{◌≡◌, ◌≢◌, IfOk, IfErr, IsTrue, ◌↔◌, MatchOption, Ok, Err};
+ghost use Rattle.std.specs.Prelude.{◌≡◌, ◌≢◌, IfOk, IfErr, IsTrue, ◌↔◌, MatchOption, codes, Ok, Err};
 ghost use Rattle.sf_value.specs.Values.{Data};
 ghost use Rattle.sf_spelling.specs.Reading.{Refusal, Reads};
 ghost use Rattle.sf_lines.specs.declared.refusal.LineRefusal.TheVariants.{Memory};
@@ -144,7 +144,7 @@ fn parts_of(bytes: &[u8]) -> Option<Parts<'_>>
         return Some(Parts::Blank);
     }
     if let Some((step, value)) = step_at(bytes) {
-        return if value != b"=".as_slice() {
+        return if !is_unchanged(value) {
             Some(Parts::Sampled(step, value))
         } else if step > 0 {
             Some(Parts::Repeated(step))
@@ -159,6 +159,16 @@ fn parts_of(bytes: &[u8]) -> Option<Parts<'_>>
         return Some(Parts::Back(name));
     }
     None
+}
+
+/// Whether what stands for a value says that the input is unchanged.
+fn is_unchanged(value: &[u8]) -> bool
+    ensures { IsTrue result ↔ (value.now ≡ codes "=") }
+{
+    match value {
+        [c] => *c == b'=',
+        _ => false,
+    }
 }
 
 /// Whether a line is empty or a comment.

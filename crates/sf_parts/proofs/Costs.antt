@@ -125,7 +125,7 @@ module _ (φ : AnswersByName) (p : Plan) where
   -- ## Parts that do not begin
 
   module _ {m n n' : Meter} {depth inside : ℕ} (t : Ticks m n depth inside) (en : entered_of n' ≡ entered_of n) (hn : height_of n' ≡ height_of n) where
-    open_stops : {u : Term} {e : Environment} {x : Data} {f : Fault} (d : ℕ) → Opens φ p u e x (Err f) → StopsFor (Gives net (closure u e) (step d x ∷ [])) f m n' depth
+    pub open_stops : {u : Term} {e : Environment} {x : Data} {f : Fault} (d : ℕ) → Opens φ p u e x (Err f) → StopsFor (Gives net (closure u e) (step d x ∷ [])) f m n' depth
     open_stops d (opens_with_fault h) = faults (h d) ((ticked_within t en hn).most _ _ (h d))
     open_stops d opens_without_memory = memory (ticked_within t en hn)
 

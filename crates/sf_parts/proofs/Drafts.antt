@@ -3,16 +3,19 @@ use Rattle.std.proofs.Common.{◌≡◌, ℕ, zero, suc, ◌+◌, ◌≤◌, ◌
 use Rattle.std.proofs.lemmas.List.{length-append}
 use Rattle.std.specs.Prelude.{IfOk, IfSome}
 use Rattle.std.specs.List.{remove}
-use Rattle.sf_value.specs.Values.{KeyData, Data}
+use Rattle.std.proofs.lemmas.Slice.Eq.{bytes_eq-Decides}
+use Rattle.std.specs.Prelude.{bytes_eq}
+use Rattle.sf_value.specs.Values.{Name, KeyData, Data, first_of, second_of}
 use Rattle.sf_value.specs.Keys.{key_index}
 use Rattle.sf_func.specs.Registries.{AnswersByName}
 use Rattle.sf_operator.specs.FunctionForms.{value_of_key}
-use Rattle.sf_expr.specs.Expressions.{Expression}
+use Rattle.sf_expr.specs.Expressions.{Expression, Pattern, unnamed, named, both}
 use Rattle.sf_expr.specs.Evaluation.{Evaluated, answer, ◌>>=◌, eval}
-use Rattle.sf_mean.specs.Lives.{Process, closure, Environment, Members, no_members, member, scope_around}
+use Rattle.sf_mean.specs.Lives.{Process, closure, Environment, Members, no_members, member, members_of, bind, scope_around}
 use Rattle.sf_mean.specs.Formulas.{is_high}
 use Rattle.sf_mean.specs.Collections.{as_key, add, drop as drop_members, keep}
 use Rattle.sf_term.specs.Trees.{Term}
+use Rattle.sf_coincidence.specs.Mentions.{BindsOthers}
 use Rattle.sf_law.specs.declared.plan.Plan.{Plan}
 use Rattle.sf_state.specs.declared.state.State.{State}
 use Rattle.sf_state.specs.declared.state.Gathered.{Gathered}
@@ -26,6 +29,16 @@ use Rattle.sf_parts.specs.Beginning.{Makes, makes}
 use Rattle.sf_parts.specs.Drafting.{change_one, all_changed, laid_over, drafted, frozen_over, Lays}
 use Rattle.sf_parts.proofs.Places.{among_new, put_at, put_last, take_at_key, none_to_drop}
 use Rattle.sf_parts.proofs.Collected.{goes_on, worth_in, scope_in, same_answer, answers_alike, followed, ended_by, followed_by_one, keys_ended, asked_one}
+
+-- members are found as before where a pattern binds other names
+pub found_outside : (p : Pattern) (x : Name) (v : Data) (e : Environment) → BindsOthers p x → members_of x (bind p v e) ≡ members_of x e
+found_outside unnamed x v e others = refl
+found_outside (named y) x v e others = ap (λ b. cond b no_members (members_of x e)) (apart (bytes_eq x y) refl)
+  where
+    apart : (b : Bool) → bytes_eq x y ≡ b → bytes_eq x y ≡ false
+    apart true same = absurd (others (sym ((bytes_eq-Decides x y).0 same)))
+    apart false other = other
+found_outside (both p q) x v e others = found_outside q x (second_of v) (bind p (first_of v) e) others.1 ∙ found_outside p x (first_of v) e others.0
 
 -- one more change comes last
 pub changed_more : {A : Type 0} (worth : State → A) (cs : List Change) (c : Change) (xs : List A) → all_changed worth (cs ++ c ∷ []) xs ≡ change_one worth c (all_changed worth cs xs)

@@ -3,6 +3,7 @@ pub mod Primitives
 pub mod Arguments
 pub mod References
 pub mod Begins
+pub mod First
 pub mod Sought
 pub mod Rows
 pub mod Places

@@ -1,5 +1,5 @@
 -- What the parts of a sample answer, and what the meter counts for them.
-use Rattle.std.specs.Prelude.{◌≡◌, ℕ, ◌+◌, ◌-◌, ◌≤◌, ◌<◌, max, ◌∷◌, ◌++◌, ◌⊎◌, length, slice_range, Result, Ok, Err}
+use Rattle.std.specs.Prelude.{◌≡◌, ℕ, ◌+◌, ◌-◌, ◌≤◌, ◌<◌, max, [], ◌∷◌, ◌++◌, ◌⊎◌, length, slice_range, Result, Ok, Err}
 use Rattle.sf_value.specs.Values.{Data}
 use Rattle.sf_value.specs.declared.fault.ValueFault.{ValueFault}
 use Rattle.sf_value.specs.declared.fault.Fault.{Fault}
@@ -7,13 +7,16 @@ use Rattle.sf_value.specs.declared.fault.Fault.TheVariants.{Value, Large, Memory
 use Rattle.sf_func.specs.Registries.{AnswersByName}
 use Rattle.sf_operator.specs.declared.fault.EvalFault.{EvalFault}
 use Rattle.sf_operator.specs.declared.fault.EvalFault.TheVariants.{Value as EValue, Memory as EMemory}
-use Rattle.sf_mean.specs.Lives.{Step, Life, Process, first_input}
+use Rattle.sf_term.specs.Trees.{Term}
+use Rattle.sf_mean.specs.Lives.{Step, Life, Process, closure, Environment, first_input}
 use Rattle.sf_mean.specs.Meaning.{Readings, Outcome, gave, faulted, Cost, count, height, Gives}
 use Rattle.sf_law.specs.declared.plan.Plan.{Plan}
 use Rattle.sf_law.specs.Arena.{network_of_plan}
 use Rattle.sf_prim.specs.declared.prim_state.PrimState.{PrimState}
 use Rattle.sf_state.specs.declared.state.Live.{Live}
-use Rattle.sf_state.specs.Standing.{Recalls, Settles, Ready}
+use Rattle.sf_state.specs.declared.state.State.{State}
+use Rattle.sf_state.specs.declared.env.Env.{Env}
+use Rattle.sf_state.specs.Standing.{IsNames, Recalls, Stands, Settles, Ready}
 use Rattle.sf_parts.specs.declared.meter.Meter.{Meter}
 use Rattle.sf_parts.specs.declared.meter.Mark.{Mark}
 use Rattle.sf_parts.specs.declared.meter.Spent.{Spent as SpentBetween}
@@ -102,3 +105,8 @@ PrimSteps φ p i s result n n' = (m : Meter) (depth inside : ℕ) → Ticks m n 
 abbrev pub LiveSteps : AnswersByName → Plan → Live → Step → Result (Live × Data) Fault → Meter → Meter → ℕ → Type 0
 LiveSteps φ p l s result n n' inside = (m : Meter) (depth : ℕ) → Ticks m n depth inside → (P : Process) (L : Life) → Ready φ p l P (first_input s L) L
     → Answers (λ y. y.1) (λ y. Settles φ p y.0 P (s ∷ L)) (Gives (network_of_plan φ p) P (s ∷ L)) result m n' depth
+
+-- a term with names around it, which counted between m and n, steps likewise at its first sample
+abbrev pub FirstSteps : AnswersByName → Plan → Term → Env → Step → Result (State × Data) Fault → Meter → Meter → Type 0
+FirstSteps φ p t names s result n n' = (m : Meter) (depth inside : ℕ) → Ticks m n depth inside → (e : Environment) → IsNames φ p names e
+    → Answers (λ y. y.1) (λ y. Stands φ p y.0 (closure t e) (s ∷ [])) (Gives (network_of_plan φ p) (closure t e) (s ∷ [])) result m n' depth

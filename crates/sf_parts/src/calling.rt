@@ -24,6 +24,7 @@ use std::rc::Rc;
 
 /// The process of a name, shared, where it stood or where it began; what passes its inputs on where the name stands for
 /// none.
+#[inline(always)]
 pub(crate) fn started(
     alloc: Global,
     plan: &Plan,
@@ -48,6 +49,7 @@ pub(crate) fn started(
 
 // What the process of a name began as, shared, where the plan asks for it under that name and under another; what passes its
 // inputs on where the name stands for none.
+#[inline(always)]
 fn began(plan: &Plan, names: &Env, name: NameId, under: NameId) -> Result<Process, AllocError>
     ensures { let x = plan_expressions plan.now in
         IfOk result (λ process. (φ : AnswersByName) (e : Environment) → IsNames φ plan.now names.now e → IsTrue (plan_asks plan.now (name_at x under)) → IsTrue (plan_asks plan.now (name_at x name)) →
@@ -105,6 +107,7 @@ pub(crate) fn called<R: Holds>(
 const FEW: usize = 16;
 
 // The parameters of a template, each bound to its argument.
+#[inline(always)]
 fn bound_names<R: Holds>(
     context: &SampleContext<R>,
     id: TemplateId,
@@ -129,6 +132,7 @@ fn bound_names<R: Holds>(
 }
 
 // Parameters, each bound to its argument inside those before it.
+#[inline(always)]
 fn one_inside_another<R: Holds>(
     context: &SampleContext<R>,
     parameters: &[PlanParameter],
@@ -174,6 +178,7 @@ fn side_by_side<R: Holds>(
 }
 
 // Names, and inside them that of a parameter, which stands for what is given.
+#[inline(always)]
 fn bind<R: Holds>(
     context: &SampleContext<R>,
     parameter: &PlanParameter,
@@ -196,6 +201,7 @@ fn bind<R: Holds>(
 }
 
 // What an argument gives to a parameter, with the names around the call.
+#[inline(always)]
 fn given_by<R: Holds>(
     context: &SampleContext<R>,
     parameter: &PlanParameter,
@@ -227,6 +233,7 @@ fn given_by<R: Holds>(
 }
 
 // The process of a name for a parameter, beside what it began as.
+#[inline(always)]
 fn handed_on<R: Holds>(
     context: &SampleContext<R>,
     parameter: &PlanParameter,

@@ -23,7 +23,7 @@ ghost use Rattle.sf_parts.specs.Drafting.{laid_over, drafted, frozen_over, aroun
 use crate::collecting::{as_key, is_kept, is_met};
 use crate::context::{SampleContext, constant_in, fault_of};
 use sf_code::OpenCode;
-use sf_expr::{NameId, Pat, PatForm, PatternId};
+use sf_expr::{NameId, PatternId};
 use sf_func::Holds;
 use sf_law::{Plan, PlanCollection, PlanId};
 use sf_state::{Editing, Env, Gathered, NamesIn, Process, State};
@@ -106,23 +106,7 @@ fn is_own(plan: &Plan, own: NameId, pattern: PatternId, name: NameId) -> bool
     ensures { let x = plan_expressions plan.now in
         IsTrue result → (v : Data) (ms : Members) (e : Environment) → members_of (name_at x name) (bind (pattern_of (placed_at x pattern)) v (collected_in (name_at x own) ms e)) ≡ ms }
 {
-    let expressions = plan.expressions();
-    let asked = expressions.name_of(name);
-    if binds(expressions.placed(pattern), asked) {
-        return false;
-    }
-    plan.same_name(name, own)
-}
-
-// Whether a pattern binds a name.
-fn binds(pattern: &Pat, name: &str) -> bool
-    ensures { result ≡ false → (v : Data) (e : Environment) → members_of name.now (bind (pattern_of pattern.now) v e) ≡ members_of name.now e }
-{
-    match pattern.form() {
-        PatForm::Unnamed => false,
-        PatForm::Name(own, _) => name == own.as_str(),
-        PatForm::Both(first, second) => binds(first, name) || binds(second, name),
-    }
+    !plan.binds(pattern, name) && plan.same_name(name, own)
 }
 
 // All members that run.

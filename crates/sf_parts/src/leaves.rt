@@ -1,15 +1,19 @@
 //! The parts that step no others: primitives and probes.
 ghost use Rattle.std.specs.Prelude.{◌≡◌, ℕ};
 ghost use Rattle.sf_mean.specs.Lives.{step};
-ghost use Rattle.sf_parts.specs.Answering.{PrimSteps, LiveSteps, left_or};
+ghost use Rattle.sf_term.specs.Trees.{Term};
+ghost use Rattle.sf_law.specs.Arena.{BuildsPlan};
+ghost use Rattle.sf_law.specs.declared.node.PlanNode.TheVariants as NodeOf;
+ghost use Rattle.sf_parts.specs.Answering.{PrimSteps, LiveSteps, FirstSteps, left_or};
 ghost use Rattle.sf_parts.specs.Contexts.{plan_in, dt_in};
 ghost use Rattle.sf_parts.specs.Meters.{entered_of, fault_of as fault_in};
 
 use crate::context::{SampleContext, fault_of};
 use crate::meter::{Meter, Stop};
 use sf_func::Holds;
+use sf_law::PlanPrimitive;
 use sf_prim::PrimState;
-use sf_state::Live;
+use sf_state::{Env, Live, NamesIn, State};
 use sf_value::{Fault, Value};
 use std::rc::Rc;
 
@@ -28,6 +32,33 @@ pub fn step_prim<R: Holds>(
 {
     match prim.step(context.alloc, context.functions, context.dt, value) {
         Ok(()) => Ok(()),
+        Err(fault) => Err(meter.stop(fault_of(fault))),
+    }
+}
+
+/// Puts a primitive after its first sample, with these names around it, in place of a state, and its value in place of the input.
+/// It has been counted. After an error the state stands for nothing, and the value may be any.
+#[inline(never)]
+pub fn first_primitive<R: Holds>(
+    context: &SampleContext<R>,
+    state: &mut State,
+    primitive: &PlanPrimitive,
+    names: &Env,
+    value: &mut Value,
+    meter: &mut Meter,
+) -> Result<(), Stop>
+    ensures { (t : Term) → BuildsPlan (plan_in context.now) (NodeOf.Primitive primitive.now) t → FirstSteps (R.answers context.now.functions.now) (plan_in context.now) t names.now (step (dt_in context.now) value.old)
+        (left_or result (state.new, value.new) (fault_in meter.new)) meter.old meter.new }
+{
+    let plan = context.plan;
+    let around = NamesIn { plan, names };
+    match PrimState::born(context.alloc, primitive, context.functions, &around) {
+        Ok(born) => {
+            let mut prim = born;
+            let stepped = step_prim(context, &mut prim, value, meter);
+            state.put(State::Primitive(prim));
+            stepped
+        }
         Err(fault) => Err(meter.stop(fault_of(fault))),
     }
 }

@@ -17,7 +17,7 @@ mod turning;
 pub use collecting::collect;
 pub use context::SampleContext;
 pub use drafting::{Change, Draft, draft_of};
-pub use leaves::{step_prim, step_probe};
+pub use leaves::{first_primitive, step_prim, step_probe};
 pub use meter::{Mark, Meter, Spent, Stop};
 pub use opening::{Begun, begin};
 pub use routing::{

@@ -68,7 +68,7 @@ pub fn begin<R: Holds>(
     match open(context, term, &names, input) {
         Ok(opened) => {
             let (next, begun) = prepared(opened, names);
-            *state = next;
+            state.put(next);
             Ok(begun)
         }
         Err(fault) => Err(fault),

@@ -25,7 +25,7 @@ use std::rc::Rc;
 
 /// The first part of a pair, and the payload of the event beside it, if it occurs; a value that is no pair stands for both
 /// parts. It leaves a number in its place.
-#[inline]
+#[inline(always)]
 pub fn value_and_payload(
     alloc: Global,
     value: &mut Value,
@@ -38,6 +38,7 @@ pub fn value_and_payload(
 }
 
 /// The payload of an event that occurs, which may be shared; none of another value.
+#[inline(always)]
 pub fn payload_of(event: Value) -> Option<Rc<Value>>
     ensures { option_map (λ x. x.value) result ≡ occurring event }
 {
@@ -48,6 +49,7 @@ pub fn payload_of(event: Value) -> Option<Rc<Value>>
 }
 
 /// What a switch shows at the step of its event: its body's value in place of that of what ran before, or that still.
+#[inline(always)]
 pub fn show(shown: Observation, value: &mut Value, new: Value)
     ensures { value.new ≡ switched_value shown value.old new }
 {
@@ -132,7 +134,7 @@ fn with_fault(heading: Heading, fault: EvalFault) -> Result<Wrap, Fault>
 }
 
 /// What takes over from a state stands in its place, if anything does.
-#[inline]
+#[inline(always)]
 pub fn take_over(state: &mut State, over: Option<State>)
     ensures { state.new ≡ unwrap_or over state.old }
 {
@@ -142,6 +144,7 @@ pub fn take_over(state: &mut State, over: Option<State>)
 }
 
 /// Before a sample: what runs goes on in nodes of its own, and what it was takes the place of what it was before.
+#[inline(always)]
 pub fn hold_back(alloc: Global, source: &mut State, before: &mut State) -> Result<(), AllocError>
     ensures held { OnOk result (before.new ≡ source.old) }
     ensures runs_on { OnOk result ((φ : AnswersByName) (p : PlanOf) (P : ProcessOf) (L : Life) → Stands φ p source.old P L → Stands φ p source.new P L) }
@@ -152,6 +155,7 @@ pub fn hold_back(alloc: Global, source: &mut State, before: &mut State) -> Resul
 }
 
 /// A sample's input twice, for the observer of a switch and for its body.
+#[inline(always)]
 pub fn copies(alloc: Global, input: &Value) -> Result<(Value, Value), AllocError>
     ensures { IfOk result (λ both. (both.0 ≡ input.now) × (both.1 ≡ input.now)) }
 {
@@ -159,6 +163,7 @@ pub fn copies(alloc: Global, input: &Value) -> Result<(Value, Value), AllocError
 }
 
 /// The input beside a copy of a value, as one pair.
+#[inline(always)]
 pub fn beside(alloc: Global, input: Value, given: &Value) -> Result<Value, AllocError>
     ensures { IfOk result (λ both. both ≡ pair input given.now) }
 {

@@ -1,5 +1,5 @@
 -- What a player has played.
-use Rattle.std.specs.Prelude.{◌≡◌, ℕ, ◌+◌, ◌*◌, ◌≤◌, Bool, List, [], ◌++◌, length, take, All, Option, Some, None, Result, Ok, Err}
+use Rattle.std.specs.Prelude.{◌≡◌, ℕ, ◌+◌, ◌*◌, ◌≤◌, Bool, List, [], ◌++◌, length, take, drop, All, Option, Some, None, Result, Ok, Err}
 use Rattle.sf_value.specs.Values.{Name}
 use Rattle.sf_value.specs.declared.fault.Fault.TheVariants.{Large, Memory as NoMemory}
 use Rattle.std.specs.Io.KnownBytes.{Appends}
@@ -159,6 +159,18 @@ module _ {F : Type 0} {H : _} where
   -- Nothing is gathered any more, and all else is as it was.
   pub record IsCleared (old new : Player F H) : Type 0 where
     pub empty : new.out.items ≡ []
+    pub cutter : new.cutter ≡ old.cutter
+    pub engine : new.engine ≡ old.engine
+    pub taken : new.taken ≡ old.taken
+    pub probes : new.probes ≡ old.probes
+
+  -- what is gathered
+  abbrev pub gathered : Player F H → List ℕ
+  gathered p = p.out.items
+
+  -- So many of the first bytes that were gathered are gone, and all else is as it was.
+  pub record IsForgotten (count : ℕ) (old new : Player F H) : Type 0 where
+    pub left : new.out.items ≡ drop count old.out.items
     pub cutter : new.cutter ≡ old.cutter
     pub engine : new.engine ≡ old.engine
     pub taken : new.taken ≡ old.taken

@@ -15,7 +15,7 @@ use std::io::Write;
 
 /// A run of a network over an input. What is to be written is gathered.
 #[derive(Drop)]
-pub(crate) struct Player<F: Holds> {
+pub struct Player<F: Holds> {
     alloc: Global,
     cutter: Cutter,
     engine: Engine<F>,
@@ -35,14 +35,10 @@ impl<F: Holds + Drop> Player<F> {
     ghost use Rattle.sf_lines.specs.Cutting.{line_cut};
     ghost use Rattle.sf_player.specs.Scripts.{Moment, life_after, IsSample, Asks};
     ghost use Rattle.sf_player.specs.Counting.{inner_of, failures_of, MayCountWrites};
-    ghost use Rattle.sf_player.specs.Playing.{SavesLastAtMost, IsAt, AwaitsLine, PlaysLine, Played, IsPlaying, PlaysPart, Feeds, EndsInput, WritesOut};
+    ghost use Rattle.sf_player.specs.Playing.{SavesLastAtMost, IsAt, AwaitsLine, PlaysLine, Played, IsPlaying, PlaysPart, Feeds, EndsInput, WritesOut, gathered, IsForgotten};
 
     /// A run at its start, which says what probes record, or doesn't.
-    pub(crate) fn new(
-        alloc: Global,
-        engine: Engine<F>,
-        probes: bool,
-    ) -> Result<Player<F>, AllocError>
+    pub fn new(alloc: Global, engine: Engine<F>, probes: bool) -> Result<Player<F>, AllocError>
         ensures { IfOk result (λ p. (n : Network) (m : Template) → Runs engine n m [] []
             → Played probes n m [] [] p × (p.out.items ≡ [])) }
     {
@@ -58,7 +54,7 @@ impl<F: Holds + Drop> Player<F> {
     }
 
     /// Plays a piece of the input.
-    pub(crate) fn feed(&mut self, piece: &[u8]) -> Option<Stop>
+    pub fn feed(&mut self, piece: &[u8]) -> Option<Stop>
         requires { IsPlaying self.old }
         ensures { (probes : Bool) (n : Network) (m : Template) (read written : List ℕ)
             → Played probes n m read written self.old
@@ -72,6 +68,23 @@ impl<F: Holds + Drop> Player<F> {
             }
         }
         None
+    }
+
+    /// What is gathered.
+    pub fn gathered(&self) -> &[u8]
+        ensures { result.now ≡ gathered self.now }
+    {
+        self.out.as_slice()
+    }
+
+    /// Forgets so many of the first bytes that are gathered.
+    pub fn forget(&mut self, count: usize)
+        requires { count ≤ length (gathered self.old) }
+        ensures { IsForgotten count self.old self.new }
+    {
+        let left = self.out.len() - count;
+        self.out.rotate_left(count);
+        self.out.truncate(left);
     }
 
     /// Plays what is left at the end of the input.

@@ -8,7 +8,7 @@ use sf_value::Fault;
 
 /// Why a run stops before the end of its input.
 #[derive(Clone, Copy, Debug, PartialEq, Eq)]
-pub(crate) enum Stop {
+pub enum Stop {
     /// The sample at this time, in milliseconds, has this fault.
     Faulted(u64, Fault),
     /// The line with this number, from 1, is refused for this reason.
@@ -17,7 +17,7 @@ pub(crate) enum Stop {
 
 impl Stop {
     /// How the run ends.
-    pub(crate) fn end(self) -> PlayEnd
+    pub fn end(self) -> PlayEnd
         ensures { result ≡ stop_end self }
     {
         match self {
@@ -29,7 +29,7 @@ impl Stop {
     /// The line that says so.
     #[cold]
     #[inline(never)]
-    pub(crate) fn line(self) -> ShortLine
+    pub fn line(self) -> ShortLine
         ensures { result ≡ stop_line self }
     {
         match self {

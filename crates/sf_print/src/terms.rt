@@ -466,7 +466,12 @@ fn write_collection(
             draft.name(program.expressions().name_of(*name))
         }
         CollExpr::Added(members, key, term, _) => {
-            write_added(program, version, form, members, *key, *term, draft)
+            let added = Added {
+                members,
+                key: *key,
+                term: *term,
+            };
+            write_added(program, version, form, &added, draft)
         }
         CollExpr::Dropped(members, key, _) => {
             write_dropped(program, version, form, members, *key, draft)
@@ -475,9 +480,22 @@ fn write_collection(
             write_kept(program, version, form, members, *function, draft)
         }
         CollExpr::Chosen(condition, first, second, _) => {
-            write_chosen(program, version, form, *condition, first, second, draft)
+            let chosen = Chosen {
+                condition: *condition,
+                first,
+                second,
+            };
+            write_chosen(program, version, form, &chosen, draft)
         }
     }
+}
+
+/// A collection with a term under a key.
+#[derive(Clone, Copy)]
+struct Added<'a> {
+    members: &'a CollExpr,
+    key: ExprId,
+    term: TermId,
 }
 
 /// Appends a collection with a term under a key.
@@ -487,22 +505,20 @@ fn write_added(
     program: &Program,
     version: Version,
     form: TermId,
-    members: &CollExpr,
-    key: ExprId,
-    term: TermId,
+    added: &Added,
     draft: &mut Draft,
 ) -> Result<(), AllocError>
-    requires members_within { IsWithin program.now form members.now }
-    requires term_before { term_number term < term_number form }
-    ensures { OnOk result (draft.new ≡ append_tokens draft.old (spell_collection version (added_of (collection_of program.now members.now) (expression_under program.now key) (tree program.now term)))) }
+    requires members_within { IsWithin program.now form added.now.members.now }
+    requires term_before { term_number added.now.term < term_number form }
+    ensures { OnOk result (draft.new ≡ append_tokens draft.old (spell_collection version (added_of (collection_of program.now added.now.members.now) (expression_under program.now added.now.key) (tree program.now added.now.term)))) }
 {
     draft.keyword(Keyword::Add)?;
     draft.symbol(Symbol::Open)?;
-    write_collection(program, version, form, members, draft)?;
+    write_collection(program, version, form, added.members, draft)?;
     draft.symbol(Symbol::Comma)?;
-    write_value(program, version, key, draft)?;
+    write_value(program, version, added.key, draft)?;
     draft.symbol(Symbol::Comma)?;
-    write_term(program, version, term, draft)?;
+    write_term(program, version, added.term, draft)?;
     draft.symbol(Symbol::Close)
 }
 
@@ -550,6 +566,14 @@ fn write_kept(
     draft.symbol(Symbol::Close)
 }
 
+/// Two collections of which a condition chooses one.
+#[derive(Clone, Copy)]
+struct Chosen<'a> {
+    condition: ExprId,
+    first: &'a CollExpr,
+    second: &'a CollExpr,
+}
+
 /// Appends two collections of which a condition chooses one.
 #[cycle(term)]
 #[tactic(auto, using(crate::proofs::Putting::tokens_apart))]
@@ -557,21 +581,19 @@ fn write_chosen(
     program: &Program,
     version: Version,
     form: TermId,
-    condition: ExprId,
-    first: &CollExpr,
-    second: &CollExpr,
+    chosen: &Chosen,
     draft: &mut Draft,
 ) -> Result<(), AllocError>
-    requires first_within { IsWithin program.now form first.now }
-    requires second_within { IsWithin program.now form second.now }
-    ensures { OnOk result (draft.new ≡ append_tokens draft.old (spell_collection version (chosen_of (expression_under program.now condition) (collection_of program.now first.now) (collection_of program.now second.now)))) }
+    requires first_within { IsWithin program.now form chosen.now.first.now }
+    requires second_within { IsWithin program.now form chosen.now.second.now }
+    ensures { OnOk result (draft.new ≡ append_tokens draft.old (spell_collection version (chosen_of (expression_under program.now chosen.now.condition) (collection_of program.now chosen.now.first.now) (collection_of program.now chosen.now.second.now)))) }
 {
     draft.keyword(Keyword::If)?;
-    write_value(program, version, condition, draft)?;
+    write_value(program, version, chosen.condition, draft)?;
     draft.keyword(Keyword::Then)?;
-    write_collection(program, version, form, first, draft)?;
+    write_collection(program, version, form, chosen.first, draft)?;
     draft.keyword(Keyword::Else)?;
-    write_collection(program, version, form, second, draft)
+    write_collection(program, version, form, chosen.second, draft)
 }
 
 /// Appends a call of a template.

@@ -62,11 +62,27 @@ impl Drop for Env {
 }
 
 impl Env {
-    // Lets the names go.
+    // Lets the names go: in a loop where nothing else has them.
+    #[cycle(state)]
+    #[inline(never)]
+    fn let_go(self) {
+        if self.is_last() {
+            return self.let_go_all();
+        }
+        match self {
+            Env::Empty => {}
+            Env::Bound(binding) => drop(binding),
+            Env::Running(running) => drop(running),
+            Env::Collected(collected) => drop(collected),
+            Env::Called(call) => drop(call),
+        }
+    }
+
+    // The same of names and of those around them, as far as nothing else has them.
     #[cycle(state)]
     #[cold]
     #[inline(never)]
-    fn let_go(mut self) {
+    fn let_go_all(mut self) {
         loop {
             match self {
                 Env::Empty => return,
@@ -433,6 +449,7 @@ impl Env {
     /// The names that a term mentions, of these, shared: those of one pattern or of one call stay together, and of the same
     /// names the innermost stays. Where the plan doesn't list them, these names. The error is a want of memory, or too many owners
     /// of one name.
+    #[inline(always)]
     pub fn mentioned_in(&self, alloc: Global, plan: &Plan, term: PlanId) -> Result<Env, AllocError>
         ensures { IfOk result (λ names. (φ : AnswersByName) (e : Environment) → IsNames φ plan.now self.now e → IsProcess φ plan.now (closed_over term names) (closure (plan_tree plan.now term) e)) }
     {
@@ -519,6 +536,7 @@ impl Env {
 
     /// These names, and inside them those of a pattern of these expressions that is bound to a value. It takes no memory
     /// where the pattern binds nothing. The error is a want of memory, or too many owners.
+    #[inline(always)]
     pub fn inside(
         &self,
         alloc: Global,
@@ -546,6 +564,7 @@ impl Env {
 
     /// These names, and inside them that of a process of which no step has been lived, beside what it began as, where the plan
     /// asks for that under this name. The error is a want of memory, or too many owners.
+    #[inline(always)]
     pub fn with_process(
         &self,
         alloc: Global,

@@ -353,6 +353,23 @@ impl Drop for Process {
 }
 
 impl State {
+    /// Puts another state in the place of this one.
+    #[inline(always)]
+    pub fn put(&mut self, next: State)
+        ensures { self.new ≡ next }
+    {
+        mem::replace(self, next).let_go();
+    }
+
+    // What hasn't begun and has no names around it is let go of without a call.
+    #[inline(always)]
+    fn let_go(self) {
+        match self {
+            State::Unborn(process) => drop(process),
+            other => drop(other),
+        }
+    }
+
     /// A term without names, before its first sample.
     pub fn unborn(term: PlanId) -> State
         ensures { (φ : AnswersByName) (p : Plan) → Stands φ p result (closure (plan_tree p term) empty) [] }
@@ -474,6 +491,7 @@ impl State {
 }
 
 // A node with these names around it, frozen.
+#[inline(always)]
 fn freeze_node(alloc: Global, wait: u64, names: &Env, node: Kept) -> Result<State, AllocError>
     ensures { IfOk result (λ frozen. (φ : AnswersByName) (p : Plan) (P : ProcessOf) (s : Step) (h : Life) → Stands φ p (kept_state names.now node) P (s ∷ h) →
         Stands φ p frozen (resumed P (s ∷ h) wait) []) }
@@ -956,6 +974,7 @@ impl Process {
 
     /// A term in the names around it, of which it has those that it mentions. The error is a want of memory, or too many owners of
     /// one name.
+    #[inline(always)]
     pub fn within(
         alloc: Global,
         plan: &Plan,
@@ -969,6 +988,7 @@ impl Process {
     }
 
     // The same where the plan asks what a process of this name began as; else the term without names.
+    #[inline(always)]
     fn where_asked(
         alloc: Global,
         plan: &Plan,

@@ -27,13 +27,14 @@ use Rattle.sf_state.specs.declared.state.Live.TheVariants.{Join as LJoin, Wrap a
 use Rattle.sf_state.specs.declared.state.Wrap.{Wrap}
 use Rattle.sf_state.specs.Standing.{closed_over as SClosure, gathering_on}
 use Rattle.sf_state.specs.declared.env.Env.{Env}
-use Rattle.sf_state.specs.Standing.{was_alike, Stands, itself, StandsItself, unborn, Recalls, recalling, alive, watching, keeping_on, Settles, settles, Ready, ready, lives_join, lives_wrap, is_closure, IsNames}
+use Rattle.sf_state.specs.Standing.{was_alike, Stands, itself, StandsItself, unborn, recalling, alive, watching, keeping_on, Settles, settles, Ready, ready, lives_join, lives_wrap, is_closure, IsNames}
 use Rattle.sf_parts.specs.declared.opening.Begun.TheVariants as begun
 use Rattle.sf_parts.specs.declared.meter.Meter.{Meter}
 use Rattle.sf_parts.specs.Meters.{entered_of, height_of, readings}
-use Rattle.sf_parts.specs.Answering.{Rel, Ticks, Ticked, ticked, refused, Spent, Within, StopsFor, faults, large, memory, Answers, answers, fails, PrimSteps, LiveSteps, left_or}
+use Rattle.sf_parts.specs.Answering.{Rel, Ticks, Ticked, ticked, refused, Spent, Within, StopsFor, faults, large, memory, Answers, answers, fails, PrimSteps, LiveSteps, FirstSteps, left_or}
 use Rattle.sf_parts.specs.Beginning.{Prepared, primitive_prepared, live_prepared, switch_prepared, keeping_prepared, BeginsAs, begins_itself, gathering_prepared}
 use Rattle.sf_parts.proofs.Costs.{memory_exit, counts, begin_stops}
+use Rattle.sf_parts.proofs.First.{recalled}
 use Rattle.sf_step.specs.Sampling.{PartSteps, StateSteps, CountedSteps, Waiting, WaitingSteps}
 use Rattle.sf_step.proofs.Parts.{counted, then_on, with_change, over_spent, both_spent, fails_alike, over_fails, change_fails, then_fails, rest_fails, spent_within, answered, failed}
 use Rattle.sf_step.proofs.Forms.{left_and, right_and, single_gives, gave_outputs, form_alike, join_alike, wrap_alike, wraps_on}
@@ -165,17 +166,10 @@ module _ (φ : AnswersByName) (p : Plan) where
     wrap_last a' w' y v (Ok u) f ew ev hs = wrap_steps a' w' y v ew ev hs
     wrap_last a' w' y v (Err e) f ew ev hs = λ m depth t P L R. fails (wrap_fails f hs m depth t P L R)
 
-  -- a primitive's answer is its state's
-  recalled : {A E : Type 0} {P : Process} {s : Step} {L : Life} {R : Rel} {m n : Meter} {depth : ℕ} (i : PrimState) (v : Data) (r : Result A E) (f : Fault)
-      → Answers {A = PrimState × Data} (λ y. y.1) (λ y. Recalls φ p y.0 P (s ∷ L)) R (left_or r (i, v) f) m n depth
-      → Answers {A = State × Data} (λ y. y.1) (λ y. Stands φ p y.0 P (s ∷ L)) R (left_or r (SPrimitive i, v) f) m n depth
-  recalled i v (Ok u) f h = let w = answered h in answers w.given w.spent (itself (recalling w.holds))
-  recalled i v (Err e) f h = fails (failed h)
-
   -- one that has counted steps as its state does
   pub primitive_counted : {A E : Type 0} {n n' : Meter} {inside : ℕ} (i i' : PrimState) (s : Step) (v : Data) (r : Result A E) (f : Fault) → PrimSteps φ p i s (left_or r (i', v) f) n n'
       → CountedSteps φ p (SPrimitive i) s (left_or r (SPrimitive i', v) f) n n' inside
-  primitive_counted {inside = inside} i i' s v r f h m depth t P L (primitive_prepared R) = recalled i' v r f (h m depth inside t P L R)
+  primitive_counted {inside = inside} i i' s v r f h m depth t P L (primitive_prepared R) = recalled φ p i' v r f (h m depth inside t P L R)
 
   -- ## States
 
@@ -236,6 +230,10 @@ module _ (φ : AnswersByName) (p : Plan) where
     pub begun_steps : {n' : Meter} (a : State) (r : Result (State × Data) Fault) → ((e : Environment) → IsNames φ p names e → BeginsAs φ p (plan_tree p term) e x a (Ok begun.Itself)) → CountedSteps φ p a (step d x) r n n' inside
         → StateSteps φ p (Unborn (SClosure term names)) (step d x) r m n' depth
     begun_steps a r ho hs = starts r (λ e N. hs m depth t _ [] (begun_prepared (ho e N)))
+
+    -- a primitive steps as it begins
+    pub first_counted : {n' : Meter} (r : Result (State × Data) Fault) → FirstSteps φ p (plan_tree p term) names (step d x) r n n' → StateSteps φ p (Unborn (SClosure term names)) (step d x) r m n' depth
+    first_counted r hs = starts r (λ e N. hs m depth inside t e N)
 
     pub begun_runs : {n' : Meter} (a : State) (r : Result (State × Data) Fault) → ((e : Environment) → IsNames φ p names e → BeginsAs φ p (plan_tree p term) e x a (Ok begun.Referred)) → StateSteps φ p a (step d x) r n n' inside
         → StateSteps φ p (Unborn (SClosure term names)) (step d x) r m n' depth

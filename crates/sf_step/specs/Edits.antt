@@ -102,5 +102,5 @@ pub data EditSteps (φ : AnswersByName) (p : Plan) (g : Holding) (made : Result 
       → EditSteps φ p g made w s (Ok (l, v)) m n' inside
 
 -- so they do where the edit is over copies of those that run
-abbrev pub DraftSteps : AnswersByName → Plan → Edit → ℕ → Rc Keys Global → List State → Data → Result (Holding × Data) Fault → Meter → Meter → ℕ → Type 0
-DraftSteps φ p e d keys bs x result m n inside = EditSteps φ p (held_as keys bs e.wait) (Ok (laid_over bs (Some (unwrap_or e.wait d)) e.draft)) e.shown (step d x) result m n inside
+abbrev pub DraftSteps : AnswersByName → Plan → Edit → ℕ → Rc Keys Global → List State → Data → Result (Holding × Data) Fault → Meter → Meter → Type 0
+DraftSteps φ p e d keys bs x result m n = EditSteps φ p (held_as keys bs e.wait) (Ok (laid_over bs (Some (unwrap_or e.wait d)) e.draft)) e.shown (step d x) result m n e.inside

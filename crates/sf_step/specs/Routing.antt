@@ -2,6 +2,9 @@
 use Rattle.std.specs.Prelude.{None, Ok, unwrap_or}
 use Rattle.sf_value.specs.Values.{Data, pair, first_of, second_of}
 use Rattle.sf_expr.specs.Evaluation.{Evaluated, answer}
+use Rattle.sf_term.specs.declared.form.Observation.{Observation}
+use Rattle.sf_term.specs.declared.form.Switching.{Switching}
+use Rattle.sf_term.specs.declared.form.Switching.TheVariants.{Basic, Recurring}
 use Rattle.sf_term.specs.declared.form.Join.{Join}
 use Rattle.sf_term.specs.declared.form.Join.TheVariants.{InSequence, InParallel, FannedOut}
 use Rattle.sf_state.specs.declared.state.Wrap.{Wrap}
@@ -50,3 +53,10 @@ kept_after (Loop v) y = Loop (second_of y)
 kept_after (Initialized o) y = Initialized None
 kept_after (Replaced o) y = Replaced None
 kept_after (Followed last) y = Followed (Ok y)
+
+-- ## Switches
+
+-- which of the two values a switch shows at its event
+abbrev pub observation_of : Switching → Observation
+observation_of (Basic o) = o
+observation_of (Recurring o) = o

@@ -7,18 +7,18 @@ ghost use Rattle.sf_state.specs.Held.{held_in, held_as};
 ghost use Rattle.sf_state.specs.Standing.{Stands, AllFollow};
 ghost use Rattle.sf_parts.specs.Answering.{LiveSteps, kept, left_or};
 ghost use Rattle.sf_parts.specs.Contexts.{plan_in, dt_in};
-ghost use Rattle.sf_parts.specs.Drafting.{drafted};
 ghost use Rattle.sf_parts.specs.Meters.{entered_of, height_of, fault_of as fault_in};
 ghost use Rattle.sf_step.specs.Sampling.{StateSteps, SwitchSteps, KeepingSteps, GatheringSteps, MembersSteps, EachSteps, MemberSteps, CountedSteps, left_beside, left_with};
 ghost use Rattle.sf_step.specs.Edits.{HaveStepped, HaveTurned, EditSteps, DraftSteps, held_as_made, left_noted};
 ghost use Rattle.sf_step.specs.Stepping.{Steps};
+ghost use Rattle.sf_step.specs.Routing.{observation_of};
 
 use sf_func::Holds;
-use sf_law::Plan;
+use sf_law::{Plan, PlanNode};
 use sf_parts::{
     Begun, Draft, Meter, Noted, SampleContext, Stop, Turn, begin, beside, change_all, collect,
-    copies, draft_of, hold_back, payload_of, put_first, put_last, show, step_prim, step_probe,
-    table_after, table_before, table_of, take_over, value_and_payload,
+    copies, draft_of, first_primitive, hold_back, payload_of, put_first, put_last, show, step_prim,
+    step_probe, table_after, table_before, table_of, take_over, value_and_payload,
 };
 use sf_probe::Readings;
 use sf_state::{
@@ -34,12 +34,30 @@ use std::rc::Rc;
 // so many members an edit adds without more room
 const ADDED: usize = 4;
 
-/// An edit of members: which of the two tables shows, how long those that ran wait, and what changes.
+/// An edit of members that stand inside so many nodes, of which some stay: which of the two tables shows, how long those that
+/// ran wait, and what changes.
 #[derive(Drop)]
 struct Edit {
     shown: Observation,
+    inside: u64,
     wait: Option<u64>,
     draft: Draft,
+}
+
+/// An edit of members that stand inside so many nodes, of which none stay: which of the two tables shows, and what it made.
+#[derive(Drop)]
+struct Exchange {
+    shown: Observation,
+    inside: u64,
+    made: Result<Gathered, Fault>,
+}
+
+/// How the members of an edit, which stand inside so many nodes, take their turns: those that had lived go on after so long.
+#[derive(Clone, Copy)]
+struct Turns<'a> {
+    inside: u64,
+    wait: u64,
+    each: &'a [Turn],
 }
 
 /// The value at the next sample of a network, `dt` milliseconds after the one before, with what its probes recorded, in order;
@@ -134,6 +152,9 @@ fn step_other<R: Holds>(
             let term = process.term;
             let names = mem::replace(&mut process.names, Env::Empty);
             let inside = meter.tick(depth)?;
+            if let PlanNode::Primitive(primitive) = context.plan.node(term) {
+                return first_primitive(context, state, primitive, &names, value, meter);
+            }
             match begin(context, state, term, names, value) {
                 Ok(Begun::Itself) => step_counted(context, state, inside, value, meter),
                 Ok(Begun::Referred) => step_state(context, state, inside, value, meter),
@@ -446,7 +467,14 @@ fn step_editing<R: Holds>(
                 Ok(Some(draft)) => {
                     drop(around);
                     let members = &mut editing.members;
-                    return step_draft(context, shown, members, draft, inside, value, meter);
+                    let wait = members.wait;
+                    let edit = Edit {
+                        shown,
+                        inside,
+                        wait,
+                        draft,
+                    };
+                    return step_draft(context, edit, members, value, meter);
                 }
                 Err(Fault::Memory) => return Err(meter.stop(Fault::Memory)),
                 // (what other members it makes, or its fault, is found once more)
@@ -454,8 +482,12 @@ fn step_editing<R: Holds>(
             }
             let made = collect(context, &*editing.edit, &around);
             drop(around);
-            let members = &mut editing.members;
-            step_made(context, shown, members, made, inside, value, meter)
+            let exchange = Exchange {
+                shown,
+                inside,
+                made,
+            };
+            step_exchange(context, exchange, &mut editing.members, value, meter)
         }
     }
 }
@@ -463,18 +495,21 @@ fn step_editing<R: Holds>(
 // The sample at which members give way to those of an edit that are others, or to its fault: both are stepped.
 #[cycle(step)]
 #[inline(never)]
-fn step_made<R: Holds>(
+fn step_exchange<R: Holds>(
     context: &SampleContext<R>,
-    shown: Observation,
+    exchange: Exchange,
     members: &mut Gathered,
-    made: Result<Gathered, Fault>,
-    inside: u64,
     value: &mut Value,
     meter: &mut Meter,
 ) -> Result<(), Stop>
-    ensures { EditSteps (R.answers context.now.functions.now) (plan_in context.now) (held_in members.old) (held_as_made made) shown (step (dt_in context.now) value.old)
-        (left_or result (held_in members.new, value.new) (fault_in meter.new)) meter.old meter.new inside }
+    ensures { EditSteps (R.answers context.now.functions.now) (plan_in context.now) (held_in members.old) (held_as_made exchange.made) exchange.shown (step (dt_in context.now) value.old)
+        (left_or result (held_in members.new, value.new) (fault_in meter.new)) meter.old meter.new exchange.inside }
 {
+    let Exchange {
+        shown,
+        inside,
+        made,
+    } = exchange;
     let Ok(mut begun) = value.clone_in(context.alloc) else {
         return Err(meter.stop(Fault::Memory));
     };
@@ -495,24 +530,20 @@ fn step_made<R: Holds>(
 #[inline(never)]
 fn step_draft<R: Holds>(
     context: &SampleContext<R>,
-    shown: Observation,
+    edit: Edit,
     members: &mut Gathered,
-    draft: Draft,
-    inside: u64,
     value: &mut Value,
     meter: &mut Meter,
 ) -> Result<(), Stop>
-    ensures { EditSteps (R.answers context.now.functions.now) (plan_in context.now) (held_in members.old) (Ok (drafted members.old (dt_in context.now) draft)) shown (step (dt_in context.now) value.old)
-        (left_or result (held_in members.new, value.new) (fault_in meter.new)) meter.old meter.new inside }
+    ensures { DraftSteps (R.answers context.now.functions.now) (plan_in context.now) edit (dt_in context.now) members.old.keys members.old.states.value.items value.old
+        (left_or result (held_in members.new, value.new) (fault_in meter.new)) meter.old meter.new }
 {
-    let wait = members.wait;
-    let edit = Edit { shown, wait, draft };
     members.wait = None;
     let keys = &mut members.keys;
     let list = &mut members.states;
     match Rc::get_mut(list) {
-        Some(states) => step_turns(context, edit, keys, states, inside, value, meter),
-        None => step_turns_copy(context, edit, keys, list, inside, value, meter),
+        Some(states) => step_turns(context, edit, keys, states, value, meter),
+        None => step_turns_copy(context, edit, keys, list, value, meter),
     }
 }
 
@@ -525,12 +556,11 @@ fn step_turns_copy<R: Holds>(
     edit: Edit,
     keys: &mut Rc<Keys>,
     list: &mut Rc<Vec<State>>,
-    inside: u64,
     value: &mut Value,
     meter: &mut Meter,
 ) -> Result<(), Stop>
     ensures { DraftSteps (R.answers context.now.functions.now) (plan_in context.now) edit (dt_in context.now) keys.old list.old.value.items value.old
-        (left_or result (held_as keys.new list.new.value.items None, value.new) (fault_in meter.new)) meter.old meter.new inside }
+        (left_or result (held_as keys.new list.new.value.items None, value.new) (fault_in meter.new)) meter.old meter.new }
 {
     let Ok(shared) = list.clone() else {
         return Err(meter.stop(Fault::Memory));
@@ -538,7 +568,7 @@ fn step_turns_copy<R: Holds>(
     let Ok(mut own) = own_states(context.alloc, shared) else {
         return Err(meter.stop(Fault::Memory));
     };
-    step_turns(context, edit, keys, &mut own, inside, value, meter)?;
+    step_turns(context, edit, keys, &mut own, value, meter)?;
     let Ok(copy) = Rc::new(context.alloc, own) else {
         return Err(meter.stop(Fault::Memory));
     };
@@ -555,15 +585,19 @@ fn step_turns<R: Holds>(
     edit: Edit,
     keys: &mut Rc<Keys>,
     states: &mut Vec<State>,
-    inside: u64,
     value: &mut Value,
     meter: &mut Meter,
 ) -> Result<(), Stop>
     ensures { (bs : List StateOf) → AllFollow (R.answers context.now.functions.now) (plan_in context.now) bs states.old.items → DraftSteps (R.answers context.now.functions.now) (plan_in context.now) edit (dt_in context.now) keys.old bs value.old
-        (left_or result (held_as keys.new states.new.items None, value.new) (fault_in meter.new)) meter.old meter.new inside }
+        (left_or result (held_as keys.new states.new.items None, value.new) (fault_in meter.new)) meter.old meter.new }
 {
     let alloc = context.alloc;
-    let Edit { shown, wait, draft } = edit;
+    let Edit {
+        shown,
+        inside,
+        wait,
+        draft,
+    } = edit;
     let noted = step_noted(context, wait, states, inside, &*value, meter)?;
     let Noted { outputs, mut turns } = noted;
     let Ok((before, mut outputs)) = table_before(alloc, shown, &*keys, outputs) else {
@@ -576,8 +610,12 @@ fn step_turns<R: Holds>(
     let Ok(()) = change_all(alloc, &*value, changes, states, &mut outputs, &mut turns) else {
         return Err(meter.stop(Fault::Memory));
     };
-    let later = wait.unwrap_or(context.dt);
-    step_again(context, later, states, &mut outputs, &turns, inside, meter)?;
+    let turns = Turns {
+        inside,
+        wait: wait.unwrap_or(context.dt),
+        each: &turns,
+    };
+    step_again(context, turns, states, &mut outputs, meter)?;
     *keys = all;
     match table_after(alloc, before, &*keys, outputs) {
         Ok(rows) => {
@@ -627,20 +665,19 @@ fn step_noted<R: Holds>(
 #[inline(never)]
 fn step_again<R: Holds>(
     context: &SampleContext<R>,
-    wait: u64,
+    turns: Turns<'_>,
     states: &mut Vec<State>,
     outputs: &mut Vec<Value>,
-    turns: &[Turn],
-    inside: u64,
     meter: &mut Meter,
 ) -> Result<(), Stop>
-    requires states { length states.old.items ≡ length turns.now }
-    requires outputs { length outputs.old.items ≡ length turns.now }
-    ensures { HaveTurned (R.answers context.now.functions.now) (plan_in context.now) wait (dt_in context.now) inside meter.old states.old.items outputs.old.items turns.now
+    requires states { length states.old.items ≡ length turns.each.now }
+    requires outputs { length outputs.old.items ≡ length turns.each.now }
+    ensures { HaveTurned (R.answers context.now.functions.now) (plan_in context.now) turns.entry.wait (dt_in context.now) turns.entry.inside meter.old states.old.items outputs.old.items turns.entry.each.now
         (left_or result (states.new.items, outputs.new.items) (fault_in meter.new)) meter.new }
 {
-    for at in 0..turns.len() {
-        match &turns[at] {
+    let Turns { inside, wait, each } = turns;
+    for at in 0..each.len() {
+        match &each[at] {
             Turn::Stays(spent) => meter.repeat(context.alloc, spent)?,
             Turn::Begins => {
                 let output = &mut outputs[at];
@@ -800,6 +837,15 @@ fn step_waiting<R: Holds>(
     }
 }
 
+// Which of the two values a switch shows at its event.
+fn shown_by(form: &Switching) -> Observation
+    ensures { result ≡ observation_of form.now }
+{
+    match form {
+        Switching::Basic(shown) | Switching::Recurring(shown) => *shown,
+    }
+}
+
 // Room for so many members, and for some that an edit adds.
 fn room_for(count: usize) -> usize
     ensures { count ≤ result }
@@ -849,11 +895,9 @@ fn step_switch<R: Holds>(
         (left_beside result switch.new value.new (fault_in meter.new)) meter.old meter.new inside }
 {
     match switch.form {
-        Switching::Basic(shown) => {
-            step_basic(context, switch, shown, names, inside, value, meter)
-        }
-        Switching::Recurring(shown) => {
-            step_recurring(context, switch, shown, names, inside, value, meter)?;
+        Switching::Basic(_) => step_basic(context, switch, names, inside, value, meter),
+        Switching::Recurring(_) => {
+            step_recurring(context, switch, names, inside, value, meter)?;
             Ok(None)
         }
     }
@@ -865,13 +909,12 @@ fn step_switch<R: Holds>(
 fn step_basic<R: Holds>(
     context: &SampleContext<R>,
     switch: &mut Switch,
-    shown: Observation,
     names: &Env,
     inside: u64,
     value: &mut Value,
     meter: &mut Meter,
 ) -> Result<Option<State>, Stop>
-    requires form { switch.old.form ≡ Switching.Basic shown }
+    requires form { switch.old.form ≡ Switching.Basic (observation_of switch.old.form) }
     ensures { SwitchSteps (R.answers context.now.functions.now) (plan_in context.now) names.now switch.old (step (dt_in context.now) value.old)
         (left_beside result switch.new value.new (fault_in meter.new)) meter.old meter.new inside }
 {
@@ -890,7 +933,7 @@ fn step_basic<R: Holds>(
                 return Err(meter.stop(Fault::Memory));
             };
             let (body, output) = step_begun(context, body, inside, output, meter)?;
-            show(shown, value, output);
+            show(shown_by(&switch.form), value, output);
             Ok(Some(body))
         }
     }
@@ -903,13 +946,12 @@ fn step_basic<R: Holds>(
 fn step_recurring<R: Holds>(
     context: &SampleContext<R>,
     switch: &mut Switch,
-    shown: Observation,
     names: &Env,
     inside: u64,
     value: &mut Value,
     meter: &mut Meter,
 ) -> Result<(), Stop>
-    requires form { switch.old.form ≡ Switching.Recurring shown }
+    requires form { switch.old.form ≡ Switching.Recurring (observation_of switch.old.form) }
     ensures { SwitchSteps (R.answers context.now.functions.now) (plan_in context.now) names.now switch.old (step (dt_in context.now) value.old)
         (left_or result ((None, switch.new), value.new) (fault_in meter.new)) meter.old meter.new inside }
 {
@@ -930,7 +972,7 @@ fn step_recurring<R: Holds>(
             };
             let (body, output) = step_begun(context, body, inside, begun, meter)?;
             take_over(&mut switch.running, Some(body));
-            show(shown, value, output);
+            show(shown_by(&switch.form), value, output);
             Ok(())
         }
     }
@@ -979,7 +1021,7 @@ fn step_keeping<R: Holds>(
 
 // The first sample of a body on an input of its own: the body after it, and its value. After an error both are let go of.
 #[cycle(step)]
-#[inline]
+#[inline(always)]
 fn step_begun<R: Holds>(
     context: &SampleContext<R>,
     body: State,

@@ -12,18 +12,18 @@ use Rattle.sf_term.specs.Arena.{templates_of, headers_of, template_in, term_coun
 use Rattle.sf_term.proofs.Kept.{few_terms, few_program_expressions}
 use Rattle.sf_lex.specs.declared.token.PlacedToken.{PlacedToken}
 use Rattle.sf_lex.specs.Tokens.{Tok}
-use Rattle.sf_parse.specs.declared.stop.Stop.{Stop}
-use Rattle.sf_parse.specs.declared.stop.Stop.TheVariants.{At as At', Memory}
+use Rattle.sf_text.specs.declared.parts.stop.Stop.{Stop}
+use Rattle.sf_text.specs.declared.parts.stop.Stop.TheVariants.{At as At', Memory}
 use Rattle.sf_grammar.specs.declared.ty.Version.{Version}
 use Rattle.sf_grammar.specs.Spelling.{spell_template, spell_templates, term_total, expression_total, HasWrittenTypes}
 use Rattle.sf_grammar.specs.Reading.{Counts, parse_template}
-use Rattle.sf_parse.specs.declared.reader.Reader.{Reader}
-use Rattle.sf_parse.specs.Answers.{StopsReading, toks, ahead, counts_of}
+use Rattle.sf_text.specs.declared.parts.reader.Reader.{Reader}
+use Rattle.sf_text.specs.Parsing.Answers.{StopsReading, toks, ahead, counts_of}
 use Rattle.sf_text.specs.Answers.{FoundTemplate}
 use Rattle.sf_grammar.specs.Stopping.{Stopped}
 use Rattle.sf_text.specs.Progress.{Behind, StopsAfter, IsBlankProgram}
 use Rattle.sf_grammar.specs.Placing.{TemplatesPlaced, none_placed}
-use Rattle.sf_parse.specs.Consuming.{places, spots_ahead, Consumes}
+use Rattle.sf_text.specs.Parsing.Consuming.{places, spots_ahead, Consumes}
 use Rattle.sf_text.specs.Consuming.{PlacesTemplate}
 use Rattle.sf_text.proofs.Placed.{templates_keep, templates_more}
 use Rattle.sf_grammar.proofs.Takes.{TookTemplate, template_takes}

@@ -42,18 +42,18 @@ use Rattle.sf_lex.specs.declared.word.Keyword.TheVariants as words
 use Rattle.sf_lex.specs.Tokens.{Tok, name as name_token}
 use Rattle.sf_grammar.specs.declared.ty.Version.{Version}
 use Rattle.sf_grammar.specs.declared.ty.Version.TheVariants as versions
-use Rattle.sf_parse.specs.declared.stop.Stop.{Stop}
-use Rattle.sf_parse.specs.declared.stop.Stop.TheVariants.{Memory}
+use Rattle.sf_text.specs.declared.parts.stop.Stop.{Stop}
+use Rattle.sf_text.specs.declared.parts.stop.Stop.TheVariants.{Memory}
 use Rattle.sf_grammar.specs.Spelling.{stands_initially, head_makes}
 use Rattle.sf_grammar.specs.Reading.{◌and_then◌, parse_number, parse_never, parse_timed, parse_selected, Read, got, Counts, counts_with, counts_with_expression, counts_with_function, parse_symbol, parse_inner_type, parse_pattern, parse_expression, parse_function, parse_value, parse_arrow, parse_accumulated, parse_sided, parse_headed, parse_transformed, parse_body, parse_switching, parse_name, parse_named, parse_keeping, parse_listed, parse_arguments, parse_call, parse_name_kind, parse_parameter, term_read, parse_join, parse_joined, parse_term, parse_keyword, parse_keys, parse_collection, parse_empty, parse_used, parse_added, parse_dropped, parse_kept, parse_chosen, parse_gathered, parse_releasing, parse_edit, parse_editing, parse_argument, counts_with_collection, actual_value, actual_process, actual_collection, no_word, process_word, collection_word, argument_word, behind_first}
-use Rattle.sf_parse.specs.Answers.{StopsReading, FoundExpression, FoundFunction, counts_of, stop_for, built_as}
+use Rattle.sf_text.specs.Parsing.Answers.{StopsReading, FoundExpression, FoundFunction, counts_of, stop_for, built_as}
 use Rattle.sf_text.specs.Answers.{FoundTerm, ReadsTermInto, FoundCollection, ReadsCollectionInto, FoundMembers, FoundEdit, FoundBody, FoundArgument, FoundArguments}
 use Rattle.sf_grammar.proofs.Words.{IsLone, named_alone}
 use Rattle.sf_grammar.proofs.Takes.{HeadMakes, with_pre, stays_headed, head_view, TookFunction, Took, TookBody, TookListed, TookCollection, function_takes, body_takes, arguments_take, term_takes, parts_taken, pattern_takes, TookPattern}
 use Rattle.sf_grammar.proofs.Parts.{Same, bind_got, got_same}
 use Rattle.sf_text.specs.Consuming.{headed_node}
 use Rattle.sf_text.proofs.Placed.{headed_makes}
-use Rattle.sf_parse.proofs.Found.{refused_as_read, read_within, expression_taken, behind_expression}
+use Rattle.sf_text.proofs.Parsing.Found.{refused_as_read, read_within, expression_taken, behind_expression}
 
 -- a term whose parts were read, before it is added to the program
 pub record Ready (old mid : Program) (built : Term) (start rest : List Tok) (read : Read Term) : Type 0 where

@@ -1,3 +1,4 @@
+pub mod Parsing
 pub mod Placed
 pub mod Deeper
 pub mod Found

@@ -22,14 +22,14 @@ use Rattle.sf_term.proofs.Kept.{keeps_trans, collection_at_kept}
 use Rattle.sf_grammar.specs.declared.ty.Version.{Version}
 use Rattle.sf_grammar.specs.Reading.{Read, got, stop, ◌and_then◌, Counts, Actual, actual_value, actual_process, actual_collection, with_actual, counts_with_actual, further_from, parse_further, parse_separator, parse_parameter, parse_parameters, parse_argument, parse_arguments, parse_term, parse_collection}
 use Rattle.sf_grammar.specs.Placing.{ParameterPlaced, EachParameterPlaced, no_parameter_placed, parameter_placed, ArgumentPlaced, EachArgumentPlaced, no_argument_placed, argument_placed}
-use Rattle.sf_parse.specs.declared.stop.Stop.{Stop}
-use Rattle.sf_parse.specs.declared.stop.Stop.TheVariants.{At, Memory}
-use Rattle.sf_parse.specs.declared.cursor.Cursor.{Cursor}
-use Rattle.sf_parse.specs.declared.reader.Reader.{Reader}
-use Rattle.sf_parse.specs.Answers.{StopsReading, ReadsAs, toks, ahead, counts_of}
-use Rattle.sf_parse.specs.Consuming.{places, spots_ahead, BehindOne, Consumes}
+use Rattle.sf_text.specs.declared.parts.stop.Stop.{Stop}
+use Rattle.sf_text.specs.declared.parts.stop.Stop.TheVariants.{At, Memory}
+use Rattle.sf_text.specs.declared.parts.cursor.Cursor.{Cursor}
+use Rattle.sf_text.specs.declared.parts.reader.Reader.{Reader}
+use Rattle.sf_text.specs.Parsing.Answers.{StopsReading, ReadsAs, toks, ahead, counts_of}
+use Rattle.sf_text.specs.Parsing.Consuming.{places, spots_ahead, BehindOne, Consumes}
 use Rattle.sf_text.specs.Answers.{actual_of, FoundArgument, FoundArguments, ReadsArguments}
-use Rattle.sf_parse.proofs.Found.{keeps_self}
+use Rattle.sf_text.proofs.Parsing.Found.{keeps_self}
 use Rattle.sf_text.proofs.Placed.{each_argument_keeps}
 
 -- reading that stops within a part stops within the whole

@@ -3,7 +3,7 @@ use Rattle.std.proofs.Common.{◌≡◌, ◌≢◌, ℕ, suc, false, List, [], �
 use Rattle.std.specs.Prelude.{IfOk, Vec}
 use Rattle.std.specs.declared.alloc.Global.{Global}
 use Rattle.std.specs.declared.rc.Rc.{Rc}
-use Rattle.sf_parse.specs.declared.stop.Stop.{Stop}
+use Rattle.sf_text.specs.declared.parts.stop.Stop.{Stop}
 use mathlib.Core.Path.{ap₂}
 use Rattle.std.proofs.lemmas.List.{append-nil}
 use Rattle.sf_refusal.specs.declared.spot.Spot.{Spot}
@@ -54,16 +54,16 @@ use Rattle.sf_lex.specs.declared.symbol.Symbol.TheVariants as symbols
 use Rattle.sf_grammar.specs.declared.ty.Version.{Version}
 use Rattle.sf_grammar.specs.Spelling.{stands_initially, head_makes, spell_keys, spell_type, spell_parameter, spell_signature, spell_term}
 use Rattle.sf_grammar.specs.Reading.{got, parse_keys, parse_inner_type, parse_parameter, parse_signature}
-use Rattle.sf_parse.specs.Answers.{toks}
+use Rattle.sf_text.specs.Parsing.Answers.{toks}
 use Rattle.sf_grammar.proofs.Parts.{TookKeys, keys_takes}
 use Rattle.sf_grammar.proofs.Takes.{TookType, inner_type_takes, parameter_takes, TookSignature, signature_takes}
 use Rattle.sf_lex.specs.declared.token.PlacedToken.{PlacedToken}
 use Rattle.sf_grammar.specs.Placing.{around, PatternPlaced, ExpressionPlaced, FunctionPlaced, TermStands, TermPlaced, bare_placed, never_placed, with_value_placed, initialized_placed, timed_placed, selected_placed, arrow_placed, accumulated_placed, joined_placed, sided_placed, headed_placed, transformed_placed, switching_placed, named_placed, keeping_placed, gathered_placed, releasing_placed, editing_placed, CollectionPlaced, empty_placed, used_placed, added_placed, dropped_placed, kept_placed, chosen_placed, call_placed, ArgumentsPlaced, no_arguments_placed, some_arguments_placed, EachArgumentPlaced, no_argument_placed, argument_placed, ArgumentPlaced, value_argument_placed, process_argument_placed, collection_argument_placed, ParameterPlaced, EachParameterPlaced, ParametersPlaced, no_parameters_placed, some_parameters_placed, TemplatePlaced, TemplatesPlaced, none_placed, template_placed, NetworkPlaced, IsPlacedIn}
 use Rattle.sf_text.specs.Progress.{IsSpelled}
 use Rattle.sf_text.proofs.Whole.{toks_same}
-use Rattle.sf_parse.specs.Consuming.{places, BehindOne, BehindSome, NamePlaced, Consumes, Parted}
+use Rattle.sf_text.specs.Parsing.Consuming.{places, BehindOne, BehindSome, NamePlaced, Consumes, Parted}
 use Rattle.sf_text.specs.Consuming.{MembersPlaced, headed_node, HeadingPlaced, PlacesTemplate}
-use Rattle.sf_parse.proofs.Placed.{some_more, pattern_stays, expression_keeps, function_keeps, behind_first, in_brackets_read, behind_opening, parted, pattern_stands, front_counted}
+use Rattle.sf_text.proofs.Parsing.Placed.{some_more, pattern_stays, expression_keeps, function_keeps, behind_first, in_brackets_read, behind_opening, parted, pattern_stands, front_counted}
 
 term_stays : (old new : Program) → KeepsTrees old new → (id : TermId) (n : Node) (at : Spot) → TermStands old id n at → TermStands new id n at
 term_stays old new k id n at s = record { held = k.terms id s.held; node = k.nodes id s.held ∙ s.node; spot = k.spots id s.held ∙ s.spot }

@@ -12,12 +12,12 @@ use Rattle.sf_refusal.specs.declared.rule.Rule.{Rule}
 use Rattle.sf_refusal.specs.declared.refusal.Refusal.{Refusal}
 use Rattle.sf_refusal.specs.Refusals.{OrMemory, because, no_memory}
 use Rattle.sf_refusal.proofs.Explained.{or_memory}
-use Rattle.sf_parse.specs.declared.stop.Stop.{Stop}
-use Rattle.sf_parse.specs.declared.stop.Stop.TheVariants.{At, Memory}
+use Rattle.sf_text.specs.declared.parts.stop.Stop.{Stop}
+use Rattle.sf_text.specs.declared.parts.stop.Stop.TheVariants.{At, Memory}
 use Rattle.sf_grammar.specs.declared.ty.Version.{Version}
 use Rattle.sf_grammar.specs.Spelling.{spell, spell_templates, IsNetworkText}
 use Rattle.sf_grammar.specs.Reading.{got, parse_opening}
-use Rattle.sf_parse.specs.Answers.{StopsReading, toks}
+use Rattle.sf_text.specs.Parsing.Answers.{StopsReading, toks}
 use Rattle.sf_text.specs.Progress.{Behind, StopsAfter, StopsNetwork, IsSpelled, first_place, stop_refusal}
 use Rattle.sf_grammar.specs.Stopping.{StopsIn, in_opening, in_template, StopsAt, offset_of, place_before, BreaksText, no_tokens, no_network}
 use Rattle.sf_grammar.proofs.Takes.{opening_takes}

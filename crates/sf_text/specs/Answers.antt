@@ -20,13 +20,13 @@ use Rattle.sf_term.specs.Parameters.{PlacedParameter, Bindings, parameters_of}
 use Rattle.sf_term.specs.Trees.{Term, Collection, Arguments, no_arguments, Template, terms_in, terms_collected, terms_in_arguments, expressions_in, expressions_collected, expressions_in_arguments}
 use Rattle.sf_term.specs.Arena.{HoldsTerm, HoldsArgument, HoldsMembers, HoldsWhole, tree, collection_of, collection_at, expression_under, arguments_of, term_count, expression_count, templates_of, KeepsProgram}
 use Rattle.sf_lex.specs.Tokens.{Tok}
-use Rattle.sf_parse.specs.declared.stop.Stop.{Stop}
-use Rattle.sf_parse.specs.declared.cursor.Cursor.{Cursor}
-use Rattle.sf_parse.specs.declared.reader.Reader.{Reader}
-use Rattle.sf_parse.specs.declared.mark.Mark.{Mark}
+use Rattle.sf_text.specs.declared.parts.stop.Stop.{Stop}
+use Rattle.sf_text.specs.declared.parts.cursor.Cursor.{Cursor}
+use Rattle.sf_text.specs.declared.parts.reader.Reader.{Reader}
+use Rattle.sf_text.specs.declared.parts.mark.Mark.{Mark}
 use Rattle.sf_grammar.specs.Reading.{Read, got, Actual, actual_value, actual_process, actual_collection, with_actual, no_word, process_word, collection_word, argument_word, behind_first}
-use Rattle.sf_parse.specs.Answers.{ahead, StopsReading, named_bytes}
-use Rattle.sf_parse.specs.Consuming.{spots_ahead, BehindOne}
+use Rattle.sf_text.specs.Parsing.Answers.{ahead, StopsReading, named_bytes}
+use Rattle.sf_text.specs.Parsing.Consuming.{spots_ahead, BehindOne}
 
 abbrev pub kinds_in : Types → Kind × Kind
 kinds_in s = (s.input, s.output)

@@ -20,7 +20,7 @@ use Rattle.sf_grammar.specs.declared.head.Head.{Head}
 use Rattle.sf_grammar.specs.declared.head.Head.TheVariants as heads
 use Rattle.sf_grammar.specs.Spelling.{stands_initially}
 use Rattle.sf_grammar.specs.Placing.{CollectionPlaced, ParametersPlaced, TemplatePlaced}
-use Rattle.sf_parse.specs.Consuming.{Consumes}
+use Rattle.sf_text.specs.Parsing.Consuming.{Consumes}
 
 -- the first tokens of a template were read, up to its types; its name stands here, and so do its parameters
 pub record HeadingPlaced (v : Version) (spot : Spot) (qs : List PlacedParameter) (tokens rest : List Spot) : Type 0 where

@@ -11,9 +11,9 @@ use Rattle.sf_term.specs.Arena.{templates_of}
 use Rattle.sf_grammar.specs.declared.ty.Version.{Version}
 use Rattle.sf_grammar.specs.Spelling.{spell, spell_templates, IsWithinLimits}
 use Rattle.sf_grammar.specs.Stopping.{counts_in, StopsBehind, StopsIn}
-use Rattle.sf_parse.specs.declared.stop.Stop.{Stop}
-use Rattle.sf_parse.specs.declared.stop.Stop.TheVariants as stops
-use Rattle.sf_parse.specs.Answers.{counts_of}
+use Rattle.sf_text.specs.declared.parts.stop.Stop.{Stop}
+use Rattle.sf_text.specs.declared.parts.stop.Stop.TheVariants as stops
+use Rattle.sf_text.specs.Parsing.Answers.{counts_of}
 
 -- the templates of a program were read in front of these tokens, and nothing else was
 pub record Behind (v : Version) (tokens : List Tok) (p : Program) (rest : List Tok) : Type 0 where

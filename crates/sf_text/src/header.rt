@@ -1,21 +1,21 @@
 //! What stands in front of templates and of their terms.
 ghost use Rattle.std.specs.Prelude.{◌≢◌, IfOk, None, suc, [], length};
-ghost use Rattle.sf_parse.specs.Answers.{ahead, ReadsAs};
+ghost use Rattle.sf_text.specs.Parsing.Answers.{ahead, ReadsAs};
 ghost use Rattle.sf_lex.specs.Words.{IsName};
 ghost use Rattle.sf_value.specs.KindView.{key_kind_of};
 ghost use Rattle.sf_term.specs.Names.{AreNamed};
 ghost use Rattle.sf_term.specs.ParameterView.{kind_of_form};
 ghost use Rattle.sf_term.specs.Parameters.{binding_of};
 ghost use Rattle.sf_text.specs.Answers.{kinds_in, heading_in, bindings_in};
-ghost use Rattle.sf_parse.specs.Consuming.{spots_ahead, BehindOne, BehindSome, StandsOn};
+ghost use Rattle.sf_text.specs.Parsing.Consuming.{spots_ahead, BehindOne, BehindSome, StandsOn};
 ghost use Rattle.sf_grammar.specs.Placing.{ParameterPlaced, EachParameterPlaced, ParametersPlaced};
 ghost use Rattle.sf_text.specs.Consuming.{HeadingPlaced, OpeningPlaced};
 ghost use Rattle.sf_grammar.specs.Reading.{parse_version, parse_opening, parse_listed, parse_kind_from, parse_key_kind, parse_collection_kind, parse_name_kind, parse_parameter, parse_parameters, parse_heading, parse_signature};
 
 use crate::listed::{behind_leads, behind_list, separator};
+use crate::parts::{Cursor, First, Named, Stop};
 use sf_grammar::Version;
 use sf_lex::{Keyword, Symbol, Token};
-use sf_parse::{Cursor, First, Named, Stop};
 use sf_refusal::Rule;
 use sf_term::{Parameter, ParameterForm};
 use sf_value::{KeyType, Ty};

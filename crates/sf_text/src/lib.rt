@@ -4,6 +4,7 @@
 mod header;
 mod listed;
 mod network;
+mod parts;
 mod place;
 mod template;
 mod term;

@@ -1,12 +1,12 @@
 //! What stands between the parts of a list in brackets.
 ghost use Rattle.std.specs.Prelude.{IfOk};
-ghost use Rattle.sf_parse.specs.Answers.{ahead, ReadsAs, IsBehind};
-ghost use Rattle.sf_parse.specs.Consuming.{spots_ahead, BehindOne};
+ghost use Rattle.sf_text.specs.Parsing.Answers.{ahead, ReadsAs, IsBehind};
+ghost use Rattle.sf_text.specs.Parsing.Consuming.{spots_ahead, BehindOne};
 ghost use Rattle.sf_grammar.specs.Reading.{behind_leads, behind_list, parse_separator};
 ghost use Rattle.sf_text.specs.Answers.{BeginsArgument};
 
+use crate::parts::{Cursor, First, Stop};
 use sf_lex::{Keyword, Symbol, Token};
-use sf_parse::{Cursor, First, Stop};
 use sf_refusal::Rule;
 
 /// The tokens behind `~>`, if it stands in front.

@@ -5,8 +5,8 @@ ghost use Rattle.sf_lex.specs.Tokens.{place_at, is_line_feed, is_in_line};
 ghost use Rattle.sf_lex.specs.Cutting.{byte_limit};
 ghost use Rattle.sf_text.specs.Progress.{first_place, stop_refusal};
 
+use crate::parts::Stop;
 use sf_lex::PlacedToken;
-use sf_parse::Stop;
 use sf_refusal::{Refusal, Spot};
 
 fn line_feeds(bytes: &[u8]) -> usize

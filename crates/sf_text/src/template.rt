@@ -1,16 +1,16 @@
 //! Templates.
 ghost use Rattle.std.specs.Prelude.{◌≡◌, IfOk};
-ghost use Rattle.sf_parse.specs.Answers.{ahead, counts_of};
+ghost use Rattle.sf_text.specs.Parsing.Answers.{ahead, counts_of};
 ghost use Rattle.sf_text.specs.Answers.{ReadsTemplate};
-ghost use Rattle.sf_parse.specs.Consuming.{spots_ahead};
+ghost use Rattle.sf_text.specs.Parsing.Consuming.{spots_ahead};
 ghost use Rattle.sf_text.specs.Consuming.{PlacesTemplate};
 ghost use Rattle.sf_grammar.specs.Reading.{parse_template};
 
 use crate::header::{heading, signature};
+use crate::parts::{Reader, Stop, refused};
 use crate::term::term;
 use sf_grammar::Version;
 use sf_lex::Symbol;
-use sf_parse::{Reader, Stop, refused};
 
 /// Reads a template into the program.
 #[tactic(auto, unfolding(sf_grammar::specs::Reading::parse_template))]

@@ -2,20 +2,20 @@
 ghost use Rattle.std.specs.Prelude.{◌≡◌, ◌≢◌, ◌≤◌, IfOk, IfErr, List, suc, [], ◌∷◌, length, false};
 ghost use Rattle.sf_term.specs.Trees.{Term, Collection, no_arguments, primitive as primitive_form, bare as bare_form};
 ghost use Rattle.sf_lex.specs.Tokens.{Tok, token_of, name as name_token, name_bytes};
-ghost use Rattle.sf_parse.specs.Answers.{toks, ahead, StopsReading, ReadsAs, counts_of};
+ghost use Rattle.sf_text.specs.Parsing.Answers.{toks, ahead, StopsReading, ReadsAs, counts_of};
 ghost use Rattle.sf_text.specs.Answers.{ReadsTerm, ReadsTermForm, ReadsCollection, ReadsMembers, ReadsEdit, ReadsBody, ReadsArgument, ReadsArguments};
 ghost use Rattle.sf_grammar.specs.Placing.{PatternPlaced, TermPlaced, CollectionPlaced, ArgumentPlaced, EachArgumentPlaced, ArgumentsPlaced};
-ghost use Rattle.sf_parse.specs.Consuming.{spots_ahead, BehindOne, StandsOn, StandsFrom, Parted};
+ghost use Rattle.sf_text.specs.Parsing.Consuming.{spots_ahead, BehindOne, StandsOn, StandsFrom, Parted};
 ghost use Rattle.sf_text.specs.Consuming.{headed_node, HasValueSo, MembersPlaced};
 ghost use Rattle.sf_grammar.specs.Reading.{begins_term, begins_collection, begins_fresh, head_at, parse_empty, parse_used, parse_added, parse_dropped, parse_kept, parse_chosen, parse_behind_collection_head, parse_collection_form, parse_collection, parse_gathered, parse_releasing, parse_edit, parse_editing, too_deep, term_read, parse_never, parse_value, parse_timed, parse_selected, parse_arrow, parse_accumulated, parse_sided, parse_headed, parse_transformed, parse_body, parse_switching, parse_named, parse_keeping, parse_argument, parse_arguments, parse_listed, parse_call, parse_join, parse_joined, parse_form, parse_behind_head, parse_term};
 ghost use Rattle.sf_term.specs.Arena.{HoldsExpression, HoldsTerm, HoldsTermParts, term_node_at};
 ghost use Rattle.sf_grammar.specs.Spelling.{stands_initially};
 
 use crate::listed::{ArgumentFront, argument_front, separator};
+use crate::parts::{Cursor, First, Mark, Reader, Stop, refused};
 use sf_expr::{ExprId, Pat};
 use sf_grammar::{CollectionHead, Head, Version, collection_head, head_of, join_of};
 use sf_lex::{Keyword, Name, PlacedToken, Symbol, Token};
-use sf_parse::{Cursor, First, Mark, Reader, Stop, refused};
 use sf_refusal::Rule;
 use sf_term::{
     Accumulation, Argument, Bare, CollExpr, CollectionId, Heading, Join, Naming, Node, Observation,

@@ -1,6 +1,9 @@
 //! Plays networks in plain Rust, by the static library that was proved.
 //!
-//! The proof ends at the call of `gezmulda_play`: what stands here is plain Rust, which nothing proves.
+//! The proof ends at the calls of that library: what stands here is plain Rust, which nothing proves.
+
+use std::ffi::c_void;
+use std::ptr;
 
 extern "C" {
     fn gezmulda_play(
@@ -21,6 +24,25 @@ extern "C" {
         room: usize,
         given: *mut usize,
     ) -> u8;
+
+    fn gezmulda_make(net: *const u8, net_length: usize, probes: bool, handle: *mut Handle) -> u8;
+
+    fn gezmulda_feed(
+        handle: *mut Handle,
+        piece: *const u8,
+        piece_length: usize,
+        waiting: *mut usize,
+    ) -> u8;
+
+    fn gezmulda_take(handle: *mut Handle, room: *mut u8, room_length: usize) -> usize;
+
+    fn gezmulda_free(handle: *mut Handle);
+}
+
+/// What the library keeps a run by. It holds one from `gezmulda_make` to `gezmulda_free`.
+#[repr(C)]
+struct Handle {
+    held: *mut c_void,
 }
 
 /// How a run ended.
@@ -84,6 +106,57 @@ pub fn check(net: &str) -> Result<(), String> {
     }
 }
 
+/// A run that is fed its input piece by piece. It stays on the thread that made it.
+pub struct Engine {
+    handle: Handle,
+    end: Option<End>,
+}
+
+impl Engine {
+    /// A run at its start, of the network that a text is, which calls no stored functions. It gives the readings of probes too,
+    /// or doesn't. The error is what the network is refused for, as in `check`, or `Memory`.
+    pub fn new(net: &str, probes: bool) -> Result<Engine, String> {
+        let mut handle = Handle {
+            held: ptr::null_mut(),
+        };
+        // The handle holds nothing, and is our own.
+        let status = unsafe { gezmulda_make(net.as_ptr(), net.len(), probes, &mut handle) };
+        match end_of(status) {
+            End::Done => Ok(Engine { handle, end: None }),
+            _ => Err(check(net).err().unwrap_or_else(|| "Memory".to_owned())),
+        }
+    }
+
+    /// Feeds a piece of the input, and answers what it gives: one line a sample, behind those of its readings where these are
+    /// asked for. A line is played once its line feed is there. After the end it gives nothing.
+    pub fn feed(&mut self, piece: &str) -> String {
+        let mut waiting = 0;
+        // The handle holds a run, which nothing else uses, and each length is that of what its pointer points to.
+        let (status, said) = unsafe {
+            let handle = &mut self.handle;
+            let status = gezmulda_feed(handle, piece.as_ptr(), piece.len(), &mut waiting);
+            let mut said = vec![0; waiting];
+            let taken = gezmulda_take(handle, said.as_mut_ptr(), said.len());
+            said.truncate(taken);
+            (status, said)
+        };
+        self.end = Some(end_of(status)).filter(|end| *end != End::Done);
+        String::from_utf8(said).expect("lines are texts")
+    }
+
+    /// How the run ended, if it did.
+    pub fn end(&self) -> Option<End> {
+        self.end
+    }
+}
+
+impl Drop for Engine {
+    fn drop(&mut self) {
+        // The handle holds a run until here.
+        unsafe { gezmulda_free(&mut self.handle) }
+    }
+}
+
 /// The status, what was written into a room of that size, and how many bytes are given.
 fn play_into(net: &str, input: &str, probes: bool, room: usize) -> (u8, Vec<u8>, usize) {
     let mut out = vec![0; room];
@@ -111,6 +184,6 @@ fn end_of(status: u8) -> End {
         4 => End::BadLine,
         5 => End::Refused,
         6 => End::NoRoom,
-        _ => unreachable!("a status of gezmulda_play"),
+        _ => unreachable!("a status of the library"),
     }
 }

@@ -1,4 +1,4 @@
-use gezmulda::{check, play, End, Played};
+use gezmulda::{check, play, End, Engine, Played};
 
 const AVERAGE: &str = "network 1;\ntemplate main(): Int ~> Int = ((iPre 0 &&& identity) >>> arr (before, reading) => ((before + reading) div 2));\n";
 
@@ -90,4 +90,71 @@ fn threads_play_side_by_side() {
     for run in runs {
         assert_eq!(run.join().unwrap(), alone);
     }
+}
+
+#[test]
+fn two_engines_are_fed_by_turns() {
+    let (mut one, mut other) = (average(), average());
+    assert_eq!(one.feed("0 10\n"), "> 0 5\n");
+    assert_eq!(other.feed("0 100\n"), "> 0 50\n");
+    assert_eq!(one.feed("20 20\n"), "> 20 15\n");
+    assert_eq!(other.feed("20 200\n"), "> 20 150\n");
+    assert_eq!((one.end(), other.end()), (None, None));
+}
+
+#[test]
+fn an_engine_goes_back_to_what_it_kept() {
+    let (mut one, mut other) = (average(), average());
+    assert_eq!(one.feed("0 10\nsave here\n20 20\n"), "> 0 5\n> 20 15\n");
+    assert_eq!(other.feed("0 100\n"), "> 0 50\n");
+    assert_eq!(one.feed("back here\n30 40\n"), "> 30 25\n");
+    assert_eq!(other.feed("back here\n"), "! line 2 NoSave\n");
+    assert_eq!((one.end(), other.end()), (None, Some(End::BadLine)));
+}
+
+#[test]
+fn an_engine_plays_a_line_once_it_is_complete() {
+    let mut engine = average();
+    assert_eq!(engine.feed("0 1"), "");
+    assert_eq!(engine.feed("0\n20 2"), "> 0 5\n");
+    assert_eq!(engine.feed("0\n"), "> 20 15\n");
+}
+
+#[test]
+fn nothing_comes_behind_the_end_of_an_engine() {
+    let net = "network 1;\ntemplate main(): Int ~> Int = arr x => (10 div x);\n";
+    let mut engine = Engine::new(net, false).unwrap();
+    assert_eq!(engine.feed("0 5\n1 0\n1 2\n"), "> 0 2\n! 1 DivideByZero\n");
+    assert_eq!(engine.feed("1 2\n"), "");
+    assert_eq!(engine.end(), Some(End::Fault));
+}
+
+#[test]
+fn an_engine_gives_readings_where_they_are_asked_for() {
+    let net = "network 1;\ntemplate main(): Int ~> Int = (probe level >>> arr x => (2 * x));\n";
+    let mut engine = Engine::new(net, true).unwrap();
+    assert_eq!(engine.feed("0 1\n"), "? level 1\n> 0 2\n");
+}
+
+#[test]
+fn no_engine_is_made_of_a_refused_network() {
+    assert_eq!(
+        Engine::new("network 1;\n", false).err(),
+        check("network 1;\n").err()
+    );
+}
+
+#[test]
+fn an_engine_says_what_play_says() {
+    let lines: Vec<String> = (0..2000).map(|n| format!("{} {n}\n", n.min(1))).collect();
+    let mut engine = average();
+    let said: String = lines.iter().map(|line| engine.feed(line)).collect();
+    assert_eq!(
+        play(AVERAGE, &lines.concat(), false),
+        played(End::Done, &said)
+    );
+}
+
+fn average() -> Engine {
+    Engine::new(AVERAGE, false).unwrap()
 }

@@ -2,8 +2,8 @@ use Rattle.std.proofs.Common.{◌≤◌, vec_len}
 use Rattle.sf_state.specs.declared.env.Env.{size-Env}
 use Rattle.sf_state.proofs.+state.Given as goal
 
-abbrev pub invariant-env::Env::let_go-loop-self : goal.invariant-env::Env::let_go-loop-self
-invariant-env::Env::let_go-loop-self l = size-Env l.self ≤ size-Env l.initial.self
+abbrev pub invariant-env::Env::let_go_all-loop-self : goal.invariant-env::Env::let_go_all-loop-self
+invariant-env::Env::let_go_all-loop-self l = size-Env l.self ≤ size-Env l.initial.self
 
 -- what a call has left grows no deeper
 abbrev pub invariant-env::Call::left-loop-given : goal.invariant-env::Call::left-loop-given

@@ -23,7 +23,7 @@ use Rattle.sf_differ.proofs.Told.{told_as, told_on, room_on, unsaid_on}
 use Rattle.sf_operator.proofs.SameKinds.{payload_is}
 use Rattle.sf_check.specs.Contexts.{program_in, context_in}
 use Rattle.sf_check.specs.Breaking.{pattern_in, members_inside, ArgumentKeeps, value_keeps, process_keeps, collection_keeps, ArgumentsLeft, all_left, sequence_left, sequence_right, fan_left, fan_right, head_part, transformed_part, switch_source, switch_body, keeping_source, keeping_body, releasing_body, ReachesMembers, gathered_members, releasing_members, their_edit}
-use Rattle.sf_check.specs.Differing.{BodyStops, EditUnfit, FormDiffers, TermDiffers, CollectionDiffers, ArgumentDiffersWithin, within_value, within_process, within_members, body_pattern, body_output, edit_pattern, edit_tables, both_inputs, side_inputs, head_within, fed_output, replaced_input, transform_within, transformed_input, source_output, event_beside, switch_body_differs, observer_output, keeping_body_differs, their_observer_output, released_body_differs, event_beside_members, members_edit_differs, added_members, added_key_within, member_within, added_key, member_output, dropped_members, dropped_key_within, dropped_key, kept_members, kept_within, kept_truth, choice_within, one_members, other_members, choice_truth, choice_tables}
+use Rattle.sf_check.specs.Differing.{StopsBody, StopsEdit, FormDiffers, TermDiffers, CollectionDiffers, ArgumentDiffersWithin, within_value, within_process, within_members, body_pattern, body_output, edit_pattern, edit_tables, both_inputs, side_inputs, head_within, fed_output, replaced_input, transform_within, transformed_input, source_output, event_beside, switch_body_differs, observer_output, keeping_body_differs, their_observer_output, released_body_differs, event_beside_members, members_edit_differs, added_members, added_key_within, member_within, added_key, member_output, dropped_members, dropped_key_within, dropped_key, kept_members, kept_within, kept_truth, choice_within, one_members, other_members, choice_truth, choice_tables}
 use Rattle.sf_check.proofs.Terms.{switch_there, sided_there, headed_there, output_reached, left_reached, right_reached, first_reached, second_reached, loop_reached, first_term_reached, source_wants, input_wants, observer_reached}
 use Rattle.sf_reach.proofs.Shallow.{arguments_shallow, members_shallow, released_shallow, edited_shallow, first_shallow, rest_shallow, found_there, absent_there}
 use Rattle.sf_check.proofs.Arguments.{rest_length, one_less}
@@ -380,8 +380,7 @@ explain_released-returns-in_err-names t c = room_on _ _ c.from_residual.ensures.
 
 pub explain_released-returns : goal.explain_released-returns
 explain_released-returns t c =
-    let form = c.args.form in
-    subst (λ (Γ : Context). IfErr c.explain_inside.result (λ e. Explains (BodyStops (program_in c.args.context.now) Γ c.args.spot form.pattern form.body c.args.input.now c.args.table.now c.args.payload.now) e)) c.in_ok-names.ensures c.explain_inside.ensures
+    subst (λ (Γ : Context). IfErr c.explain_inside.result (λ e. Explains (StopsBody (program_in c.args.context.now) Γ c.args.body.now) e)) c.in_ok-names.ensures c.explain_inside.ensures
 
 -- ## Edits
 
@@ -419,14 +418,12 @@ explain_edited-returns-in_err-names t c = room_on _ _ c.from_residual.ensures.1
 
 pub explain_edited-returns : goal.explain_edited-returns
 explain_edited-returns t c =
-    let form = c.args.form in
-    let wanted = c.args.wanted.now in
-    subst (λ (Γ : Context). IfErr c.explain_edit_inside.result (λ e. Explains (EditUnfit (program_in c.args.context.now) Γ c.args.spot form.pattern form.edit (key_kind_of wanted.keys) c.args.input.now wanted.output c.args.payload.now) e)) c.in_ok-names.ensures c.explain_edit_inside.ensures
+    subst (λ (Γ : Context). IfErr c.explain_edit_inside.result (λ e. Explains (StopsEdit (program_in c.args.context.now) Γ c.args.edit.now) e)) c.in_ok-names.ensures c.explain_edit_inside.ensures
 
 pub explain_edit_inside-explain_edit-requires : goal.explain_edit_inside-explain_edit-requires
 explain_edit_inside-explain_edit-requires t c =
     let same = sym c.in_ok-inner.ensures.program in
-    (omega arith, (c.requires.fits, (subst (λ p. CollectionBelow (term_number c.args.term) (collection_under p c.args.form.edit)) same c.requires.below, subst (λ p. collection_depth (collection_of p (collection_under p c.args.form.edit)) ≤ 64) same c.requires.shallow)))
+    (omega arith, (c.requires.fits, (subst (λ p. CollectionBelow (term_number c.args.term) (collection_under p c.args.edit.now.form.edit)) same c.requires.below, subst (λ p. collection_depth (collection_of p (collection_under p c.args.edit.now.form.edit)) ≤ 64) same c.requires.shallow)))
 
 pub explain_edit_inside-returns-in_err-inner : goal.explain_edit_inside-returns-in_err-inner
 explain_edit_inside-returns-in_err-inner t c = room_on _ _ c.from_residual.ensures.1
@@ -434,9 +431,7 @@ explain_edit_inside-returns-in_err-inner t c = room_on _ _ c.from_residual.ensur
 pub explain_edit_inside-returns : goal.explain_edit_inside-returns
 explain_edit_inside-returns t c =
     let inner = c.in_ok-inner.ensures in
-    let form = c.args.form in
-    let wanted = c.args.wanted.now in
-    subst₂ (λ (p : Program) (Γ : Context). IfErr c.explain_edit.result (λ e. Explains (EditUnfit p Γ c.args.spot form.pattern form.edit (key_kind_of wanted.keys) c.args.input.now wanted.output c.args.payload.now) e)) inner.program inner.context c.explain_edit.ensures
+    subst₂ (λ (p : Program) (Γ : Context). IfErr c.explain_edit.result (λ e. Explains (StopsEdit p Γ c.args.edit.now) e)) inner.program inner.context c.explain_edit.ensures
 
 pub explain_edit-returns-in_err-names : goal.explain_edit-returns-in_err-names
 explain_edit-returns-in_err-names t c = told_on _ _ c.from_residual.ensures.1 (told_as (λ d k. inl (edit_pattern k)) c.in_err-names.ensures.err)
@@ -446,13 +441,13 @@ explain_edit-returns-in_err-given t c =
     let p = program_in c.args.context.now in
     let names = c.in_ok-names.ensures in
     told_on _ _ c.from_residual-in_err-given.ensures.1
-    (told_as (λ d k. inr (names.bound, subst (λ (Γ : Context). CollectionDiffers p Γ (collection_under p c.args.form.edit) c.args.input.now d) names.inside k)) c.in_err-given.ensures.err)
+    (told_as (λ d k. inr (names.bound, subst (λ (Γ : Context). CollectionDiffers p Γ (collection_under p c.args.edit.now.form.edit) c.args.edit.now.input.now d) names.inside k)) c.in_err-given.ensures.err)
 
 pub explain_edit-returns : goal.explain_edit-returns
 explain_edit-returns t c =
     let p = program_in c.args.context.now in
     let names = c.in_ok-names.ensures in
-    let given = subst (λ (Γ : Context). Collects Γ (collection_at p c.args.form.edit) (key_kind_of c.in_ok-given.given.keys) c.args.input.now c.in_ok-given.given.output) names.inside c.in_ok-given.ensures.ok in
+    let given = subst (λ (Γ : Context). Collects Γ (collection_at p c.args.edit.now.form.edit) (key_kind_of c.in_ok-given.given.keys) c.args.edit.now.input.now c.in_ok-given.given.output) names.inside c.in_ok-given.ensures.ok in
     on_err c.suits_members.result (λ b h. told_as (λ d k. inl (edit_tables names.bound given k)) h) c.suits_members.ensures.err
 
 -- ## Collections
@@ -633,7 +628,7 @@ explain_kept-returns-in_err-names t c = room_on _ _ c.from_residual.ensures.1
 
 pub explain_kept-returns : goal.explain_kept-returns
 explain_kept-returns t c =
-    subst (λ (Γ : Context). IfErr c.explain_inside.result (λ e. Explains (BodyStops (program_in c.args.context.now) Γ c.args.spot c.args.pattern c.args.body c.args.input.now c.args.wanted.now c.args.payload.now) e)) c.in_ok-names.ensures c.explain_inside.ensures
+    subst (λ (Γ : Context). IfErr c.explain_inside.result (λ e. Explains (StopsBody (program_in c.args.context.now) Γ c.args.body.now) e)) c.in_ok-names.ensures c.explain_inside.ensures
 
 pub explain_inside-returns-in_err-inner : goal.explain_inside-returns-in_err-inner
 explain_inside-returns-in_err-inner t c = room_on _ _ c.from_residual.ensures.1
@@ -641,7 +636,7 @@ explain_inside-returns-in_err-inner t c = room_on _ _ c.from_residual.ensures.1
 pub explain_inside-returns : goal.explain_inside-returns
 explain_inside-returns t c =
     let inner = c.in_ok-inner.ensures in
-    subst₂ (λ (p : Program) (Γ : Context). IfErr c.explain_body.result (λ e. Explains (BodyStops p Γ c.args.spot c.args.pattern c.args.body c.args.input.now c.args.wanted.now c.args.payload.now) e)) inner.program inner.context c.explain_body.ensures
+    subst₂ (λ (p : Program) (Γ : Context). IfErr c.explain_body.result (λ e. Explains (StopsBody p Γ c.args.body.now) e)) inner.program inner.context c.explain_body.ensures
 
 pub explain_body-returns-in_err-names : goal.explain_body-returns-in_err-names
 explain_body-returns-in_err-names t c = told_on _ _ c.from_residual.ensures.1 (told_as (λ d k. inl (body_pattern k)) c.in_err-names.ensures.err)
@@ -650,7 +645,7 @@ pub explain_body-returns-in_err-given : goal.explain_body-returns-in_err-given
 explain_body-returns-in_err-given t c =
     let names = c.in_ok-names.ensures in
     told_on _ _ c.from_residual-in_err-given.ensures.1
-    (told_as (λ d k. inr (names.bound, subst (λ (Γ : Context). TermDiffers (program_in c.args.context.now) Γ c.args.body c.args.input.now d) names.inside k)) c.in_err-given.ensures.err)
+    (told_as (λ d k. inr (names.bound, subst (λ (Γ : Context). TermDiffers (program_in c.args.context.now) Γ c.args.body.now.term c.args.body.now.input.now d) names.inside k)) c.in_err-given.ensures.err)
 
 pub explain_body-returns-in_err-clone_in : goal.explain_body-returns-in_err-clone_in
 explain_body-returns-in_err-clone_in t c = room_on _ _ c.from_residual-in_err-clone_in.ensures.1
@@ -658,5 +653,5 @@ explain_body-returns-in_err-clone_in t c = room_on _ _ c.from_residual-in_err-cl
 pub explain_body-returns : goal.explain_body-returns
 explain_body-returns t c =
     let names = c.in_ok-names.ensures in
-    let body = subst (λ (Γ : Context). Takes Γ (tree (program_in c.args.context.now) c.args.body) c.args.input.now c.in_ok-given.given) names.inside c.in_ok-given.ensures.ok in
+    let body = subst (λ (Γ : Context). Takes Γ (tree (program_in c.args.context.now) c.args.body.now.term) c.args.body.now.input.now c.in_ok-given.given) names.inside c.in_ok-given.ensures.ok in
     on_err c.suited.result (λ b h. told_as (λ d k. inl (body_output names.bound body (exactly_as c.in_ok-clone_in.ensures.same k))) h) c.suited.ensures.err

@@ -63,16 +63,16 @@ abbrev pub decreases-part_within : goal.decreases-part_within
 decreases-part_within l = 100 * term_number l.body + 92
 
 abbrev pub decreases-explain_body : goal.decreases-explain_body
-decreases-explain_body l = 100 * term_number l.body + 93
+decreases-explain_body l = 100 * term_number l.body.now.term + 93
 
 abbrev pub decreases-explain_inside : goal.decreases-explain_inside
-decreases-explain_inside l = 100 * term_number l.body + 94
+decreases-explain_inside l = 100 * term_number l.body.now.term + 94
 
 abbrev pub decreases-explain_kept : goal.decreases-explain_kept
-decreases-explain_kept l = 100 * term_number l.body + 95
+decreases-explain_kept l = 100 * term_number l.body.now.term + 95
 
 abbrev pub decreases-explain_released : goal.decreases-explain_released
-decreases-explain_released l = 100 * term_number l.form.body + 95
+decreases-explain_released l = 100 * term_number l.body.now.term + 95
 
 -- a collection stands between the form that has it and its parts
 abbrev pub decreases-explain_edited : goal.decreases-explain_edited

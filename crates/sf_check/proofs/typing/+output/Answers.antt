@@ -101,7 +101,7 @@ editing_output-edited_types-requires t c = (omega arith, (c.requires.below.1, (e
 pub edit_within-edit_types-requires : goal.edit_within-edit_types-requires
 edit_within-edit_types-requires t c =
     let same = sym c.in_ok-inner.ensures.program in
-    (omega arith, (subst (λ p. CollectionBelow (term_number c.args.term) (collection_under p c.args.form.edit)) same c.requires.below, subst (λ p. collection_depth (collection_of p (collection_under p c.args.form.edit)) ≤ 64) same c.requires.shallow))
+    (omega arith, (subst (λ p. CollectionBelow (term_number c.args.term) (collection_under p c.args.edit.now.form.edit)) same c.requires.below, subst (λ p. collection_depth (collection_of p (collection_under p c.args.edit.now.form.edit)) ≤ 64) same c.requires.shallow))
 
 pub members_within-judge_members-requires : goal.members_within-judge_members-requires
 members_within-judge_members-requires t c =

@@ -50,16 +50,16 @@ decreases-recurring_output l = 100 * term_number l.term + 88
 
 -- what a body is typed by stands between the form and the body
 abbrev pub decreases-body_output : goal.decreases-body_output
-decreases-body_output l = 100 * term_number l.body + 93
+decreases-body_output l = 100 * term_number l.body.now.term + 93
 
 abbrev pub decreases-output_within : goal.decreases-output_within
 decreases-output_within l = 100 * term_number l.body + 92
 
 abbrev pub decreases-body_within : goal.decreases-body_within
-decreases-body_within l = 100 * term_number l.body + 94
+decreases-body_within l = 100 * term_number l.body.now.term + 94
 
 abbrev pub decreases-kept_output : goal.decreases-kept_output
-decreases-kept_output l = 100 * term_number l.body + 95
+decreases-kept_output l = 100 * term_number l.body.now.term + 95
 
 abbrev pub decreases-call_output : goal.decreases-call_output
 decreases-call_output l = 100 * term_number l.term + 89
@@ -78,7 +78,7 @@ abbrev pub decreases-editing_output : goal.decreases-editing_output
 decreases-editing_output l = 100 * term_number l.term + 89
 
 abbrev pub decreases-released_output : goal.decreases-released_output
-decreases-released_output l = 100 * term_number l.form.body + 95
+decreases-released_output l = 100 * term_number l.body.now.term + 95
 
 -- a collection stands between the form that has it and its parts
 abbrev pub decreases-edited_types : goal.decreases-edited_types

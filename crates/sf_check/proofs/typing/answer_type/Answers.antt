@@ -1,15 +1,12 @@
 use Rattle.std.proofs.Common.{sym}
 use mathlib.Core.Path.{ap₂}
-use Rattle.sf_func.specs.Signatures.{signatures_in}
 use Rattle.sf_expr.specs.declared.exprs.Exprs.{Exprs}
 use Rattle.sf_expr.specs.Typing.{Names}
 use Rattle.sf_expr.specs.Judging.{function_judged}
-use Rattle.sf_expr.specs.Scopes.{entries_around}
 use Rattle.sf_expr.proofs.Judged.{answers_same}
-use Rattle.sf_check.proofs.Contexts.{names_seen_through}
 use Rattle.sf_check.proofs.typing.answer_type.Goals as goal
 
 pub returns : goal.returns
 returns c =
-    answers_same _ (ap₂ (λ (x : Exprs) (R : Names). function_judged x c.args.function c.args.spot c.args.argument.now R) (sym c.expressions.ensures) (names_seen_through (signatures_in c.args.context.now.functions.now) (entries_around c.args.context.now.names)))
-    c.function_type.ensures.judged
+    let under = c.expressions-expressions.ensures in
+    answers_same _ (ap₂ (λ (x : Exprs) (R : Names). function_judged x c.args.function c.args.spot c.args.argument.now R) (sym under.program) (sym under.names)) c.function_type.ensures.judged

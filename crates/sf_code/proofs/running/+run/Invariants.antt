@@ -51,9 +51,6 @@ decreases-filter g l = 8 * code_size (code_of l.body.now) + 5
 abbrev pub decreases-map : goal.decreases-map
 decreases-map g l = 8 * code_size (code_of l.body.now) + 5
 
-abbrev pub decreases-folded : goal.decreases-folded
-decreases-folded g l = 8 * (code_size (code_of l.first.now) + (code_size (code_of l.second.now) + code_size (code_of l.body.now))) + 7
-
 abbrev pub invariant-fold_rows-loop-rest : goal.invariant-fold_rows-loop-rest
 invariant-fold_rows-loop-rest g l =
     fold_worth (code_of l.body) (frames_of l.frames) (g.F.Holds.answers l.functions) (rows_under (map key_of l.rest.keys.now) l.rest.values.now) l.so_far

@@ -6,8 +6,8 @@ use Rattle.sf_differ.proofs.expression.+explain.Given as goal
 abbrev pub decreases-explain : goal.decreases-explain
 decreases-explain l = 6 * id_number l.id + 1
 
-abbrev pub decreases-typed : goal.decreases-typed
-decreases-typed l = 6 * id_number l.id + 2
+abbrev pub decreases-part_type : goal.decreases-part_type
+decreases-part_type l = 6 * id_number l.id + 2
 
 abbrev pub decreases-explain_pair : goal.decreases-explain_pair
 decreases-explain_pair l = 6 * id_number l.id
@@ -31,8 +31,8 @@ abbrev pub decreases-explain_called : goal.decreases-explain_called
 decreases-explain_called l = 6 * id_number l.id
 
 -- what stands behind a pattern is typed between the form and the expression
-abbrev pub decreases-typed_behind : goal.decreases-typed_behind
-decreases-typed_behind l = 6 * id_number l.body + 4
+abbrev pub decreases-part_behind : goal.decreases-part_behind
+decreases-part_behind l = 6 * id_number l.body + 4
 
-abbrev pub decreases-typed_within : goal.decreases-typed_within
-decreases-typed_within l = 6 * id_number l.body + 3
+abbrev pub decreases-part_within : goal.decreases-part_within
+decreases-part_within l = 6 * id_number l.body + 3

@@ -38,7 +38,7 @@ abbrev pub decreases-write_collection : goal.decreases-write_collection
 decreases-write_collection l = 200 * term_number l.form + 2 * collection_depth (collection_of l.program.now l.collection.now)
 
 abbrev pub decreases-write_added : goal.decreases-write_added
-decreases-write_added l = 200 * term_number l.form + 2 * collection_depth (collection_of l.program.now l.members.now) + 1
+decreases-write_added l = 200 * term_number l.form + 2 * collection_depth (collection_of l.program.now l.added.now.members.now) + 1
 
 abbrev pub decreases-write_dropped : goal.decreases-write_dropped
 decreases-write_dropped l = 200 * term_number l.form + 2 * collection_depth (collection_of l.program.now l.members.now) + 1
@@ -47,7 +47,7 @@ abbrev pub decreases-write_kept : goal.decreases-write_kept
 decreases-write_kept l = 200 * term_number l.form + 2 * collection_depth (collection_of l.program.now l.members.now) + 1
 
 abbrev pub decreases-write_chosen : goal.decreases-write_chosen
-decreases-write_chosen l = 200 * term_number l.form + 2 * max (collection_depth (collection_of l.program.now l.first.now)) (collection_depth (collection_of l.program.now l.second.now)) + 1
+decreases-write_chosen l = 200 * term_number l.form + 2 * max (collection_depth (collection_of l.program.now l.chosen.now.first.now)) (collection_depth (collection_of l.program.now l.chosen.now.second.now)) + 1
 
 -- the form of a term stands between the term and its parts
 abbrev pub decreases-write_joined : goal.decreases-write_joined

@@ -24,10 +24,11 @@ use Rattle.sf_parts.specs.Answering.{left_or}
 use Rattle.sf_parts.specs.Drafting.{drafted, all_changed}
 use Rattle.sf_parts.proofs.Costs.{memory_exit, early_memory}
 use Rattle.sf_step.specs.Sampling.{StateSteps}
+use Rattle.sf_step.specs.Routing.{observation_of}
 use Rattle.sf_state.proofs.Copies.{list_follows}
 use Rattle.sf_step.proofs.Parts.{pass_exit, failed, own_halves}
 use Rattle.sf_step.proofs.Stages.{StagesStep, continues_first, continues_next, continues_fails, continues_last, pipeline_steps, pipeline_fails}
-use Rattle.sf_step.proofs.Exits.{ticked_by, tick_fails, first_memory, join_left_fails, join_right_fails, join_steps, join_last, wrap_fails, wrap_steps, wrap_faults, wrap_last, late_memory, late_waiting, waits_alike, primitive_counted, live_counted, own_steps, primitive_is, live_is, switch_is, keeping_is, gathering_is, counted_steps, begun_steps, begun_runs, begun_fails}
+use Rattle.sf_step.proofs.Exits.{ticked_by, tick_fails, first_memory, join_left_fails, join_right_fails, join_steps, join_last, wrap_fails, wrap_steps, wrap_faults, wrap_last, late_memory, late_waiting, waits_alike, primitive_counted, live_counted, own_steps, primitive_is, live_is, switch_is, keeping_is, gathering_is, counted_steps, first_counted, begun_steps, begun_runs, begun_fails}
 use Rattle.sf_step.proofs.Recurring.{run_fails, run_memory, new_fails, new_runs, runs_alone}
 use Rattle.sf_step.proofs.Switches.{source_fails, switch_memory, switch_waits_on, body_fails, body_takes_over}
 use Rattle.sf_step.proofs.Keeping.{runs_alike, kept_fails, kept_memory, observer_fails, observer_memory, keeps_on, kept_body_fails, kept_body_takes_over, some_occurs, none_occurs}
@@ -185,6 +186,10 @@ step_other-returns-in_ok-inside-in-Keeping g t c =
 pub step_other-returns-in_err-inside-in-Unborn : goal.step_other-returns-in_err-inside-in-Unborn
 step_other-returns-in_err-inside-in-Unborn g t c = λ P L A. pass_exit _ _ c.from_residual-in_err-inside-in-Unborn.ensures.0 (tick_fails (g.R.Holds.answers c.args.context.now.functions.now) c.args.context.now.plan.now P _ c.in_err-inside-in-Unborn.ensures.ticked)
 
+pub step_other-returns-in-Primitive-node : goal.step_other-returns-in-Primitive-node
+step_other-returns-in-Primitive-node g t c = λ P L A.
+    first_counted (g.R.Holds.answers c.args.context.now.functions.now) c.args.context.now.plan.now c.in-Unborn.process.term c.in-Unborn.process.names c.args.context.now.dt c.args.value.now (ticked_by c.in_ok-inside-in-Unborn.ensures.ticked) _ (rw c.replace-names.ensures.value at (c.first_primitive.ensures _ (rw c.in-Primitive-node.is at c.node.ensures.builds))) P L (rw c.in-Unborn.is at A)
+
 pub step_other-returns-in-Ok-Itself : goal.step_other-returns-in-Ok-Itself
 step_other-returns-in-Ok-Itself g t c = λ P L A.
     begun_steps (g.R.Holds.answers c.args.context.now.functions.now) c.args.context.now.plan.now c.in-Unborn.process.term c.in-Unborn.process.names c.args.context.now.dt c.args.value.now (ticked_by c.in_ok-inside-in-Unborn.ensures.ticked) c.begin.new.state _ (rw (c.replace-names.ensures.value, c.in-Ok-Itself.field-0-is) at c.in-Ok-Itself.ensures.begins) c.step_counted-in-Ok-Itself.ensures P L (rw c.in-Unborn.is at A)
@@ -210,40 +215,40 @@ step_basic-returns-in_default g t c = λ m depth t T e L N W. early_memory (g.R.
 
 pub step_basic-returns-in_err-step_state : goal.step_basic-returns-in_err-step_state
 step_basic-returns-in_err-step_state g t c = λ m depth t T e L N W.
-    pass_beside (g.R.Holds.answers c.args.context.now.functions.now) c.args.context.now.plan.now _ _ _ c.from_residual.ensures.0 (source_fails (g.R.Holds.answers c.args.context.now.functions.now) c.args.context.now.plan.now c.args.names.now c.args.switch.now c.args.shown c.requires.form (step c.args.context.now.dt c.args.value.now) c.args.meter.now c.step_state.new.meter c.args.inside
+    pass_beside (g.R.Holds.answers c.args.context.now.functions.now) c.args.context.now.plan.now _ _ _ c.from_residual.ensures.0 (source_fails (g.R.Holds.answers c.args.context.now.functions.now) c.args.context.now.plan.now c.args.names.now c.args.switch.now (observation_of c.args.switch.now.form) c.requires.form (step c.args.context.now.dt c.args.value.now) c.args.meter.now c.step_state.new.meter c.args.inside
     _ c.in_err-step_state.ensures m depth t T e L N W)
 
 pub step_basic-returns-in_default-value_and_payload : goal.step_basic-returns-in_default-value_and_payload
 step_basic-returns-in_default-value_and_payload g t c = λ m depth t T e L N W.
-    memory_exit c.stop-in_default-value_and_payload.ensures.fault (switch_memory (g.R.Holds.answers c.args.context.now.functions.now) c.args.context.now.plan.now c.args.names.now c.args.switch.now c.args.shown c.requires.form (step c.args.context.now.dt c.args.value.now) c.args.meter.now c.step_state.new.meter c.args.inside
+    memory_exit c.stop-in_default-value_and_payload.ensures.fault (switch_memory (g.R.Holds.answers c.args.context.now.functions.now) c.args.context.now.plan.now c.args.names.now c.args.switch.now (observation_of c.args.switch.now.form) c.requires.form (step c.args.context.now.dt c.args.value.now) c.args.meter.now c.step_state.new.meter c.args.inside
     c.step_state.new.state c.step_state.new.value c.in_ok-step_state.ensures _ c.stop-in_default-value_and_payload.ensures.entered c.stop-in_default-value_and_payload.ensures.height m depth t T e L N W)
 
 pub step_basic-returns-in-None : goal.step_basic-returns-in-None
 step_basic-returns-in-None g t c =
     let y = c.step_state.new.value in
-    switch_waits_on (g.R.Holds.answers c.args.context.now.functions.now) c.args.context.now.plan.now c.args.names.now c.args.switch.now c.args.shown c.requires.form (step c.args.context.now.dt c.args.value.now) c.args.meter.now c.step_state.new.meter c.args.inside
+    switch_waits_on (g.R.Holds.answers c.args.context.now.functions.now) c.args.context.now.plan.now c.args.names.now c.args.switch.now (observation_of c.args.switch.now.form) c.requires.form (step c.args.context.now.dt c.args.value.now) c.args.meter.now c.step_state.new.meter c.args.inside
     c.step_state.new.state y c.in_ok-step_state.ensures (none_occurs _ c.in-Ok-value_and_payload.occurring (second_of y) c.in-Ok-value_and_payload.ensures.1 c.in-None.is)
     c.in-Ok-value_and_payload.old c.in-Ok-value_and_payload.ensures.0 _ refl
 
 pub step_basic-returns-in_default-begin : goal.step_basic-returns-in_default-begin
 step_basic-returns-in_default-begin g t c = λ m depth t T e L N W.
-    memory_exit c.stop-in_default-begin.ensures.fault (switch_memory (g.R.Holds.answers c.args.context.now.functions.now) c.args.context.now.plan.now c.args.names.now c.args.switch.now c.args.shown c.requires.form (step c.args.context.now.dt c.args.value.now) c.args.meter.now c.step_state.new.meter c.args.inside
+    memory_exit c.stop-in_default-begin.ensures.fault (switch_memory (g.R.Holds.answers c.args.context.now.functions.now) c.args.context.now.plan.now c.args.names.now c.args.switch.now (observation_of c.args.switch.now.form) c.requires.form (step c.args.context.now.dt c.args.value.now) c.args.meter.now c.step_state.new.meter c.args.inside
     c.step_state.new.state c.step_state.new.value c.in_ok-step_state.ensures _ c.stop-in_default-begin.ensures.entered c.stop-in_default-begin.ensures.height m depth t T e L N W)
 
 pub step_basic-returns-in_err-body-in-Some : goal.step_basic-returns-in_err-body-in-Some
 step_basic-returns-in_err-body-in-Some g t c = λ m depth t T e L N W.
     let y = c.step_state.new.value in
-    pass_beside (g.R.Holds.answers c.args.context.now.functions.now) c.args.context.now.plan.now _ _ _ c.from_residual-in_err-body-in-Some.ensures.0 (body_fails (g.R.Holds.answers c.args.context.now.functions.now) c.args.context.now.plan.now c.args.names.now c.args.switch.now c.args.shown c.requires.form (step c.args.context.now.dt c.args.value.now) c.args.meter.now c.step_state.new.meter c.args.inside
+    pass_beside (g.R.Holds.answers c.args.context.now.functions.now) c.args.context.now.plan.now _ _ _ c.from_residual-in_err-body-in-Some.ensures.0 (body_fails (g.R.Holds.answers c.args.context.now.functions.now) c.args.context.now.plan.now c.args.names.now c.args.switch.now (observation_of c.args.switch.now.form) c.requires.form (step c.args.context.now.dt c.args.value.now) c.args.meter.now c.step_state.new.meter c.args.inside
     c.step_state.new.state y c.in_ok-step_state.ensures c.in-Some.payload.value (some_occurs _ c.in-Ok-value_and_payload.occurring c.in-Some.payload (second_of y) c.in-Ok-value_and_payload.ensures.1 c.in-Some.is)
     c.in-Ok-begin.body (c.in-Ok-begin.ensures (g.R.Holds.answers c.args.context.now.functions.now)) c.step_begun.new.meter _ (rw c.in-Ok.ensures at c.in_err-body-in-Some.ensures) m depth t T e L N W)
 
 pub step_basic-returns-in_ok-body-in-Some : goal.step_basic-returns-in_ok-body-in-Some
 step_basic-returns-in_ok-body-in-Some g t c =
     let y = c.step_state.new.value in
-    body_takes_over (g.R.Holds.answers c.args.context.now.functions.now) c.args.context.now.plan.now c.args.names.now c.args.switch.now c.args.shown c.requires.form (step c.args.context.now.dt c.args.value.now) c.args.meter.now c.step_state.new.meter c.args.inside
+    body_takes_over (g.R.Holds.answers c.args.context.now.functions.now) c.args.context.now.plan.now c.args.names.now c.args.switch.now (observation_of c.args.switch.now.form) c.requires.form (step c.args.context.now.dt c.args.value.now) c.args.meter.now c.step_state.new.meter c.args.inside
     c.step_state.new.state y c.in_ok-step_state.ensures c.in-Some.payload.value (some_occurs _ c.in-Ok-value_and_payload.occurring c.in-Some.payload (second_of y) c.in-Ok-value_and_payload.ensures.1 c.in-Some.is)
     c.in-Ok-begin.body (c.in-Ok-begin.ensures (g.R.Holds.answers c.args.context.now.functions.now)) c.step_begun.new.meter
-    c.in_ok-body-in-Some.body c.in_ok-body-in-Some.output _ (c.show.ensures ∙ ap (λ d. switched_value c.args.shown d c.in_ok-body-in-Some.output) c.in-Ok-value_and_payload.ensures.0) _
+    c.in_ok-body-in-Some.body c.in_ok-body-in-Some.output _ (rw c.shown_by.ensures at c.show.ensures ∙ ap (λ d. switched_value (observation_of c.args.switch.now.form) d c.in_ok-body-in-Some.output) c.in-Ok-value_and_payload.ensures.0) _
     (rw c.in-Ok.ensures at c.in_ok-body-in-Some.ensures)
 
 -- ## step_recurring
@@ -253,7 +258,7 @@ step_recurring-returns-in_default g t c = λ m depth t T e L N W. early_memory (
 
 pub step_recurring-returns-in-None : goal.step_recurring-returns-in-None
 step_recurring-returns-in-None g t c =
-    runs_alone (g.R.Holds.answers c.args.context.now.functions.now) c.args.context.now.plan.now c.args.names.now c.args.switch.now c.args.shown c.requires.form c.args.context.now.dt c.args.value.now c.in-Ok.input c.in-Ok.ensures.0 c.args.meter.now c.step_state.new.meter c.args.inside
+    runs_alone (g.R.Holds.answers c.args.context.now.functions.now) c.args.context.now.plan.now c.args.names.now c.args.switch.now (observation_of c.args.switch.now.form) c.requires.form c.args.context.now.dt c.args.value.now c.in-Ok.input c.in-Ok.ensures.0 c.args.meter.now c.step_state.new.meter c.args.inside
     c.step_state.result c.step_state.new.state c.step_state.new.value (fault_of c.step_state.new.meter) (none_occurs _ c.in-Ok.occurring (second_of c.args.value.now) c.in-Ok.ensures.1 c.in-None.is)
     _ refl c.step_state.ensures
 
@@ -262,26 +267,26 @@ step_recurring-returns-in_default-clone_in g t c = λ m depth t T e L N W. early
 
 pub step_recurring-returns-in_err-step_state-in-Some : goal.step_recurring-returns-in_err-step_state-in-Some
 step_recurring-returns-in_err-step_state-in-Some g t c = λ m depth t T e L N W.
-    pass_exit _ _ c.from_residual.ensures.0 (run_fails (g.R.Holds.answers c.args.context.now.functions.now) c.args.context.now.plan.now c.args.names.now c.args.switch.now c.args.shown c.requires.form c.args.context.now.dt c.args.value.now c.in-Ok.input c.in-Ok.ensures.0 c.args.meter.now c.step_state-in-Some.new.meter c.args.inside
+    pass_exit _ _ c.from_residual.ensures.0 (run_fails (g.R.Holds.answers c.args.context.now.functions.now) c.args.context.now.plan.now c.args.names.now c.args.switch.now (observation_of c.args.switch.now.form) c.requires.form c.args.context.now.dt c.args.value.now c.in-Ok.input c.in-Ok.ensures.0 c.args.meter.now c.step_state-in-Some.new.meter c.args.inside
     _ c.in_err-step_state-in-Some.ensures m depth t T e L N W)
 
 pub step_recurring-returns-in_default-begin : goal.step_recurring-returns-in_default-begin
 step_recurring-returns-in_default-begin g t c = λ m depth t T e L N W.
-    memory_exit c.stop-in_default-begin.ensures.fault (run_memory (g.R.Holds.answers c.args.context.now.functions.now) c.args.context.now.plan.now c.args.names.now c.args.switch.now c.args.shown c.requires.form c.args.context.now.dt c.args.value.now c.in-Ok.input c.in-Ok.ensures.0 c.args.meter.now c.step_state-in-Some.new.meter c.args.inside
+    memory_exit c.stop-in_default-begin.ensures.fault (run_memory (g.R.Holds.answers c.args.context.now.functions.now) c.args.context.now.plan.now c.args.names.now c.args.switch.now (observation_of c.args.switch.now.form) c.requires.form c.args.context.now.dt c.args.value.now c.in-Ok.input c.in-Ok.ensures.0 c.args.meter.now c.step_state-in-Some.new.meter c.args.inside
     c.step_state-in-Some.new.state c.step_state-in-Some.new.value c.in_ok-step_state-in-Some.ensures _ c.stop-in_default-begin.ensures.entered c.stop-in_default-begin.ensures.height m depth t T e L N W)
 
 pub step_recurring-returns-in_err-body-in-Some : goal.step_recurring-returns-in_err-body-in-Some
 step_recurring-returns-in_err-body-in-Some g t c = λ m depth t T e L N W.
-    pass_exit _ _ c.from_residual-in_err-body-in-Some.ensures.0 (new_fails (g.R.Holds.answers c.args.context.now.functions.now) c.args.context.now.plan.now c.args.names.now c.args.switch.now c.args.shown c.requires.form c.args.context.now.dt c.args.value.now c.in-Ok.input c.in-Ok.ensures.0 c.args.meter.now c.step_state-in-Some.new.meter c.args.inside
+    pass_exit _ _ c.from_residual-in_err-body-in-Some.ensures.0 (new_fails (g.R.Holds.answers c.args.context.now.functions.now) c.args.context.now.plan.now c.args.names.now c.args.switch.now (observation_of c.args.switch.now.form) c.requires.form c.args.context.now.dt c.args.value.now c.in-Ok.input c.in-Ok.ensures.0 c.args.meter.now c.step_state-in-Some.new.meter c.args.inside
     c.step_state-in-Some.new.state c.step_state-in-Some.new.value c.in_ok-step_state-in-Some.ensures c.in-Some.payload.value (some_occurs _ c.in-Ok.occurring c.in-Some.payload (second_of c.args.value.now) c.in-Ok.ensures.1 c.in-Some.is)
     c.in-Ok-begin.body c.in-Ok-clone_in.begun c.in-Ok-clone_in.ensures (c.in-Ok-begin.ensures (g.R.Holds.answers c.args.context.now.functions.now)) c.step_begun.new.meter _ c.in_err-body-in-Some.ensures m depth t T e L N W)
 
 pub step_recurring-returns-in_ok-body-in-Some : goal.step_recurring-returns-in_ok-body-in-Some
 step_recurring-returns-in_ok-body-in-Some g t c =
-    new_runs (g.R.Holds.answers c.args.context.now.functions.now) c.args.context.now.plan.now c.args.names.now c.args.switch.now c.args.shown c.requires.form c.args.context.now.dt c.args.value.now c.in-Ok.input c.in-Ok.ensures.0 c.args.meter.now c.step_state-in-Some.new.meter c.args.inside
+    new_runs (g.R.Holds.answers c.args.context.now.functions.now) c.args.context.now.plan.now c.args.names.now c.args.switch.now (observation_of c.args.switch.now.form) c.requires.form c.args.context.now.dt c.args.value.now c.in-Ok.input c.in-Ok.ensures.0 c.args.meter.now c.step_state-in-Some.new.meter c.args.inside
     c.step_state-in-Some.new.state c.step_state-in-Some.new.value c.in_ok-step_state-in-Some.ensures c.in-Some.payload.value (some_occurs _ c.in-Ok.occurring c.in-Some.payload (second_of c.args.value.now) c.in-Ok.ensures.1 c.in-Some.is)
     c.in-Ok-begin.body c.in-Ok-clone_in.begun c.in-Ok-clone_in.ensures (c.in-Ok-begin.ensures (g.R.Holds.answers c.args.context.now.functions.now)) c.step_begun.new.meter
-    c.in_ok-body-in-Some.body c.in_ok-body-in-Some.output _ c.show.ensures _ (ap (λ (a : State). record { form = c.args.switch.now.form; running = a; pattern = c.args.switch.now.pattern; body = c.args.switch.now.body }) c.take_over.ensures) c.in_ok-body-in-Some.ensures
+    c.in_ok-body-in-Some.body c.in_ok-body-in-Some.output _ (rw c.shown_by.ensures at c.show.ensures) _ (ap (λ (a : State). record { form = c.args.switch.now.form; running = a; pattern = c.args.switch.now.pattern; body = c.args.switch.now.body }) c.take_over.ensures) c.in_ok-body-in-Some.ensures
 
 -- ## step_pipeline
 
@@ -487,8 +492,8 @@ step_followed-returns-in-Err g t c =
 
 -- ## A switch that keeps its source, and a frozen state
 
-pub step_other-returns-in_default : goal.step_other-returns-in_default
-step_other-returns-in_default g t c = first_memory (g.R.Holds.answers c.args.context.now.functions.now) c.args.context.now.plan.now c.stop-in_default.ensures.entered c.stop-in_default.ensures.height c.stop-in_default.ensures.fault
+pub step_other-returns-in_default-wake : goal.step_other-returns-in_default-wake
+step_other-returns-in_default-wake g t c = first_memory (g.R.Holds.answers c.args.context.now.functions.now) c.args.context.now.plan.now c.stop-in_default-wake.ensures.entered c.stop-in_default-wake.ensures.height c.stop-in_default-wake.ensures.fault
 
 pub step_other-returns-in-Ok : goal.step_other-returns-in-Ok
 step_other-returns-in-Ok g t c = λ P L A.
@@ -683,33 +688,33 @@ step_editing-returns-after-draft_of g t c =
     let d = c.args.context.now.dt in
     let v = c.in-Some.payload.value in
     edit_answers φ p c.args.names.now k d c.args.value.now c.in-Ok.input c.in-Ok.ensures.0 v (some_occurs _ c.in-Ok.occurring c.in-Some.payload (second_of c.args.value.now) c.in-Ok.ensures.1 c.in-Some.is) (held_as_made c.collect-made.result) c.args.inside
-    c.step_made.result c.step_made.new.members c.step_made.new.value (fault_of c.step_made.new.meter) (λ e qs K N G coded. as_made φ p c.collect-made.result ((rw c.deref-in-Some.ensures at c.collect-made.ensures) _ (c.in-Ok-inside.ensures φ e qs K N G) coded)) _ refl c.step_made.ensures
+    c.step_exchange.result c.step_exchange.new.members c.step_exchange.new.value (fault_of c.step_exchange.new.meter) (λ e qs K N G coded. as_made φ p c.collect-made.result ((rw c.deref-in-Some.ensures at c.collect-made.ensures) _ (c.in-Ok-inside.ensures φ e qs K N G) coded)) _ refl c.step_exchange.ensures
 
--- ## step_made
+-- ## step_exchange
 
-pub step_made-returns-in_default : goal.step_made-returns-in_default
-step_made-returns-in_default g t c = edit_stopped c.stop.ensures.fault (no_memory_before c.stop.ensures.entered c.stop.ensures.height)
+pub step_exchange-returns-in_default : goal.step_exchange-returns-in_default
+step_exchange-returns-in_default g t c = edit_stopped c.stop.ensures.fault (no_memory_before c.stop.ensures.entered c.stop.ensures.height)
 
-pub step_made-returns-in_err-step_members : goal.step_made-returns-in_err-step_members
-step_made-returns-in_err-step_members g t c =
+pub step_exchange-returns-in_err-step_members : goal.step_exchange-returns-in_err-step_members
+step_exchange-returns-in_err-step_members g t c =
     let φ = g.R.Holds.answers c.args.context.now.functions.now in
     let p = c.args.context.now.plan.now in
     pass_edit _ _ c.from_residual.ensures.0 (old_fails (held_fails φ p c.args.members.now c.in_err-step_members.ensures))
 
-pub step_made-returns-in-Err : goal.step_made-returns-in-Err
-step_made-returns-in-Err g t c =
+pub step_exchange-returns-in-Err : goal.step_exchange-returns-in-Err
+step_exchange-returns-in-Err g t c =
     let φ = g.R.Holds.answers c.args.context.now.functions.now in
     let p = c.args.context.now.plan.now in
     edit_stopped c.stop-in-Err.ensures.fault (made_fails (as_held φ p c.args.members.now c.step_members.new.members c.in_ok-step_members.ensures) (ap held_as_made c.in-Err.is) c.stop-in-Err.ensures.entered c.stop-in-Err.ensures.height)
 
-pub step_made-returns-in_err-step_members-in-Ok-made : goal.step_made-returns-in_err-step_members-in-Ok-made
-step_made-returns-in_err-step_members-in-Ok-made g t c =
+pub step_exchange-returns-in_err-step_members-in-Ok-made : goal.step_exchange-returns-in_err-step_members-in-Ok-made
+step_exchange-returns-in_err-step_members-in-Ok-made g t c =
     let φ = g.R.Holds.answers c.args.context.now.functions.now in
     let p = c.args.context.now.plan.now in
     pass_edit _ _ c.from_residual-in_err-step_members-in-Ok-made.ensures.0 (members_fail_anew (as_held φ p c.args.members.now c.step_members.new.members c.in_ok-step_members.ensures) (ap held_as_made c.in-Ok-made.is) (λ low ms L G. held_fails φ p c.in-Ok-made.fresh (rw c.in-Ok.ensures at c.in_err-step_members-in-Ok-made.ensures)))
 
-pub step_made-returns-in_ok-step_members-in-Ok-made : goal.step_made-returns-in_ok-step_members-in-Ok-made
-step_made-returns-in_ok-step_members-in-Ok-made g t c =
+pub step_exchange-returns-in_ok-step_members-in-Ok-made : goal.step_exchange-returns-in_ok-step_members-in-Ok-made
+step_exchange-returns-in_ok-step_members-in-Ok-made g t c =
     let φ = g.R.Holds.answers c.args.context.now.functions.now in
     let p = c.args.context.now.plan.now in
     new_run (as_held φ p c.args.members.now c.step_members.new.members c.in_ok-step_members.ensures) (ap held_as_made c.in-Ok-made.is) (λ low ms L G. as_held φ p c.in-Ok-made.fresh c.step_members-in-Ok-made.new.members (rw c.in-Ok.ensures at c.in_ok-step_members-in-Ok-made.ensures)) c.show.ensures
@@ -827,7 +832,7 @@ step_again-loop-at-init g t c =
     let φ = g.R.Holds.answers c.args.context.now.functions.now in
     let p = c.args.context.now.plan.now in
     record {
-      goes_on = turns_first φ p c.args.wait c.args.context.now.dt c.args.inside c.args.meter.now c.args.states.now.items c.args.outputs.now.items c.args.turns.now;
+      goes_on = turns_first φ p c.args.turns.wait c.args.context.now.dt c.args.turns.inside c.args.meter.now c.args.states.now.items c.args.outputs.now.items c.args.turns.each.now;
       states = c.requires.states;
       outputs = c.requires.outputs;
     }
@@ -838,8 +843,8 @@ step_again-returns-in_err-repeat-in-Stays g t c =
     let p = c.args.context.now.plan.now in
     let l = c.loop-at in
     let n = c.repeat.new.self in
-    let turn = turn_at c.args.turns.now l.at _ c.in-Stays.is c.loop-at-test.true in
-    pass_turns _ _ c.from_residual.ensures.0 (turns_stay_not φ p c.args.wait c.args.context.now.dt c.args.inside c.args.meter.now c.args.states.now.items c.args.outputs.now.items c.args.turns.now l.states.items l.outputs.items c.args.turns.now l.at l.meter l.invariant.goes_on
+    let turn = turn_at c.args.turns.each.now l.at _ c.in-Stays.is c.loop-at-test.true in
+    pass_turns _ _ c.from_residual.ensures.0 (turns_stay_not φ p c.args.turns.wait c.args.context.now.dt c.args.turns.inside c.args.meter.now c.args.states.now.items c.args.outputs.now.items c.args.turns.each.now l.states.items l.outputs.items c.args.turns.each.now l.at l.meter l.invariant.goes_on
     c.in-Stays.spent n turn (omega (arith, c.loop-at-test.true, l.invariant.states)) (omega (arith, c.loop-at-test.true, l.invariant.outputs)) (fault_of n) c.in_err-repeat-in-Stays.ensures)
 
 pub step_again-returns-in_err-step_waiting-in-Begins : goal.step_again-returns-in_err-step_waiting-in-Begins
@@ -848,8 +853,8 @@ step_again-returns-in_err-step_waiting-in-Begins g t c =
     let p = c.args.context.now.plan.now in
     let l = c.loop-at in
     let n = c.step_waiting.new.meter in
-    let turn = turn_at c.args.turns.now l.at _ c.in-Begins.is c.loop-at-test.true in
-    pass_turns _ _ c.from_residual-in_err-step_waiting-in-Begins.ensures.0 (turns_begin_not φ p c.args.wait c.args.context.now.dt c.args.inside c.args.meter.now c.args.states.now.items c.args.outputs.now.items c.args.turns.now l.states.items l.outputs.items c.args.turns.now l.at l.meter l.invariant.goes_on
+    let turn = turn_at c.args.turns.each.now l.at _ c.in-Begins.is c.loop-at-test.true in
+    pass_turns _ _ c.from_residual-in_err-step_waiting-in-Begins.ensures.0 (turns_begin_not φ p c.args.turns.wait c.args.context.now.dt c.args.turns.inside c.args.meter.now c.args.states.now.items c.args.outputs.now.items c.args.turns.each.now l.states.items l.outputs.items c.args.turns.each.now l.at l.meter l.invariant.goes_on
     c.index_mut.result.now c.index_mut-output.result.now n turn (omega (arith, c.loop-at-test.true, l.invariant.states)) (omega (arith, c.loop-at-test.true, l.invariant.outputs)) c.index_mut.ensures.value c.index_mut-output.ensures.value (fault_of n) c.in_err-step_waiting-in-Begins.ensures)
 
 pub step_again-loop-at-preserved : goal.step_again-loop-at-preserved
@@ -857,17 +862,17 @@ step_again-loop-at-preserved g t c =
     let φ = g.R.Holds.answers c.args.context.now.functions.now in
     let p = c.args.context.now.plan.now in
     let l = c.loop-at in
-    let short : l.at < length c.args.turns.now = c.loop-at-test.true in
+    let short : l.at < length c.args.turns.each.now = c.loop-at-test.true in
     let states : l.at < length l.states.items = omega (arith, short, l.invariant.states) in
     let outputs : l.at < length l.outputs.items = omega (arith, short, l.invariant.outputs) in
-    elim c.match-turns-at.branch [
+    elim c.match-each-at.branch [
       | step_again-in-Stays+in_ok-repeat-in-Stays w ↦ rw (w.states-is, w.outputs-is, w.meter-is) (record {
-        goes_on = turns_stay φ p c.args.wait c.args.context.now.dt c.args.inside c.args.meter.now c.args.states.now.items c.args.outputs.now.items c.args.turns.now l.states.items l.outputs.items c.args.turns.now l.at l.meter l.invariant.goes_on w.in-Stays.spent w.repeat.new.self (turn_at c.args.turns.now l.at _ w.in-Stays.is short) states outputs w.in_ok-repeat-in-Stays.ensures;
+        goes_on = turns_stay φ p c.args.turns.wait c.args.context.now.dt c.args.turns.inside c.args.meter.now c.args.states.now.items c.args.outputs.now.items c.args.turns.each.now l.states.items l.outputs.items c.args.turns.each.now l.at l.meter l.invariant.goes_on w.in-Stays.spent w.repeat.new.self (turn_at c.args.turns.each.now l.at _ w.in-Stays.is short) states outputs w.in_ok-repeat-in-Stays.ensures;
         states = l.invariant.states;
         outputs = l.invariant.outputs;
       })
       | step_again-in-Begins+in_ok-step_waiting-in-Begins w ↦ rw (w.states-is, w.outputs-is, w.meter-is) (record {
-        goes_on = turns_begin φ p c.args.wait c.args.context.now.dt c.args.inside c.args.meter.now c.args.states.now.items c.args.outputs.now.items c.args.turns.now l.states.items l.outputs.items c.args.turns.now l.at l.meter l.invariant.goes_on w.index_mut.result.now w.index_mut-output.result.now w.step_waiting.new.meter (turn_at c.args.turns.now l.at _ w.in-Begins.is short) states outputs w.index_mut.ensures.value w.index_mut-output.ensures.value
+        goes_on = turns_begin φ p c.args.turns.wait c.args.context.now.dt c.args.turns.inside c.args.meter.now c.args.states.now.items c.args.outputs.now.items c.args.turns.each.now l.states.items l.outputs.items c.args.turns.each.now l.at l.meter l.invariant.goes_on w.index_mut.result.now w.index_mut-output.result.now w.step_waiting.new.meter (turn_at c.args.turns.each.now l.at _ w.in-Begins.is short) states outputs w.index_mut.ensures.value w.index_mut-output.ensures.value
             w.step_waiting.new.state w.step_waiting.new.value w.in_ok-step_waiting-in-Begins.ensures;
         states = length-set l.states.items l.at w.step_waiting.new.state ∙ l.invariant.states;
         outputs = length-set l.outputs.items l.at w.step_waiting.new.value ∙ l.invariant.outputs;
@@ -879,8 +884,8 @@ step_again-returns g t c =
     let φ = g.R.Holds.answers c.args.context.now.functions.now in
     let p = c.args.context.now.plan.now in
     let l = c.loop-at in
-    let last : l.at ≡ length c.args.turns.now = omega (arith, l.auto.at-end, c.loop-at-test.false) in
-    turns_last φ p c.args.wait c.args.context.now.dt c.args.inside c.args.meter.now c.args.states.now.items c.args.outputs.now.items c.args.turns.now l.states.items l.outputs.items c.args.turns.now l.at l.meter l.invariant.goes_on
+    let last : l.at ≡ length c.args.turns.each.now = omega (arith, l.auto.at-end, c.loop-at-test.false) in
+    turns_last φ p c.args.turns.wait c.args.context.now.dt c.args.turns.inside c.args.meter.now c.args.states.now.items c.args.outputs.now.items c.args.turns.each.now l.states.items l.outputs.items c.args.turns.each.now l.at l.meter l.invariant.goes_on
     (last ∙ sym l.invariant.states) (last ∙ sym l.invariant.outputs) last
 
 -- ## step_draft
@@ -935,7 +940,7 @@ step_turns-returns-in_err-noted g t c = λ rs own.
     let i = c.args.value.now in
     let m = c.args.meter.now in
     let n = c.step_noted.new.meter in
-    pass_edit _ _ c.from_residual.ensures.0 (old_fails (held_stop φ p run d i m n c.args.inside _ (list_alike φ p own (stepped_fails φ p run.wait d i c.args.inside c.in_err-noted.ensures))))
+    pass_edit _ _ c.from_residual.ensures.0 (old_fails (held_stop φ p run d i m n c.args.edit.inside _ (list_alike φ p own (stepped_fails φ p run.wait d i c.args.edit.inside c.in_err-noted.ensures))))
 
 pub step_turns-returns-in_default : goal.step_turns-returns-in_default
 step_turns-returns-in_default g t c = λ rs own.
@@ -950,7 +955,7 @@ step_turns-returns-in_default g t c = λ rs own.
     let ds = c.step_noted.new.states.items in
     let ys = c.in_ok-noted.noted.outputs.items in
     let gs = c.in_ok-noted.noted.turns.items in
-    let old = old_step φ p run bs own c.args.edit.draft d i c.args.inside m n ds ys gs c.in_ok-noted.ensures in
+    let old = old_step φ p run bs own c.args.edit.draft d i c.args.edit.inside m n ds ys gs c.in_ok-noted.ensures in
     edit_stopped c.stop.ensures.fault (no_memory_between old c.stop.ensures.entered c.stop.ensures.height)
 
 pub step_turns-returns-in_default-new : goal.step_turns-returns-in_default-new
@@ -966,7 +971,7 @@ step_turns-returns-in_default-new g t c = λ rs own.
     let ds = c.step_noted.new.states.items in
     let ys = c.in_ok-noted.noted.outputs.items in
     let gs = c.in_ok-noted.noted.turns.items in
-    let old = old_step φ p run bs own c.args.edit.draft d i c.args.inside m n ds ys gs c.in_ok-noted.ensures in
+    let old = old_step φ p run bs own c.args.edit.draft d i c.args.edit.inside m n ds ys gs c.in_ok-noted.ensures in
     edit_stopped c.stop-in_default-new.ensures.fault (no_memory_between old c.stop-in_default-new.ensures.entered c.stop-in_default-new.ensures.height)
 
 pub step_turns-returns-in_default-change_all : goal.step_turns-returns-in_default-change_all
@@ -982,7 +987,7 @@ step_turns-returns-in_default-change_all g t c = λ rs own.
     let ds = c.step_noted.new.states.items in
     let ys = c.in_ok-noted.noted.outputs.items in
     let gs = c.in_ok-noted.noted.turns.items in
-    let old = old_step φ p run bs own c.args.edit.draft d i c.args.inside m n ds ys gs c.in_ok-noted.ensures in
+    let old = old_step φ p run bs own c.args.edit.draft d i c.args.edit.inside m n ds ys gs c.in_ok-noted.ensures in
     edit_stopped c.stop-in_default-change_all.ensures.fault (no_memory_between old c.stop-in_default-change_all.ensures.entered c.stop-in_default-change_all.ensures.height)
 
 pub step_turns-step_again-requires : goal.step_turns-step_again-requires
@@ -998,7 +1003,7 @@ step_turns-step_again-requires g t c =
     let ys = c.in_ok-noted.noted.outputs.items in
     let gs = c.in_ok-noted.noted.turns.items in
     let os = c.in-Ok.outputs.items in
-    let long = notes_long φ p c.args.edit.wait d i c.args.inside c.in_ok-noted.ensures in
+    let long = notes_long φ p c.args.edit.wait d i c.args.edit.inside c.in_ok-noted.ensures in
     let cs = c.args.edit.draft.changes.items in
     let states : length c.change_all.new.states.items ≡ length c.deref.result.now = ap length c.in-Ok-change_all.ensures.states ∙ changed_long (λ a. a) (λ a. Begins) cs ds gs long.0 ∙ sym (ap length (c.deref.ensures.value ∙ c.in-Ok-change_all.ensures.turns)) in
     let outputs : length c.change_all.new.outputs.items ≡ length c.deref.result.now = ap length c.in-Ok-change_all.ensures.outputs ∙ changed_long (λ a. i) (λ a. Begins) cs os gs (c.in-Ok.ensures.long ∙ long.1) ∙ sym (ap length (c.deref.ensures.value ∙ c.in-Ok-change_all.ensures.turns)) in
@@ -1017,10 +1022,10 @@ step_turns-returns-in_err-step_again g t c = λ rs own.
     let ds = c.step_noted.new.states.items in
     let ys = c.in_ok-noted.noted.outputs.items in
     let gs = c.in_ok-noted.noted.turns.items in
-    let old = old_step φ p run bs own c.args.edit.draft d i c.args.inside m n ds ys gs c.in_ok-noted.ensures in
+    let old = old_step φ p run bs own c.args.edit.draft d i c.args.edit.inside m n ds ys gs c.in_ok-noted.ensures in
     let os = c.in-Ok.outputs.items in
-    let turned = not_turned_so φ p run bs c.args.edit.draft d i c.args.inside m n ds ys os gs c.in_ok-noted.ensures c.in-Ok.ensures.long c.step_again.new.meter c.unwrap_or-later.ensures c.in-Ok-change_all.ensures.states c.in-Ok-change_all.ensures.outputs (c.deref.ensures.value ∙ c.in-Ok-change_all.ensures.turns) _ c.in_err-step_again.ensures in
-    pass_edit _ _ c.from_residual-in_err-step_again.ensures.0 (members_fail_anew old refl (new_stop φ p run bs own c.args.edit.draft d i c.args.inside m n ds ys gs c.in_ok-noted.ensures _ c.step_again.new.meter turned))
+    let turned = not_turned_so φ p run bs c.args.edit.draft d i c.args.edit.inside m n ds ys os gs c.in_ok-noted.ensures c.in-Ok.ensures.long c.step_again.new.meter c.unwrap_or.ensures c.in-Ok-change_all.ensures.states c.in-Ok-change_all.ensures.outputs (c.deref.ensures.value ∙ c.in-Ok-change_all.ensures.turns) _ c.in_err-step_again.ensures in
+    pass_edit _ _ c.from_residual-in_err-step_again.ensures.0 (members_fail_anew old refl (new_stop φ p run bs own c.args.edit.draft d i c.args.edit.inside m n ds ys gs c.in_ok-noted.ensures _ c.step_again.new.meter turned))
 
 pub step_turns-returns-in-Ok-table_after : goal.step_turns-returns-in-Ok-table_after
 step_turns-returns-in-Ok-table_after g t c = λ rs own.
@@ -1035,15 +1040,15 @@ step_turns-returns-in-Ok-table_after g t c = λ rs own.
     let ds = c.step_noted.new.states.items in
     let ys = c.in_ok-noted.noted.outputs.items in
     let gs = c.in_ok-noted.noted.turns.items in
-    let old = old_step φ p run bs own c.args.edit.draft d i c.args.inside m n ds ys gs c.in_ok-noted.ensures in
+    let old = old_step φ p run bs own c.args.edit.draft d i c.args.edit.inside m n ds ys gs c.in_ok-noted.ensures in
     let os = c.in-Ok.outputs.items in
     let es = c.step_again.new.states.items in
     let zs = c.step_again.new.outputs.items in
-    let turned = turned_so φ p run bs c.args.edit.draft d i c.args.inside m n ds ys os gs c.in_ok-noted.ensures c.in-Ok.ensures.long c.step_again.new.meter c.unwrap_or-later.ensures c.in-Ok-change_all.ensures.states c.in-Ok-change_all.ensures.outputs (c.deref.ensures.value ∙ c.in-Ok-change_all.ensures.turns) es zs c.in_ok-step_again.ensures in
+    let turned = turned_so φ p run bs c.args.edit.draft d i c.args.edit.inside m n ds ys os gs c.in_ok-noted.ensures c.in-Ok.ensures.long c.step_again.new.meter c.unwrap_or.ensures c.in-Ok-change_all.ensures.states c.in-Ok-change_all.ensures.outputs (c.deref.ensures.value ∙ c.in-Ok-change_all.ensures.turns) es zs c.in_ok-step_again.ensures in
     let cs = c.args.edit.draft.changes.items in
     let ks = c.in-Ok-new.all.value in
     let before = c.in-Ok.before in
-    new_run old refl (new_step φ p run bs own c.args.edit.draft d i c.args.inside m n ds ys gs c.in_ok-noted.ensures es turned.vs ks c.step_again.new.meter c.in-Ok-new.ensures.ok turned.turned)
+    new_run old refl (new_step φ p run bs own c.args.edit.draft d i c.args.edit.inside m n ds ys gs c.in_ok-noted.ensures es turned.vs ks c.step_again.new.meter c.in-Ok-new.ensures.ok turned.turned)
     (shows_so c.args.edit.shown (table (rows_under run.keys ys)) c.in-Ok-table_after.rows before (λ zs. table (rows_under ks zs)) zs turned.vs c.in-Ok.ensures.shows (λ none. turned.same (ap (all_changed (λ a. i) cs) (c.in-Ok.ensures.same none))) c.in-Ok-table_after.ensures)
 
 pub step_turns-returns : goal.step_turns-returns
@@ -1059,12 +1064,12 @@ step_turns-returns g t c = λ rs own.
     let ds = c.step_noted.new.states.items in
     let ys = c.in_ok-noted.noted.outputs.items in
     let gs = c.in_ok-noted.noted.turns.items in
-    let old = old_step φ p run bs own c.args.edit.draft d i c.args.inside m n ds ys gs c.in_ok-noted.ensures in
+    let old = old_step φ p run bs own c.args.edit.draft d i c.args.edit.inside m n ds ys gs c.in_ok-noted.ensures in
     let os = c.in-Ok.outputs.items in
     let es = c.step_again.new.states.items in
     let zs = c.step_again.new.outputs.items in
-    let turned = turned_so φ p run bs c.args.edit.draft d i c.args.inside m n ds ys os gs c.in_ok-noted.ensures c.in-Ok.ensures.long c.step_again.new.meter c.unwrap_or-later.ensures c.in-Ok-change_all.ensures.states c.in-Ok-change_all.ensures.outputs (c.deref.ensures.value ∙ c.in-Ok-change_all.ensures.turns) es zs c.in_ok-step_again.ensures in
-    edit_stopped c.stop-in-Err.ensures.fault (members_fail_anew old refl (new_end φ p run bs own c.args.edit.draft d i c.args.inside m n ds ys gs c.in_ok-noted.ensures es turned.vs c.step_again.new.meter c.stop-in-Err.new.self c.stop-in-Err.ensures.entered c.stop-in-Err.ensures.height turned.turned))
+    let turned = turned_so φ p run bs c.args.edit.draft d i c.args.edit.inside m n ds ys os gs c.in_ok-noted.ensures c.in-Ok.ensures.long c.step_again.new.meter c.unwrap_or.ensures c.in-Ok-change_all.ensures.states c.in-Ok-change_all.ensures.outputs (c.deref.ensures.value ∙ c.in-Ok-change_all.ensures.turns) es zs c.in_ok-step_again.ensures in
+    edit_stopped c.stop-in-Err.ensures.fault (members_fail_anew old refl (new_end φ p run bs own c.args.edit.draft d i c.args.edit.inside m n ds ys gs c.in_ok-noted.ensures es turned.vs c.step_again.new.meter c.stop-in-Err.new.self c.stop-in-Err.ensures.entered c.stop-in-Err.ensures.height turned.turned))
 
 -- ## step_members
 

@@ -134,17 +134,17 @@ decreases-step_waiting g l = 20 * (1600 - l.inside) + 5
 abbrev pub decreases-step_editing : goal.decreases-step_editing
 decreases-step_editing g l = 20 * (1600 - l.inside) + 12
 
-abbrev pub decreases-step_made : goal.decreases-step_made
-decreases-step_made g l = 20 * (1600 - l.inside) + 11
+abbrev pub decreases-step_exchange : goal.decreases-step_exchange
+decreases-step_exchange g l = 20 * (1600 - l.exchange.inside) + 11
 
 abbrev pub decreases-step_draft : goal.decreases-step_draft
-decreases-step_draft g l = 20 * (1600 - l.inside) + 11
+decreases-step_draft g l = 20 * (1600 - l.edit.inside) + 11
 
 abbrev pub decreases-step_turns_copy : goal.decreases-step_turns_copy
-decreases-step_turns_copy g l = 20 * (1600 - l.inside) + 10
+decreases-step_turns_copy g l = 20 * (1600 - l.edit.inside) + 10
 
 abbrev pub decreases-step_turns : goal.decreases-step_turns
-decreases-step_turns g l = 20 * (1600 - l.inside) + 9
+decreases-step_turns g l = 20 * (1600 - l.edit.inside) + 9
 
 abbrev pub decreases-step_noted : goal.decreases-step_noted
 decreases-step_noted g l = 20 * (1600 - l.inside) + 7
@@ -159,11 +159,11 @@ invariant-step_noted-loop-ran g l = record {
 }
 
 abbrev pub decreases-step_again : goal.decreases-step_again
-decreases-step_again g l = 20 * (1600 - l.inside) + 7
+decreases-step_again g l = 20 * (1600 - l.turns.inside) + 7
 
 abbrev pub invariant-step_again-loop-at : goal.invariant-step_again-loop-at
 invariant-step_again-loop-at g l = record {
-  goes_on : TurnsOn (g.R.Holds.answers l.context.functions.now) l.context.plan.now l.wait l.context.dt l.inside l.initial.meter l.initial.states.items l.initial.outputs.items l.turns (take l.at l.states.items) (take l.at l.outputs.items) (drop l.at l.states.items) (drop l.at l.outputs.items) (drop l.at l.turns) l.meter;
-  states : length l.states.items ≡ length l.turns;
-  outputs : length l.outputs.items ≡ length l.turns;
+  goes_on : TurnsOn (g.R.Holds.answers l.context.functions.now) l.context.plan.now l.wait l.context.dt l.inside l.initial.meter l.initial.states.items l.initial.outputs.items l.each (take l.at l.states.items) (take l.at l.outputs.items) (drop l.at l.states.items) (drop l.at l.outputs.items) (drop l.at l.each) l.meter;
+  states : length l.states.items ≡ length l.each;
+  outputs : length l.outputs.items ≡ length l.each;
 }

@@ -1,4 +1,4 @@
-use Rattle.sf_parse.proofs.Placed.{some_more, some_of_one}
+use Rattle.sf_text.proofs.Parsing.Placed.{some_more, some_of_one}
 use Rattle.sf_text.proofs.header.collection_kind.Goals as goal
 
 pub returns-clause-behind : goal.returns-clause-behind

@@ -1,4 +1,4 @@
-use Rattle.sf_parse.proofs.Placed.{from_some, some_of_one}
+use Rattle.sf_text.proofs.Parsing.Placed.{from_some, some_of_one}
 use Rattle.sf_text.proofs.header.name_kind.Goals as goal
 
 pub returns-in-Some-clause-behind : goal.returns-in-Some-clause-behind

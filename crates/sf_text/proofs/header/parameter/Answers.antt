@@ -1,6 +1,6 @@
 use Rattle.std.proofs.Common.{string_bytes, sym, subst, ◌∙◌}
-use Rattle.sf_parse.specs.Answers.{toks}
-use Rattle.sf_parse.specs.Consuming.{places, Consumes}
+use Rattle.sf_text.specs.Parsing.Answers.{toks}
+use Rattle.sf_text.specs.Parsing.Consuming.{places, Consumes}
 use Rattle.sf_term.specs.Parameters.{PlacedParameter}
 use Rattle.sf_term.specs.ParameterView.{kind_of_form}
 use Rattle.sf_grammar.specs.Placing.{ParameterPlaced}

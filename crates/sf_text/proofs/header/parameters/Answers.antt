@@ -1,6 +1,6 @@
 use Rattle.std.proofs.Common.{List, sym, subst}
 use Rattle.sf_term.specs.Parameters.{PlacedParameter}
-use Rattle.sf_parse.specs.Consuming.{spots_ahead, Consumes}
+use Rattle.sf_text.specs.Parsing.Consuming.{spots_ahead, Consumes}
 use Rattle.sf_grammar.specs.Placing.{ParametersPlaced}
 use Rattle.sf_text.proofs.Placed.{no_parameters_placed_behind, each_placed}
 use Rattle.sf_text.proofs.header.parameters.Goals as goal

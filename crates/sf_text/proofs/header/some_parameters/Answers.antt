@@ -1,7 +1,7 @@
 use Rattle.std.proofs.Common.{true, List, sym, subst}
 use Rattle.sf_term.specs.Parameters.{PlacedParameter, binding_of}
-use Rattle.sf_parse.specs.Answers.{ahead}
-use Rattle.sf_parse.specs.Consuming.{spots_ahead}
+use Rattle.sf_text.specs.Parsing.Answers.{ahead}
+use Rattle.sf_text.specs.Parsing.Consuming.{spots_ahead}
 use Rattle.sf_text.specs.Answers.{bindings_in}
 use Rattle.sf_text.proofs.Lists.{ReadParameters, no_parameters_read, parameters_go_on, next_parameter, parameter_stops, parameter_separator_stops, stopped_as}
 use Rattle.sf_text.proofs.header.some_parameters.Goals as goal

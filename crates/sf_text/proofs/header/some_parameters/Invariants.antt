@@ -1,6 +1,6 @@
 use Rattle.std.proofs.Common.{length}
-use Rattle.sf_parse.specs.Answers.{ahead}
-use Rattle.sf_parse.specs.Consuming.{spots_ahead}
+use Rattle.sf_text.specs.Parsing.Answers.{ahead}
+use Rattle.sf_text.specs.Parsing.Consuming.{spots_ahead}
 use Rattle.sf_text.proofs.Lists.{ReadParameters}
 use Rattle.sf_text.proofs.header.some_parameters.Given as goal
 

@@ -1,5 +1,5 @@
 use Rattle.std.proofs.Common.{◌≡◌, sym, ap, subst, ◌∙◌}
-use Rattle.sf_parse.specs.Answers.{toks}
+use Rattle.sf_text.specs.Parsing.Answers.{toks}
 use Rattle.sf_text.specs.Progress.{IsSpelled, StopsNetwork, stop_refusal}
 use Rattle.sf_grammar.specs.Stopping.{BreaksText}
 use Rattle.sf_lex.specs.declared.token.PlacedToken.{PlacedToken}
@@ -7,7 +7,7 @@ use Rattle.std.proofs.Common.{List}
 use Rattle.sf_grammar.proofs.Texts.{none_refused, refused_none}
 use Rattle.sf_text.proofs.Whole.{bytes_refused, text_stops}
 use Rattle.sf_grammar.specs.Placing.{NetworkPlaced, IsPlacedIn}
-use Rattle.sf_parse.specs.Consuming.{places}
+use Rattle.sf_text.specs.Parsing.Consuming.{places}
 use Rattle.sf_refusal.specs.Refusals.{OrMemory}
 use Rattle.sf_refusal.proofs.Explained.{refused_on}
 use Rattle.sf_text.proofs.Placed.{placed_in}

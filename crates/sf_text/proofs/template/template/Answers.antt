@@ -1,10 +1,10 @@
 use Rattle.std.proofs.Common.{◌≡◌, length, string_bytes, sym, subst, arith}
 use Rattle.sf_lex.specs.Words.{IsName}
-use Rattle.sf_parse.specs.declared.stop.Stop.{Stop}
+use Rattle.sf_text.specs.declared.parts.stop.Stop.{Stop}
 use Rattle.sf_grammar.specs.Reading.{parse_template}
-use Rattle.sf_parse.specs.Answers.{StopsReading, counts_of, ahead, stop_for}
+use Rattle.sf_text.specs.Parsing.Answers.{StopsReading, counts_of, ahead, stop_for}
 use Rattle.sf_text.specs.Answers.{kinds_in}
-use Rattle.sf_parse.proofs.Found.{refused_for_memory}
+use Rattle.sf_text.proofs.Parsing.Found.{refused_for_memory}
 use Rattle.sf_text.proofs.Placed.{signature_counted, template_read}
 use Rattle.sf_text.proofs.template.template.Goals as goal
 

@@ -3,16 +3,16 @@ use Rattle.sf_lex.specs.Words.{IsName}
 use Rattle.sf_lex.specs.Tokens.{name_bytes}
 use Rattle.sf_term.specs.declared.node.Argument.{Argument}
 use Rattle.sf_grammar.specs.Reading.{parse_collection}
-use Rattle.sf_parse.specs.declared.stop.Stop.{Stop}
-use Rattle.sf_parse.specs.Answers.{StopsReading, counts_of, ahead}
-use Rattle.sf_parse.specs.Consuming.{spots_ahead, Consumes}
+use Rattle.sf_text.specs.declared.parts.stop.Stop.{Stop}
+use Rattle.sf_text.specs.Parsing.Answers.{StopsReading, counts_of, ahead}
+use Rattle.sf_text.specs.Parsing.Consuming.{spots_ahead, Consumes}
 use Rattle.sf_grammar.specs.Placing.{ArgumentsPlaced}
 use Rattle.sf_term.proofs.Kept.{keeps_trans, collection_at_kept}
 use Rattle.sf_text.proofs.Found.{term_built, headed_ready, transformed_ready, joined_ready, sided_ready, switching_ready, keeping_ready, call_ready, body_found, collection_shared, added_found, dropped_found, kept_found, chosen_found, members_found, members_shallow, gathered_ready, releasing_ready, edit_found, editing_ready, value_found, process_found, collection_found}
 use Rattle.sf_text.proofs.Placed.{headed_read, transformed_read, joined_read, sided_read, switching_read, keeping_read, call_read, value_read, process_read, collection_read, shared_placed, added_read, dropped_read, kept_read, chosen_read, members_read, gathered_read, releasing_read, editing_read, no_arguments_placed_behind, each_argument_placed}
 use Rattle.sf_text.proofs.Lists.{ReadArguments, arguments_go_on, no_arguments_read, next_argument, argument_stops, argument_separator_stops, all_arguments, arguments_stopped_as}
-use Rattle.sf_parse.proofs.Found.{if_built, if_built_on, refused_for_memory}
-use Rattle.sf_parse.proofs.Placed.{parted_read}
+use Rattle.sf_text.proofs.Parsing.Found.{if_built, if_built_on, refused_for_memory}
+use Rattle.sf_text.proofs.Parsing.Placed.{parted_read}
 use Rattle.sf_text.proofs.term.+term.Goals as goal
 
 pub headed-returns-clause-reads : goal.headed-returns-clause-reads

@@ -1,8 +1,8 @@
-use Rattle.sf_parse.specs.Consuming.{spots_ahead}
+use Rattle.sf_text.specs.Parsing.Consuming.{spots_ahead}
 use Rattle.sf_text.proofs.Placed.{bare_read}
-use Rattle.sf_parse.proofs.Found.{if_built, keeps_self}
+use Rattle.sf_text.proofs.Parsing.Found.{if_built, keeps_self}
 use Rattle.sf_text.proofs.Found.{term_built, bare_ready}
-use Rattle.sf_parse.specs.Answers.{ahead}
+use Rattle.sf_text.specs.Parsing.Answers.{ahead}
 use Rattle.sf_text.proofs.term.bare.Goals as goal
 
 pub returns-clause-reads : goal.returns-clause-reads

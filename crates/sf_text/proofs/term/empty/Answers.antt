@@ -1,5 +1,5 @@
-use Rattle.sf_parse.specs.Answers.{ahead}
-use Rattle.sf_parse.proofs.Found.{keeps_self}
+use Rattle.sf_text.specs.Parsing.Answers.{ahead}
+use Rattle.sf_text.proofs.Parsing.Found.{keeps_self}
 use Rattle.sf_text.proofs.Found.{collection_shared, empty_found}
 use Rattle.sf_text.proofs.Placed.{shared_placed, empty_read}
 use Rattle.sf_text.proofs.term.empty.Goals as goal

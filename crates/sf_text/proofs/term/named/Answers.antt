@@ -1,9 +1,9 @@
 use Rattle.std.proofs.Common.{sym, subst, ◌∙◌}
 use Rattle.sf_lex.specs.Words.{IsName}
-use Rattle.sf_parse.specs.Answers.{ahead}
+use Rattle.sf_text.specs.Parsing.Answers.{ahead}
 use Rattle.sf_text.proofs.Found.{term_built, named_ready}
 use Rattle.sf_text.proofs.Placed.{named_read}
-use Rattle.sf_parse.proofs.Found.{if_built, keeps_self}
+use Rattle.sf_text.proofs.Parsing.Found.{if_built, keeps_self}
 use Rattle.sf_text.proofs.term.named.Goals as goal
 
 pub returns-clause-reads : goal.returns-clause-reads

@@ -1,9 +1,9 @@
 use Rattle.std.proofs.Common.{rules, w64}
 use Rattle.std.proofs.lemmas.Int.{to_z-of_z}
-use Rattle.sf_parse.specs.Answers.{ahead}
+use Rattle.sf_text.specs.Parsing.Answers.{ahead}
 use Rattle.sf_text.proofs.Found.{term_built, selected_ready}
 use Rattle.sf_text.proofs.Placed.{selected_read}
-use Rattle.sf_parse.proofs.Found.{if_built, keeps_self}
+use Rattle.sf_text.proofs.Parsing.Found.{if_built, keeps_self}
 use Rattle.sf_text.proofs.term.selected.Goals as goal
 
 pub returns-clause-reads : goal.returns-clause-reads

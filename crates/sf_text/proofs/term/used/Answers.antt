@@ -1,9 +1,9 @@
 use Rattle.std.proofs.Common.{string_bytes, sym, subst, arith, ◌∙◌}
 use Rattle.sf_lex.specs.Words.{IsName}
 use Rattle.sf_grammar.specs.Reading.{parse_used}
-use Rattle.sf_parse.specs.declared.stop.Stop.{Stop}
-use Rattle.sf_parse.specs.Answers.{StopsReading, ahead}
-use Rattle.sf_parse.proofs.Found.{refused_for_memory}
+use Rattle.sf_text.specs.declared.parts.stop.Stop.{Stop}
+use Rattle.sf_text.specs.Parsing.Answers.{StopsReading, ahead}
+use Rattle.sf_text.proofs.Parsing.Found.{refused_for_memory}
 use Rattle.sf_text.proofs.Found.{collection_shared, used_found}
 use Rattle.sf_text.proofs.Placed.{shared_placed, used_read}
 use Rattle.sf_text.proofs.term.used.Goals as goal

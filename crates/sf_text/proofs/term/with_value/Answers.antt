@@ -1,7 +1,7 @@
-use Rattle.sf_parse.specs.Answers.{ahead}
+use Rattle.sf_text.specs.Parsing.Answers.{ahead}
 use Rattle.sf_text.proofs.Found.{term_built, value_ready}
 use Rattle.sf_text.proofs.Placed.{with_value_read}
-use Rattle.sf_parse.proofs.Found.{if_built}
+use Rattle.sf_text.proofs.Parsing.Found.{if_built}
 use Rattle.sf_text.proofs.term.with_value.Goals as goal
 
 pub returns-clause-reads : goal.returns-clause-reads

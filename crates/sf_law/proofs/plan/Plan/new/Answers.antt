@@ -16,7 +16,7 @@ invariant_of-result c = record {
   covered = subst (λ ms. AreCovered c.args.expressions c.new.result.items ms) (sym c.new-2.ensures.items) (λ i x h. refl);
   bound = c.requires;
   numbered = subst (λ hs. NumbersFirst c.in_ok-numbers.numbers hs) c.deref.ensures.value c.in_ok-numbers.ensures;
-  placed = subst (λ hs. ArePlaces c.args.expressions hs c.in_ok-places.places.items) c.deref-2.ensures.value c.in_ok-places.ensures;
+  placed = subst (λ hs. ArePlaces c.args.expressions c.in_ok-numbering.numbering hs c.in_ok-places.places.items) c.deref-2.ensures.value (c.in_ok-places.ensures c.args.expressions c.in_ok-numbering.ensures);
   same = refl;
   nothing = c.absent.ensures;
 }

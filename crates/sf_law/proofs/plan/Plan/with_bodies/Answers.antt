@@ -22,7 +22,7 @@ invariant_of-plan c =
       covered = p.covered;
       bound = subst (λ (hs : List PlanHeader). All (BindsNames p.expressions) hs) same (All-map (BindsNames p.expressions) (rebodied ids n) p.templates.items p.bound);
       numbered = subst (λ (hs : List PlanHeader). NumbersFirst p.numbers hs) same (numbers_kept ids n p.numbers p.templates.items p.numbered);
-      placed = subst (λ (hs : List PlanHeader). ArePlaces p.expressions hs p.places.items) same (places_kept ids n p.expressions p.templates.items p.places.items p.placed);
+      placed = subst (λ (hs : List PlanHeader). ArePlaces p.expressions p.numbering hs p.places.items) same (places_kept ids n p.expressions p.numbering p.templates.items p.places.items p.placed);
       same = p.same;
       nothing = p.nothing;
     }

@@ -1,0 +1,28 @@
+use Rattle.std.proofs.Common.{[], refl}
+use Rattle.sf_refusal.specs.Refusals.{no_memory}
+use Rattle.sf_term.specs.Arena.{templates_of}
+use Rattle.sf_check.specs.Accepting.{program_of, checked_main}
+use Rattle.sf_accept.specs.Refusals.{IsAcceptedText}
+use Rattle.sf_player.proofs.Refusing.{main_found}
+use Rattle.sf_session.specs.Alone.{alone}
+use Rattle.sf_session.proofs.Fed.{fed_on}
+use Rattle.sf_session.proofs.session.Session.new.Goals as goal
+
+pub returns-in_default-clause-refused : goal.returns-in_default-clause-refused
+returns-in_default-clause-refused c = no_memory
+
+pub returns-in-Ok-new-clause-started : goal.returns-in-Ok-new-clause-started
+returns-in-Ok-new-clause-started c =
+    let checked = c.in_ok-checked.checked in
+    let templates = templates_of (program_of checked) in
+    let accepted : IsAcceptedText [] c.args.net.now templates = rw c.new-functions.ensures.types at c.in_ok-checked.ensures.accepted in
+    record {
+      templates = templates;
+      main = checked_main checked;
+      accepted = accepted;
+      runs = main_found checked accepted.accepted;
+      fresh = fed_on _ refl (c.in-Ok-new.ensures (alone templates) (checked_main checked) c.in-Ok.ensures.runs).0;
+    }
+
+pub returns-clause-refused : goal.returns-clause-refused
+returns-clause-refused c = no_memory

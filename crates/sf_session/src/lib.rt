@@ -1,0 +1,8 @@
+//! Runs that are fed their input piece by piece.
+#![tactic(auto)]
+
+mod nothing;
+mod room;
+mod session;
+
+pub use session::Session;
