@@ -15,9 +15,16 @@ PARTS = ("src", "specs", "proofs")
 NEEDED = 3_000_000
 
 
+def link(source, target):
+    """Gives a file a second name, or copies it where the file system has none: rt makes such a file anew, and never writes into it."""
+    try:
+        os.link(source, target)
+    except OSError:
+        shutil.copyfile(source, target)
+
+
 def linked(source, target):
-    """Gives the files of a folder second names in another: rt makes such a file anew, and never writes into it."""
-    shutil.copytree(source, target, copy_function=lambda one, other: os.link(one, other), dirs_exist_ok=True)
+    shutil.copytree(source, target, copy_function=link)
 
 
 def moved(source, target):
