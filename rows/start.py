@@ -19,8 +19,8 @@ TOP = os.path.join(HERE, "..")
 CRATES = "# lowest first\nlow: thiserror\nhigh: low\nsfplay: high clap\nsftypes: high\napart: low\n"
 BEGUN = (("low", 4), ("high", 3), ("sfplay, sftypes", 2))
 BUILT = "".join(f"sfplay: proving {crates}, {left} of 4 left\n" for crates, left in BEGUN)
-# It notes each call, proves all crates but the one that the file `broken` names, over the libraries of those below it, and builds the
-# programs below, or tries one. A proof or a try goes on as long as the file `lib` or `try` is there.
+# It notes each call, proves all crates but the one that the file `broken` names, where each crate that is listed has a folder, over the
+# libraries of those below it, and builds the programs below, or tries one. A proof or a try goes on as long as the file `lib` or `try` is there.
 RT = """#!/bin/sh
 echo "$*" >> "$TOP/calls"
 broken=$(cat "$TOP/broken" 2> /dev/null)
@@ -38,6 +38,7 @@ if [ "$1" = try ]; then
     exit $status
 elif [ "$1" = lib ]; then
     crate=${PWD##*/}
+    for listed in $(sed 's/#.*//; s/:.*//' ../../crates.txt); do [ -d ../$listed/src ] || { echo "there is no folder of $listed"; exit 1; }; done
     [ $crate != high ] || [ -e ../low/out/rlib/stamp ] || exit 1
     [ $crate != "$broken" ] || { echo 'why not'; exit 1; }
     mkdir -p out/rlib

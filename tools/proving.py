@@ -2,7 +2,7 @@
 
 rt holds the folders of a crate and of all below it, so in one checkout crates that stand on the same are proved one after another. Here
 each lane has a copy of the sources: what it makes of a crate goes to the checkout, and from there to other lanes, which read it there.
-Of the crates that wait for no other, one goes first behind which the longest way is left.
+Of the crates that wait for no other, one goes first behind which the longest way is left; it gets the processors that would be idle.
 """
 
 import os
@@ -39,10 +39,12 @@ class Workspace:
     def __init__(self, top, programs):
         self.top, self.programs, self.below = top, programs, {}
         with open(os.path.join(top, "crates.txt")) as file:
-            lines = [line.partition("#")[0].partition(":") for line in file]
-        listed = {name.split()[0]: used.split() for name, _, used in lines if name.strip()}
+            lines = [line.partition("#")[0].strip() for line in file]
+        listed = {line.partition(":")[0].split()[0]: line for line in lines if line}
         for program in programs:
             self.add(program, listed)
+        # (rt wants a folder for each crate that is listed)
+        self.listed = "".join(f"{line}\n" for crate, line in listed.items() if crate in self.below)
         self.ways = {}
         # (those above a crate stand behind it)
         for crate in reversed(self.below):
@@ -51,7 +53,7 @@ class Workspace:
 
     def add(self, crate, listed):
         if crate not in self.below:
-            used = [it for it in listed[crate] if it in listed]
+            used = [it for it in listed[crate].partition(":")[2].split() if it in listed]
             for it in used:
                 self.add(it, listed)
             self.below[crate] = {*used}.union(*(self.below[it] for it in used))
@@ -78,7 +80,8 @@ class Lane:
     def __init__(self, workspace, place):
         self.workspace, self.place, self.read = workspace, place, set()
         os.makedirs(place)
-        shutil.copy(os.path.join(workspace.top, "crates.txt"), place)
+        with open(os.path.join(place, "crates.txt"), "w") as file:
+            file.write(workspace.listed)
         for crate in workspace.below:
             for part in PARTS:
                 source = os.path.join(workspace.folder(crate), part)
@@ -94,8 +97,8 @@ class Lane:
         if os.path.isdir(made):
             linked(made, self.path(crate, "out", part))
 
-    def prove(self, crate, say):
-        """Proves a crate over those below it, and hands on what comes of it. Returns rt's status and what it said."""
+    def prove(self, crate, jobs, say):
+        """Proves a crate over those below it, with so many jobs, and hands on what comes of it. Returns rt's status and what it said."""
         workspace = self.workspace
         if crate in workspace.programs:
             # (its status is that of the program without words)
@@ -106,7 +109,7 @@ class Lane:
             self.read.add(it)
         for part in ("rlib", "incremental"):
             self.take(crate, part)
-        status, said = rt(["lib", "--jobs", "1"], self.path(crate), say)
+        status, said = rt(["lib", "--jobs", str(jobs)], self.path(crate), say)
         os.makedirs(workspace.out(crate, ""), exist_ok=True)
         for part in ("rlib", "incremental"):
             moved(self.path(crate, "out", part), workspace.out(crate, part))
@@ -145,10 +148,13 @@ def prove(top, programs, say, heard):
         with ThreadPoolExecutor(len(idle)) as pool:
             while running or (left and not failed):
                 begun = [] if failed else workspace.ready(left, done)[: len(idle)]
+                # (lanes that no crate is ready for help the first of these)
+                spare = len(idle) - len(begun)
                 for crate in begun:
                     left.remove(crate)
                     lane = idle.pop()
-                    running[pool.submit(lane.prove, crate, say)] = crate, lane
+                    running[pool.submit(lane.prove, crate, 1 + spare, say)] = crate, lane
+                    spare = 0
                 if begun:
                     proving = ", ".join(crate for crate, _ in running.values())
                     say(f"proving {proving}, {len(left) + len(running)} of {len(workspace.below)} left")
