@@ -5,8 +5,7 @@
 Typing: lines of definitions and of proofs of what has a type and what is refused for its types, in `sf_expr` and in `sf_check`, with
 the goals that are answered by hand. What differs, names of templates, and acceptance as a whole are not of these.
 Parameters: functions with seven or more, `self` and the allocator counted, by crate and in all, and the ones with most.
-Prepositions: words of definitions that are the same but for a preposition at their end, or for a `with` before them; the word without
-one is of the group. Aliases: names that an import gives to what it imports, and how many of these are different.
+Prepositions: words of definitions that are the same but for a preposition (`words.py`). Aliases: names that an import gives to what it imports, and how many of these are different.
 Answers: goals that are answered by hand, and those that say what a `?` hands on (`returns-in_err`, or an answer with what
 `from_residual` ensures), or what is returned behind one (`returns-in_ok`).
 Proofs: lines that import modules of proofs of another crate, and attributes that name one.
@@ -18,7 +17,7 @@ import sys
 from collections import Counter, defaultdict
 
 from surface import code_of, parts, within
-from words import defined
+from words import TEXTS, defined, groups, imports as imported
 
 MANY = 7
 # What is of typing: modules of specs and of proofs by name; of `sf_check`, what is not.
@@ -28,7 +27,6 @@ NOT_OF_TERMS = set(
     "Calling calling Alike Settled checker checked Lib".split()
 )
 HEAD = re.compile(r"\bfn (\w+)\s*(?:<(?:[^<>]|<[^<>]*>)*>)?\(")
-PREPOSITIONS = {"in", "at", "of", "under", "with", "from"}
 ALIAS = re.compile(r"([\w◌.:+≤≡<>=-]+) as (\w+)")
 ANSWER = re.compile(r"^pub (\S+) : goal\S*\n", re.MULTILINE)
 
@@ -58,31 +56,11 @@ def parameters(crates):
             yield len(parts(within(text[found.end() :]))), path.parts[len(crates.parts)], found[1]
 
 
-def stem(word):
-    """A word in small letters, without a preposition at its end and without a `with` before it."""
-    found = re.sub(r"(?<=[a-z])(?=[A-Z])", "_", word).lower().split("_")
-    if len(found) > 1 and found[-1] in PREPOSITIONS:
-        found.pop()
-    elif len(found) > 1 and found[0] == "with":
-        found.pop(0)
-    return word[0].isupper(), "_".join(found)
-
-
-def groups(crates):
-    found = defaultdict(set)
-    for path in crates.glob("*/specs/**/*.antt"):
-        for word in defined(path.read_text()):
-            found[stem(word)].add(word)
-    return [words for words in found.values() if len(words) > 1], sum(map(len, found.values()))
-
-
 def imports(crates):
     """The imports of all sources, definitions and proofs, and the crates whose proofs attributes name, file by file."""
-    for path in (found for kind in ("src/**/*.rt", "specs/**/*.antt", "proofs/**/*.antt") for found in crates.glob(f"*/{kind}")):
+    for path in (found for kind in TEXTS for found in crates.glob(f"*/{kind}")):
         text = path.read_text()
-        # (A source's import ends with a semicolon, a definition's with its line.)
-        uses = re.findall(r"^(?:pub |ghost )?use ([^;]*);" if path.suffix == ".rt" else r"^(?:pub )?use (.*)$", text, re.MULTILINE)
-        yield path, uses, re.findall(r"\b(\w+)::proofs::", text)
+        yield path, imported(path, text), re.findall(r"\b(\w+)::proofs::", text)
 
 
 def answers(crates):
@@ -99,8 +77,9 @@ def main():
     many = sorted((head for head in heads if head[0] >= MANY), reverse=True)
     print(f"parameters: {len(many)} of {len(heads)} functions have {MANY} or more:", *(f"{crate} {count}" for crate, count in Counter(crate for _, crate, _ in many).most_common()))
     print("most parameters:", ", ".join(f"{crate} {name} {count}" for count, crate, name in many[:5]))
-    alike, words = groups(crates)
-    print(f"prepositions: {len(alike)} groups, {sum(map(len, alike))} of {words} words; the largest:", *sorted(max(alike, key=len)))
+    words = {word for path in crates.glob("*/specs/**/*.antt") for word in defined(path.read_text())}
+    alike = groups(words)
+    print(f"prepositions: {len(alike)} groups, {sum(map(len, alike))} of {len(words)} words")
     aliases, lent = Counter(), []
     for path, uses, named in imports(crates):
         crate = path.relative_to(crates).parts[0]

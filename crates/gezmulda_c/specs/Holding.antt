@@ -11,7 +11,7 @@ use Rattle.sf_refusal.specs.declared.refusal.Refusal.{Refusal}
 use Rattle.sf_term.specs.Trees.{Template}
 use Rattle.sf_mean.specs.Meaning.{Network}
 use Rattle.sf_accept.specs.Refusals.{IsRefusedFor}
-use Rattle.sf_session.specs.Feeding.{IsStarted, IsLive, IsFed, HasEnded, IsTaken, waiting_in, status_in}
+use Rattle.sf_session.specs.Feeding.{IsStarted, IsLive, IsFed, HasEnded, IsTaken, session_waiting, session_status}
 use Rattle.sf_session.specs.declared.session.Session.{Session}
 use Rattle.sf_session.specs.contracts.session.Session.{the_row}
 
@@ -52,15 +52,15 @@ HoldsEnded (Some s) = HasEnded s
 -- what waits in a handle
 abbrev pub waiting_held : Option Session → List ℕ
 waiting_held None = []
-waiting_held (Some s) = waiting_in s
+waiting_held (Some s) = session_waiting s
 
 -- the status of the run in a handle
 abbrev pub status_held : Option Session → ℕ
 status_held None = 0
-status_held (Some s) = status_in s
+status_held (Some s) = session_status s
 
 -- as much of what waits in a handle as a room takes was written there, and the rest waits
-abbrev pub IsTakenFrom : Option Session → ℕ → List ℕ → Option Session → Type 0
-IsTakenFrom (Some s) count room (Some t) = IsTaken s count room t
-IsTakenFrom None count room o = ⊥
-IsTakenFrom (Some s) count room None = ⊥
+abbrev pub IsTakenByHandle : Option Session → ℕ → List ℕ → Option Session → Type 0
+IsTakenByHandle (Some s) count room (Some t) = IsTaken s count room t
+IsTakenByHandle None count room o = ⊥
+IsTakenByHandle (Some s) count room None = ⊥

@@ -2,7 +2,7 @@
 ghost use Rattle.std.specs.Prelude.{◌≡◌, ℕ, Bool, List, ◌++◌, Option, None, IsSome, length, min, take, drop};
 ghost use Rattle.sf_term.specs.Trees.{Template};
 ghost use Rattle.sf_mean.specs.Meaning.{Network};
-ghost use Rattle.gezmulda_c.specs.Holding.{MakesRun, HoldsRun, HoldsFed, HoldsEnded, IsTakenFrom, waiting_held, status_held};
+ghost use Rattle.gezmulda_c.specs.Holding.{MakesRun, HoldsRun, HoldsFed, HoldsEnded, IsTakenByHandle, waiting_held, status_held};
 
 use crate::handle::Handle;
 use sf_session::Session;
@@ -58,7 +58,7 @@ pub extern "C" fn gezmulda_feed(
 #[unsafe(no_mangle)]
 pub extern "C" fn gezmulda_take(alloc: Global, handle: &mut Handle, room: &mut [u8]) -> usize
     requires { IsSome handle.old.session }
-    ensures taken { IsTakenFrom handle.old.session result room.new handle.new.session }
+    ensures taken { IsTakenByHandle handle.old.session result room.new handle.new.session }
     ensures fed { (probes : Bool) (n : Network) (m : Template) (fed given : List ℕ)
         → HoldsFed probes n m fed given handle.old.session → HoldsFed probes n m fed (given ++ take result room.new) handle.new.session }
 {

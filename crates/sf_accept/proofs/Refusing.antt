@@ -10,7 +10,7 @@ use Rattle.sf_term.specs.Trees.{Templates}
 use Rattle.sf_term.specs.Arena.{templates_of}
 use Rattle.sf_mean.specs.Typing.{Accepted}
 use Rattle.sf_check.specs.declared.checked.Checked.{Checked}
-use Rattle.sf_check.specs.Accepting.{program_of}
+use Rattle.sf_check.specs.Accepting.{accepted_program}
 use Rattle.sf_check.specs.Refusing.{RefusesNetwork}
 use Rattle.sf_text.specs.Spelling.{IsNetworkText}
 use Rattle.sf_text.specs.Placing.{IsPlacedIn}
@@ -37,7 +37,7 @@ check_refused fs net p (Broken b) spelled placed why only =
 check_refused fs net p Memory spelled placed why only = no_memory
 
 -- a network that is accepted is that of the text
-pub reads : {fs : TypesByName} {net : List ℕ} (p : Program) (c : Checked) → IsNetworkText net (templates_of p) → Accepted fs (templates_of p) → program_of c ≡ p → IsAcceptedText fs net (templates_of (program_of c))
+pub reads : {fs : TypesByName} {net : List ℕ} (p : Program) (c : Checked) → IsNetworkText net (templates_of p) → Accepted fs (templates_of p) → accepted_program c ≡ p → IsAcceptedText fs net (templates_of (accepted_program c))
 reads {fs = fs} {net = net} p c spelled accepted same = record {
   text = subst (λ x. IsNetworkText net (templates_of x)) (sym same) spelled;
   accepted = subst (λ x. Accepted fs (templates_of x)) (sym same) accepted;

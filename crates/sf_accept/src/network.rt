@@ -3,7 +3,7 @@ ghost use Rattle.std.specs.Prelude.{OnOk, IfOk, IfErr};
 ghost use Rattle.sf_refusal.specs.Refusals.{OrMemory};
 ghost use Rattle.sf_term.specs.Trees.{Templates};
 ghost use Rattle.sf_term.specs.Arena.{templates_of};
-ghost use Rattle.sf_check.specs.Accepting.{program_of};
+ghost use Rattle.sf_check.specs.Accepting.{accepted_program};
 ghost use Rattle.sf_accept.specs.Refusals.{IsAcceptedText, IsNoNetwork, IsRefusedFor};
 ghost use Rattle.sf_accept.specs.Dumps.{IsDump};
 
@@ -18,7 +18,7 @@ use std::alloc::Global;
 /// bytes break: one of a text, as `sf_text::read_network` answers it, or one of a network, as `sf_check::check` does.
 /// `Memory` says nothing of the text.
 pub fn read_accepted(alloc: Global, net: &[u8], functions: &Registry) -> Result<Checked, Refusal>
-    ensures accepted { IfOk result (λ checked. IsAcceptedText (⟦<Registry as Holds>⟧.types functions.now) net.now (templates_of (program_of checked))) }
+    ensures accepted { IfOk result (λ checked. IsAcceptedText (⟦<Registry as Holds>⟧.types functions.now) net.now (templates_of (accepted_program checked))) }
     ensures refused { IfErr result (OrMemory (IsRefusedFor (⟦<Registry as Holds>⟧.types functions.now) net.now)) }
 {
     let program = read_network(alloc, net)?;

@@ -3,7 +3,7 @@ use Rattle.std.proofs.Common.{◌≡◌, ℕ, zero, suc, ◌+◌, ◌<◌, ◌�
 use Rattle.std.proofs.lemmas.Bool.{cases_eq, cases_lt}
 use Rattle.std.proofs.lemmas.List.{append-nil, length-append, get_or_append_left, get_or_past, get_or_push}
 use Rattle.std.proofs.Math.Seq.{get_or-append_seam}
-use Rattle.sf_arena.specs.Folded.{trees, tree_at}
+use Rattle.sf_arena.specs.Folded.{trees, folded_tree}
 use Rattle.std.proofs.lemmas.List.Elements.{All-get_or}
 use Rattle.sf_arena.specs.Items.{Added}
 use Rattle.sf_arena.specs.Shallow.{AreShallow}
@@ -108,26 +108,26 @@ module _ {A : Type 0} (old new : List A) (x : A) (n : ℕ) (added : Added old ne
 
   -- the trees of the nodes that were there stay, and that of the new one is made over them
   module _ {T : Type 0} (over : List T → A → T) (leaf : T) where
-    pub tree_kept : (i : ℕ) → i < length old → tree_at over leaf new i ≡ tree_at over leaf old i
-    unfolding tree_at
+    pub tree_kept : (i : ℕ) → i < length old → folded_tree over leaf new i ≡ folded_tree over leaf old i
+    unfolding folded_tree
     tree_kept i h = ap (λ xs. get_or (trees over xs) i leaf) added.grown ∙ tree-keeps over old x i leaf h
 
-    pub tree_added : tree_at over leaf new n ≡ over (trees over old) x
-    unfolding tree_at
+    pub tree_added : folded_tree over leaf new n ≡ over (trees over old) x
+    unfolding folded_tree
     tree_added = ap (λ xs. get_or (trees over xs) n leaf) added.grown ∙ tree-pushed over old x n leaf added.next
 
-    pub tree_other : (i : ℕ) → (i ≡ n → ⊥) → tree_at over leaf new i ≡ tree_at over leaf old i
-    unfolding tree_at
+    pub tree_other : (i : ℕ) → (i ≡ n → ⊥) → folded_tree over leaf new i ≡ folded_tree over leaf old i
+    unfolding folded_tree
     tree_other i h = ap (λ xs. get_or (trees over xs) i leaf) added.grown ∙ tree-other over old x i leaf (λ e. h (e ∙ sym added.next))
 
     -- what holds of each node and its tree
-    pub each_tree : (P : ℕ → A → T → Type 0) (none : A) → ((i : ℕ) → P i (get_or old i none) (tree_at over leaf old i)) → P n x (over (trees over old) x) → (i : ℕ) → P i (get_or new i none) (tree_at over leaf new i)
+    pub each_tree : (P : ℕ → A → T → Type 0) (none : A) → ((i : ℕ) → P i (get_or old i none) (folded_tree over leaf old i)) → P n x (over (trees over old) x) → (i : ℕ) → P i (get_or new i none) (folded_tree over leaf new i)
     each_tree P none before here i = ⊎_elim at other (cases_eq i n)
       where
-        at : i ≡ n → P i (get_or new i none) (tree_at over leaf new i)
+        at : i ≡ n → P i (get_or new i none) (folded_tree over leaf new i)
         at e = rw (e, added_item none, tree_added) here
 
-        other : (i ≡ n → ⊥) → P i (get_or new i none) (tree_at over leaf new i)
+        other : (i ≡ n → ⊥) → P i (get_or new i none) (folded_tree over leaf new i)
         other q = rw (item_other i none q, tree_other i q) (before i)
 
 -- A node's tree is made over the trees of all nodes, where its parts stand before it.
@@ -155,8 +155,8 @@ module _ {N T : Type 0} (over : List T → N → T) (needs : N → ℕ) (none : 
       ap (λ i. get_or (steps over [] ns) i d) (omega arith) ∙ built [] ns j d (λ i q. omega (arith, h i)) b
 
   -- the tree with a number is made over all trees, where what stands past the end makes the tree that stands there
-  pub tree_made : (ns : List N) (leaf : T) → ((ts : List T) → over ts none ≡ leaf) → ((i : ℕ) → needs (get_or ns i none) ≤ i) → (i : ℕ) → tree_at over leaf ns i ≡ over (trees over ns) (get_or ns i none)
-  unfolding tree_at
+  pub tree_made : (ns : List N) (leaf : T) → ((ts : List T) → over ts none ≡ leaf) → ((i : ℕ) → needs (get_or ns i none) ≤ i) → (i : ℕ) → folded_tree over leaf ns i ≡ over (trees over ns) (get_or ns i none)
+  unfolding folded_tree
   tree_made ns leaf makes h i = ⊎_elim (λ q. tree-built ns i leaf h q) past (cases_lt i (length ns))
     where
       past : length ns ≤ i → get_or (trees over ns) i leaf ≡ over (trees over ns) (get_or ns i none)

@@ -10,5 +10,5 @@ unfoldable pub trees : {N T : Type 0} → (List T → N → T) → List N → Li
 trees over nodes = fold (λ ts n. ts ++ over ts n ∷ []) [] nodes
 
 -- the tree of the node with a number; `none` past the end
-unfoldable pub tree_at : {N T : Type 0} → (List T → N → T) → T → List N → ℕ → T
-tree_at over none nodes i = slice_index_or (trees over nodes) i none
+unfoldable pub folded_tree : {N T : Type 0} → (List T → N → T) → T → List N → ℕ → T
+folded_tree over none nodes i = slice_index_or (trees over nodes) i none

@@ -11,7 +11,7 @@ use Rattle.sf_value.specs.Values.{Name}
 use Rattle.sf_func.specs.Registries.{TypesByName}
 use Rattle.sf_term.specs.declared.program.Program.{Program}
 use Rattle.sf_term.specs.Trees.{Template, Templates}
-use Rattle.sf_term.specs.Arena.{headers_of, templates_of, template_in}
+use Rattle.sf_term.specs.Arena.{headers_of, templates_of, term_template}
 use Rattle.sf_mean.specs.Networks.{main_of}
 use Rattle.sf_mean.specs.Typing.{IsTyped, Accepted}
 use Rattle.sf_refusal.specs.declared.spot.Spot.{Spot}
@@ -73,12 +73,12 @@ module _ (p : Program) where
       let qs = parameters_of h.parameters in
       let q = mapped (λ (q : Name × NameKind). q.0) qs k.repeats.earlier k.repeats.name k.repeats.there in
       let r = mapped (λ (q : Name × NameKind). q.0) qs k.place k.repeats.name k.repeats.here in
-      accepted.different_parameters i k.repeats.earlier k.place (template_in p h) q.0 r.0 (template_at p i h at) k.repeats.before q.1 r.1 (q.2 ∙ sym r.2)
+      accepted.different_parameters i k.repeats.earlier k.place (term_template p h) q.0 r.0 (template_at p i h at) k.repeats.before q.1 r.1 (q.2 ∙ sym r.2)
 
 -- a network that breaks a rule is not accepted
 pub refused_network : (fs : TypesByName) (p : Program) (b : Breach) → RefusesNetwork fs p b → Accepted fs (templates_of p) → ⊥
 refused_network fs p b (name_refused {spot = s} h) accepted = header_again p fs h.place h.header s h.at h.again accepted
-refused_network fs p b (type_refused different h) accepted = template_untyped h.broken (accepted.typed h.place (template_in p h.header) (template_at p h.place h.header h.at))
+refused_network fs p b (type_refused different h) accepted = template_untyped h.broken (accepted.typed h.place (term_template p h.header) (template_at p h.place h.header h.at))
 refused_network fs p b (endless_refused {spot = s} different typed h) accepted = endless_somewhere p s different.templates h accepted.endless
 refused_network fs p b (main_missing different typed nowhere none) accepted = none accepted.has_main.0 accepted.has_main.1 accepted.has_main.2
 

@@ -15,17 +15,18 @@ use Rattle.sf_expr.specs.declared.exprs.Exprs.{Exprs}
 use Rattle.sf_arena.specs.declared.entry.Entry.{Entry}
 use Rattle.sf_arena.specs.Arenas.{entries_of}
 use Rattle.sf_expr.specs.Entries.{zero_entry}
-use Rattle.sf_expr.specs.Arena.{id_number, count_of, node_at, entry_of, expression, body_at, PartsBelow, Builds, builds_unit, builds_truth, builds_constant, builds_int, builds_name, builds_pair, builds_applied, builds_operation, builds_conditional, builds_mapped, builds_folded, builds_called}
+use Rattle.sf_expr.specs.Arena.{id_number, arena_count, node_at, entry_of, expression, body_id, PartsBelow, Builds, builds_unit, builds_truth, builds_constant, builds_int, builds_name, builds_pair, builds_applied, builds_operation, builds_conditional, builds_mapped, builds_folded, builds_called}
 use Rattle.sf_expr.specs.Expressions.{Pattern, Expression, variable, literal, paired, applied, operation, conditional, mapped, folded, called, Function, function}
-use Rattle.sf_expr.specs.Typing.{Names, functions_of, with_types, call_kind, AddsNames, adds_nothing, adds_name, adds_both, Binds, HasType, variable_has, literal_has, pair_has, applied_has, operation_has, conditional_has, mapped_has, folded_has, called_has, FunctionTakes, function_takes}
+use Rattle.sf_expr.specs.Typing.{Names, functions_of, names_and_functions, call_kind, AddsNames, adds_nothing, adds_name, adds_both, Binds, HasType, variable_has, literal_has, pair_has, applied_has, operation_has, conditional_has, mapped_has, folded_has, called_has, FunctionTakes, function_takes}
 use Rattle.sf_expr.proofs.Bound.{type_with, functions_with, binds_with}
 use Rattle.sf_expr.proofs.Entered.{node_builds, parts_below}
-use Rattle.sf_term.proofs.Kept.{parts_below as term_parts_below, expression_in, function_at_in}
+use Rattle.sf_term.proofs.Extended.{expression_in, function_at_in}
+use Rattle.sf_term.proofs.Extended
 use Rattle.sf_term.specs.declared.form.Naming.TheVariants.{Process, Probe}
 use Rattle.sf_term.specs.declared.node.TermId.{TermId}
 use Rattle.sf_term.specs.declared.node.Argument.{Argument}
 use Rattle.sf_term.specs.declared.node.Argument.TheVariants as arguments
-use Rattle.sf_term.specs.declared.node.Primitive.{Primitive as PrimitiveNode}
+use Rattle.sf_term.specs.declared.node.Primitive as primitive_nodes
 use Rattle.sf_term.specs.declared.node.Primitive.TheVariants as primitives
 use Rattle.sf_term.specs.declared.node.Node.{Node}
 use Rattle.sf_term.specs.declared.node.Node.TheVariants as terms
@@ -33,10 +34,10 @@ use Rattle.sf_term.specs.declared.collection.CollExpr.{CollExpr}
 use Rattle.sf_term.specs.declared.collection.CollExpr.TheVariants as collections
 use Rattle.sf_term.specs.declared.program.Program.{Program}
 use Rattle.sf_term.specs.Headers.{Header}
-use Rattle.sf_term.specs.Trees.{Primitive, bare, probe, never, with_value, timed, selected, arrow, accumulated, fused, Term, primitive, Reference, reference, started, call, Arguments, no_arguments, value_argument, process_argument, collection_argument, closed_argument, joined, sided, headed, transformed, switching, keeping, gathered, releasing, editing, staged, Collection, without_members, used, added, dropped, kept, chosen, Template, Templates}
-use Rattle.sf_term.specs.Arena.{term_number, tree, term_node_at, term_entry_of, expressions_of, expression_under, arguments_under, arguments_of, headers_of, template_in, templates_of, collection_under, collection_of, ArgumentBelow, CollectionBelow, TermPartsBelow}
-use Rattle.sf_mean.specs.Contexts.{NameKind, value, process, collection, Bindings, parameters_inside, context_with, bindings_inside, with_name_of, values_in}
-use Rattle.sf_mean.specs.Typing.{PrimitiveTakes, bare_takes, probe_takes, never_takes, value_takes, timed_takes, selected_takes, accumulated_takes, arrow_takes, fused_takes, Takes, takes, FormTakes, primitive_takes, started_takes, call_takes, ArgumentsFit, no_argument_fits, value_fits, process_fits, collection_fits, closed_fits, sequence_takes, parallel_takes, fan_takes, first_takes, second_takes, loop_takes, initialized_takes, replaced_takes, followed_takes, transformed_takes, switch_takes, recurring_takes, keeping_takes, gathered_takes, releasing_takes, editing_takes, stages_take, Collects, collects_none, collects_used, collects_added, collects_dropped, collects_kept, collects_chosen, Accepted}
+use Rattle.sf_term.specs.Trees.{Primitive, bare, probe, never, with_value, timed, selected, arrow, accumulated, fused, Term, primitive, Reference, reference, started, call, Arguments, no_arguments, value_argument, process_argument, collection_argument, closed_argument, joined, sided, headed, transformed, switching, continuing, gathered, releasing, editing, staged, Collection, without_members, used, added, dropped, kept, chosen, Template, Templates}
+use Rattle.sf_term.specs.Arena.{term_number, tree, term_node_at, program_entry, program_expressions, program_expression, argument_nodes, arguments_of, headers_of, term_template, templates_of, collection_node, collection_of, ArgumentBelow, CollectionBelow, TermPartsBelow}
+use Rattle.sf_mean.specs.Contexts.{NameKind, value, process, collection, Bindings, parameters_inside, outer_context, bindings_inside, with_name_of, bound_values}
+use Rattle.sf_mean.specs.Typing.{PrimitiveTakes, bare_takes, probe_takes, never_takes, value_takes, timed_takes, selected_takes, accumulated_takes, arrow_takes, fused_takes, Takes, takes, FormTakes, primitive_takes, started_takes, call_takes, ArgumentsFit, no_argument_fits, value_fits, process_fits, collection_fits, closed_fits, sequence_takes, parallel_takes, fan_takes, first_takes, second_takes, loop_takes, initialized_takes, replaced_takes, followed_takes, transformed_takes, switch_takes, recurring_takes, continuing_takes, gathered_takes, releasing_takes, editing_takes, stages_take, Collects, collects_none, collects_used, collects_added, collects_dropped, collects_kept, collects_chosen, Accepted}
 use Rattle.sf_check.specs.Answering.{primitive_in}
 use Rattle.sf_check.specs.Calling.{IsCalledAlike, AreCalledAlike}
 use Rattle.sf_check.proofs.Made.{made, tree_made}
@@ -81,7 +82,7 @@ module _ (fs gs : TypesByName) where
     TermAlike (headed h e t) = Alike e × TermAlike t
     TermAlike (transformed f t) = FunctionAlike f × TermAlike t
     TermAlike (switching w t p u) = TermAlike t × TermAlike u
-    TermAlike (keeping w t q k p u) = TermAlike t × TermAlike q × TermAlike u
+    TermAlike (continuing w t q k p u) = TermAlike t × TermAlike q × TermAlike u
     TermAlike (gathered i) = CollectionAlike i
     TermAlike (releasing w i q k p u) = CollectionAlike i × TermAlike q × TermAlike u
     TermAlike (editing w i k p u) = CollectionAlike i × CollectionAlike u
@@ -111,7 +112,7 @@ module _ (fs gs : TypesByName) where
   adds_functions adds_name = refl
   adds_functions (adds_both a b) = adds_functions b ∙ adds_functions a
 
-  typed_over : {R : Names} {e : Expression} {t : Kind} → functions_of R ≡ fs → Alike e → HasType R e t → HasType (with_types gs R) e t
+  typed_over : {R : Names} {e : Expression} {t : Kind} → functions_of R ≡ fs → Alike e → HasType R e t → HasType (names_and_functions gs R) e t
   typed_over {R = R} q k (variable_has {x = x} h f) = variable_has (type_with gs x R ∙ h) f
   typed_over q k (literal_has h f) = literal_has h f
   typed_over q k (pair_has a b f) = pair_has (typed_over q k.0 a) (typed_over q k.1 b) f
@@ -121,11 +122,11 @@ module _ (fs gs : TypesByName) where
   typed_over q k (mapped_has a m f B b e g) = mapped_has (typed_over q k.0 a) m f (binds_with gs B) (typed_over (adds_functions B.adds ∙ q) k.1 b) e g
   typed_over q k (folded_has a b m f B c e g) = folded_has (typed_over q k.0 a) (typed_over q k.1 b) m f (binds_with gs B) (typed_over (adds_functions B.adds ∙ q) k.2 c) e g
   typed_over {R = R} q k (called_has {g = g} {t = t} a e f) =
-      let same : types_named g (functions_of (with_types gs R)) ≡ types_named g (functions_of R) =
+      let same : types_named g (functions_of (names_and_functions gs R)) ≡ types_named g (functions_of R) =
       ap (types_named g) (functions_with gs R) ∙ sym k.1 ∙ ap (types_named g) (sym q) in
       called_has (typed_over q k.0 a) (ap (λ o. call_kind o t) same ∙ e) f
 
-  function_over : {R : Names} {f : Function} {a b : Kind} → functions_of R ≡ fs → FunctionAlike f → FunctionTakes R f a b → FunctionTakes (with_types gs R) f a b
+  function_over : {R : Names} {f : Function} {a b : Kind} → functions_of R ≡ fs → FunctionAlike f → FunctionTakes R f a b → FunctionTakes (names_and_functions gs R) f a b
   function_over q k (function_takes fits B h) = function_takes fits (binds_with gs B) (typed_over (adds_functions B.adds ∙ q) k h)
 
   -- names that are bound have the same types with the other functions
@@ -134,33 +135,33 @@ module _ (fs gs : TypesByName) where
   functions_beside x (process a b) R = refl
   functions_beside x (collection k a b) R = refl
 
-  functions_around : (bs : Bindings) → functions_of (values_in fs bs) ≡ fs
+  functions_around : (bs : Bindings) → functions_of (bound_values fs bs) ≡ fs
   functions_around [] = refl
-  functions_around (b ∷ bs) = functions_beside b.0 b.1 (values_in fs bs) ∙ functions_around bs
+  functions_around (b ∷ bs) = functions_beside b.0 b.1 (bound_values fs bs) ∙ functions_around bs
 
-  types_beside : (x : Name) (k : NameKind) (R : Names) → with_types gs (with_name_of x k R) ≡ with_name_of x k (with_types gs R)
+  types_beside : (x : Name) (k : NameKind) (R : Names) → names_and_functions gs (with_name_of x k R) ≡ with_name_of x k (names_and_functions gs R)
   types_beside x (value t) R = refl
   types_beside x (process a b) R = refl
   types_beside x (collection k a b) R = refl
 
-  types_around : (bs : Bindings) → with_types gs (values_in fs bs) ≡ values_in gs bs
+  types_around : (bs : Bindings) → names_and_functions gs (bound_values fs bs) ≡ bound_values gs bs
   types_around [] = refl
-  types_around (b ∷ bs) = types_beside b.0 b.1 (values_in fs bs) ∙ ap (with_name_of b.0 b.1) (types_around bs)
+  types_around (b ∷ bs) = types_beside b.0 b.1 (bound_values fs bs) ∙ ap (with_name_of b.0 b.1) (types_around bs)
 
   module _ (bs : Bindings) where
-    typed_around : {e : Expression} {t : Kind} → Alike e → HasType (values_in fs bs) e t → HasType (values_in gs bs) e t
+    typed_around : {e : Expression} {t : Kind} → Alike e → HasType (bound_values fs bs) e t → HasType (bound_values gs bs) e t
     typed_around {e} {t} k h = subst (λ R. HasType R e t) (types_around bs) (typed_over (functions_around bs) k h)
 
-    function_around : {f : Function} {a b : Kind} → FunctionAlike f → FunctionTakes (values_in fs bs) f a b → FunctionTakes (values_in gs bs) f a b
+    function_around : {f : Function} {a b : Kind} → FunctionAlike f → FunctionTakes (bound_values fs bs) f a b → FunctionTakes (bound_values gs bs) f a b
     function_around {f} {a} {b} k h = subst (λ R. FunctionTakes R f a b) (types_around bs) (function_over (functions_around bs) k h)
 
-    bound_around : {p : Pattern} {t : Kind} → Binds p t (values_in fs bs) (values_in fs (bindings_inside p t bs)) → Binds p t (values_in gs bs) (values_in gs (bindings_inside p t bs))
+    bound_around : {p : Pattern} {t : Kind} → Binds p t (bound_values fs bs) (bound_values fs (bindings_inside p t bs)) → Binds p t (bound_values gs bs) (bound_values gs (bindings_inside p t bs))
     bound_around {p} {t} h =
-        let S = values_in gs (bindings_inside p t bs) in
-        subst (λ R. Binds p t R S) (types_around bs) (subst (Binds p t (with_types gs (values_in fs bs))) (types_around (bindings_inside p t bs)) (binds_with gs h))
+        let S = bound_values gs (bindings_inside p t bs) in
+        subst (λ R. Binds p t R S) (types_around bs) (subst (Binds p t (names_and_functions gs (bound_values fs bs))) (types_around (bindings_inside p t bs)) (binds_with gs h))
 
   module _ (ts : Templates) where
-    primitive_over : (bs : Bindings) {p : Primitive} {a b : Kind} → PrimitiveAlike p → PrimitiveTakes (context_with fs bs ts) p a b → PrimitiveTakes (context_with gs bs ts) p a b
+    primitive_over : (bs : Bindings) {p : Primitive} {a b : Kind} → PrimitiveAlike p → PrimitiveTakes (outer_context fs bs ts) p a b → PrimitiveTakes (outer_context gs bs ts) p a b
     primitive_over bs k (bare_takes h f) = bare_takes h f
     primitive_over bs k (probe_takes f) = probe_takes f
     primitive_over bs k (never_takes f) = never_takes f
@@ -172,10 +173,10 @@ module _ (fs gs : TypesByName) where
     primitive_over bs k (fused_takes h f) = absurd k
 
     mutual
-      pub takes_over : (bs : Bindings) {t : Term} {a b : Kind} → TermAlike t → Takes (context_with fs bs ts) t a b → Takes (context_with gs bs ts) t a b
+      pub takes_over : (bs : Bindings) {t : Term} {a b : Kind} → TermAlike t → Takes (outer_context fs bs ts) t a b → Takes (outer_context gs bs ts) t a b
       takes_over bs k (takes p q F) = takes p q (form_over bs k F)
 
-      form_over : (bs : Bindings) {t : Term} {a b : Kind} → TermAlike t → FormTakes (context_with fs bs ts) t a b → FormTakes (context_with gs bs ts) t a b
+      form_over : (bs : Bindings) {t : Term} {a b : Kind} → TermAlike t → FormTakes (outer_context fs bs ts) t a b → FormTakes (outer_context gs bs ts) t a b
       form_over bs k (primitive_takes T) = primitive_takes (primitive_over bs k T)
       form_over bs k (started_takes h) = started_takes h
       form_over bs k (call_takes h fit) = call_takes h (arguments_over bs k fit)
@@ -191,9 +192,9 @@ module _ (fs gs : TypesByName) where
       form_over bs k (transformed_takes f t) = transformed_takes (function_around bs k.0 f) (takes_over bs k.1 t)
       form_over bs k (switch_takes {p = p} {c = c} t h u) = switch_takes (takes_over bs k.0 t) (bound_around bs h) (takes_over (bindings_inside p c bs) k.1 u)
       form_over bs k (recurring_takes {p = p} {c = c} t h u) = recurring_takes (takes_over bs k.0 t) (bound_around bs h) (takes_over (bindings_inside p c bs) k.1 u)
-      form_over bs k (keeping_takes {k = x} {p = p} {a = a} {b = b} {c = c} t q h u) =
+      form_over bs k (continuing_takes {k = x} {p = p} {a = a} {b = b} {c = c} t q h u) =
           let inner : Bindings = (x, process a b) ∷ bs in
-          keeping_takes (takes_over bs k.0 t) (takes_over bs k.1 q) (bound_around inner h) (takes_over (bindings_inside p c inner) k.2 u)
+          continuing_takes (takes_over bs k.0 t) (takes_over bs k.1 q) (bound_around inner h) (takes_over (bindings_inside p c inner) k.2 u)
       form_over bs k (gathered_takes i) = gathered_takes (collects_over bs k i)
       form_over bs k (releasing_takes {x = x} {p = p} {k = l} {a = a} {b = b} {c = c} i q h u) =
           let inner : Bindings = (x, collection l a b) ∷ bs in
@@ -203,7 +204,7 @@ module _ (fs gs : TypesByName) where
           editing_takes (collects_over bs k.0 i) (bound_around inner h) (collects_over (bindings_inside p c inner) k.1 u)
       form_over bs k (stages_take f g) = absurd k
 
-      collects_over : (bs : Bindings) {i : Collection} {k : KeyKind} {a b : Kind} → CollectionAlike i → Collects (context_with fs bs ts) i k a b → Collects (context_with gs bs ts) i k a b
+      collects_over : (bs : Bindings) {i : Collection} {k : KeyKind} {a b : Kind} → CollectionAlike i → Collects (outer_context fs bs ts) i k a b → Collects (outer_context gs bs ts) i k a b
       collects_over bs k collects_none = collects_none
       collects_over bs k (collects_used h) = collects_used h
       collects_over bs k (collects_added i j t) = collects_added (collects_over bs k.0 i) (typed_around bs k.1 j) (takes_over bs k.2 t)
@@ -211,7 +212,7 @@ module _ (fs gs : TypesByName) where
       collects_over bs k (collects_kept i f) = collects_kept (collects_over bs k.0 i) (function_around bs k.1 f)
       collects_over bs k (collects_chosen j a b) = collects_chosen (typed_around bs k.0 j) (collects_over bs k.1 a) (collects_over bs k.2 b)
 
-      arguments_over : (bs : Bindings) {vs : Arguments} {qs : Bindings} → ArgumentsAlike vs → ArgumentsFit (context_with fs bs ts) vs qs → ArgumentsFit (context_with gs bs ts) vs qs
+      arguments_over : (bs : Bindings) {vs : Arguments} {qs : Bindings} → ArgumentsAlike vs → ArgumentsFit (outer_context fs bs ts) vs qs → ArgumentsFit (outer_context gs bs ts) vs qs
       arguments_over bs k no_argument_fits = no_argument_fits
       arguments_over bs k (value_fits h rest) = value_fits (typed_around bs k.0 h) (arguments_over bs k.1 rest)
       arguments_over bs k (process_fits h rest) = process_fits (takes_over bs k.0 h) (arguments_over bs k.1 rest)
@@ -246,53 +247,53 @@ module _ (fs gs : TypesByName) where
     pub expression_alike : (i : ExprId) → Alike (expression x i)
     expression_alike i = alike_within (suc (id_number i)) i (omega arith)
 
-    pub node_alike : (q : PrimitiveNode) → PrimitiveAlike (primitive_in x q)
+    pub node_alike : (q : primitive_nodes.Primitive) → PrimitiveAlike (primitive_in x q)
     node_alike (primitives.Bare k) = tt
     node_alike (primitives.Never n) = tt
     node_alike (primitives.WithValue k e) = expression_alike e
-    node_alike (primitives.Arrow f) = expression_alike (body_at x f)
+    node_alike (primitives.Arrow f) = expression_alike (body_id x f)
     node_alike (primitives.Timed k q e) = expression_alike e
     node_alike (primitives.Selected k n) = tt
-    node_alike (primitives.Accumulated k e f) = (expression_alike e, expression_alike (body_at x f))
+    node_alike (primitives.Accumulated k e f) = (expression_alike e, expression_alike (body_id x f))
 
   -- ## Programs
 
-  module _ (p : Program) (all : AreCalledAlike (expressions_of p) fs gs) where
-    expression_in_alike : (e : ExprId) → Alike (expression_under p e)
-    expression_in_alike e = subst Alike (expression_in p e) (expression_alike (expressions_of p) all e)
+  module _ (p : Program) (all : AreCalledAlike (program_expressions p) fs gs) where
+    expression_in_alike : (e : ExprId) → Alike (program_expression p e)
+    expression_in_alike e = subst Alike (expression_in p e) (expression_alike (program_expressions p) all e)
 
     collection_alike : (c : CollExpr) (k : ℕ) → CollectionBelow k c → ((j : TermId) → term_number j < k → TermAlike (tree p j)) → CollectionAlike (collection_of p c)
     collection_alike (collections.Empty l t s) k b parts = tt
     collection_alike (collections.Used x r s) k b parts = tt
     collection_alike (collections.Added' o c e t s) k b parts = (collection_alike c k b.0 parts, expression_in_alike e, parts t b.1)
     collection_alike (collections.Dropped' o c e s) k b parts = (collection_alike c k b parts, expression_in_alike e)
-    collection_alike (collections.Kept' o c f s) k b parts = (collection_alike c k b parts, subst FunctionAlike (function_at_in p f) (expression_alike (expressions_of p) all (body_at (expressions_of p) f)))
+    collection_alike (collections.Kept' o c f s) k b parts = (collection_alike c k b parts, subst FunctionAlike (function_at_in p f) (expression_alike (program_expressions p) all (body_id (program_expressions p) f)))
     collection_alike (collections.Chosen' e o c r d s) k b parts = (expression_in_alike e, collection_alike c k b.0 parts, collection_alike d k b.1 parts)
 
     arguments_alike : (vs : List Argument) (k : ℕ) → All (ArgumentBelow p k) vs → ((j : TermId) → term_number j < k → TermAlike (tree p j)) → ArgumentsAlike (arguments_of p vs)
     arguments_alike [] k b parts = tt
     arguments_alike (arguments.Value e ∷ vs) k b parts = (expression_in_alike e, arguments_alike vs k (All-tail (ArgumentBelow p k) (arguments.Value e) vs b) parts)
     arguments_alike (arguments.Process t ∷ vs) k b parts = (parts t (All-head (ArgumentBelow p k) (arguments.Process t) vs b), arguments_alike vs k (All-tail (ArgumentBelow p k) (arguments.Process t) vs b) parts)
-    arguments_alike (arguments.Collection i ∷ vs) k b parts = (collection_alike (collection_under p i) k (All-head (ArgumentBelow p k) (arguments.Collection i) vs b) parts, arguments_alike vs k (All-tail (ArgumentBelow p k) (arguments.Collection i) vs b) parts)
+    arguments_alike (arguments.Collection i ∷ vs) k b parts = (collection_alike (collection_node p i) k (All-head (ArgumentBelow p k) (arguments.Collection i) vs b) parts, arguments_alike vs k (All-tail (ArgumentBelow p k) (arguments.Collection i) vs b) parts)
 
     made_alike : (n : Node) (k : ℕ) → TermPartsBelow p n k → ((j : TermId) → term_number j < k → TermAlike (tree p j)) → TermAlike (made p n)
-    made_alike (terms.Primitive q) k b parts = node_alike (expressions_of p) all q
+    made_alike (terms.Primitive q) k b parts = node_alike (program_expressions p) all q
     made_alike (terms.Named (Process w) x s) k b parts = tt
     made_alike (terms.Named Probe x s) k b parts = tt
-    made_alike (terms.Call x vs) k b parts = arguments_alike (arguments_under p vs) k b parts
+    made_alike (terms.Call x vs) k b parts = arguments_alike (argument_nodes p vs) k b parts
     made_alike (terms.Joined j f g) k b parts = (parts f b.0, parts g b.1)
     made_alike (terms.Sided d f) k b parts = parts f b
-    made_alike (terms.Headed h v f) k b parts = (expression_alike (expressions_of p) all v, parts f b)
-    made_alike (terms.Transformed g f) k b parts = (expression_alike (expressions_of p) all (body_at (expressions_of p) g), parts f b)
+    made_alike (terms.Headed h v f) k b parts = (expression_alike (program_expressions p) all v, parts f b)
+    made_alike (terms.Transformed g f) k b parts = (expression_alike (program_expressions p) all (body_id (program_expressions p) g), parts f b)
     made_alike (terms.Switching n) k b parts = (parts n.source b.0, parts n.body b.1)
-    made_alike (terms.Keeping n) k b parts = (parts n.source b.0, parts n.observer b.1, parts n.body b.2)
-    made_alike (terms.Gathered i) k b parts = collection_alike (collection_under p i) k b parts
-    made_alike (terms.Releasing n) k b parts = (collection_alike (collection_under p n.members) k b.0 parts, parts n.observer b.1, parts n.body b.2)
-    made_alike (terms.Editing n) k b parts = (collection_alike (collection_under p n.members) k b.0 parts, collection_alike (collection_under p n.edit) k b.1 parts)
+    made_alike (terms.Continuation n) k b parts = (parts n.source b.0, parts n.observer b.1, parts n.body b.2)
+    made_alike (terms.Gathered i) k b parts = collection_alike (collection_node p i) k b parts
+    made_alike (terms.Releasing n) k b parts = (collection_alike (collection_node p n.members) k b.0 parts, parts n.observer b.1, parts n.body b.2)
+    made_alike (terms.Editing n) k b parts = (collection_alike (collection_node p n.members) k b.0 parts, collection_alike (collection_node p n.edit) k b.1 parts)
 
     term_parts : (t : TermId) → TermPartsBelow p (term_node_at p t) (term_number t)
-    unfolding term_node_at term_entry_of
-    term_parts t = term_parts_below p t
+    unfolding term_node_at program_entry
+    term_parts t = Extended.parts_below p t
 
     tree_within : (fuel : ℕ) (t : TermId) → term_number t < fuel → TermAlike (tree p t)
     tree_within zero t h = absurd (omega arith)
@@ -305,9 +306,9 @@ module _ (fs gs : TypesByName) where
     template_alike i t at = each (slice_get (headers_of p) i) refl
       where
         each : (o : Option Header) → slice_get (headers_of p) i ≡ o → TermAlike t.body
-        each None e = absurd (none-some t (ap (option_map (template_in p)) (sym e) ∙ sym (slice_get-map (template_in p) (headers_of p) i) ∙ at))
+        each None e = absurd (none-some t (ap (option_map (term_template p)) (sym e) ∙ sym (slice_get-map (term_template p) (headers_of p) i) ∙ at))
         each (Some h) e =
-            let same : template_in p h ≡ t = same_Some _ _ (ap (option_map (template_in p)) (sym e) ∙ sym (slice_get-map (template_in p) (headers_of p) i) ∙ at) in
+            let same : term_template p h ≡ t = same_Some _ _ (ap (option_map (term_template p)) (sym e) ∙ sym (slice_get-map (term_template p) (headers_of p) i) ∙ at) in
             subst (λ (t : Template). TermAlike t.body) same (tree_alike h.body)
 
     pub accepted_over : Accepted fs (templates_of p) → Accepted gs (templates_of p)
@@ -327,8 +328,8 @@ same_id : (i j : ExprId) → id_number i ≡ id_number j → i ≡ j
 same_id i j e = (λ k. record { 0 = e k })
 
 -- past the end nothing is called
-past_alike : (x : Exprs) (fs gs : TypesByName) (i : ExprId) → count_of x ≤ id_number i → IsCalledAlike x fs gs (node_at x i)
-unfolding count_of node_at
+past_alike : (x : Exprs) (fs gs : TypesByName) (i : ExprId) → arena_count x ≤ id_number i → IsCalledAlike x fs gs (node_at x i)
+unfolding arena_count node_at
 past_alike x fs gs i h g s a e =
     let zero : nodes.Int (pos 0) ≡ nodes.Called g s a = ap (λ (n : Entry ExprNode). n.node) (sym (get_or_past (entries_of x.arena) i.0 zero_entry h)) ∙ e in
     absurd cc
@@ -340,5 +341,5 @@ module _ (x : Exprs) (fs gs : TypesByName) (n : ℕ) (below : (i : ExprId) → i
     | inr here ↦ subst (λ (i : ExprId). IsCalledAlike x fs gs (node_at x i)) (sym (same_id i j (here ∙ sym at))) h
   ]
 
-  pub all_alike : count_of x ≤ n → AreCalledAlike x fs gs
+  pub all_alike : arena_count x ≤ n → AreCalledAlike x fs gs
   all_alike most i = elim (cases_lt (id_number i) n) [ inl k ↦ below i k | inr k ↦ past_alike x fs gs i (omega (arith, k, most)) ]

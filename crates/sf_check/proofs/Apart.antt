@@ -30,8 +30,8 @@ use Rattle.sf_term.specs.declared.collection.CollectionId.{CollectionId}
 use Rattle.sf_term.specs.declared.program.Program.{Program}
 use Rattle.sf_term.specs.Headers.{Header}
 use Rattle.sf_term.specs.Parameters.{parameters_of}
-use Rattle.sf_term.specs.Arena.{tree, term_node_at, term_spot_at, expressions_of, arguments_under, collection_under, templates_of}
-use Rattle.sf_mean.specs.Contexts.{NameKind, Bindings, Signature, signature_named, Context, names_of_values, context_of, inside_pattern}
+use Rattle.sf_term.specs.Arena.{tree, term_node_at, term_spot_at, program_expressions, argument_nodes, collection_node, templates_of}
+use Rattle.sf_mean.specs.Contexts.{NameKind, Bindings, Signature, signature_named, Context, names_of_values, template_context, inside_pattern}
 use Rattle.sf_mean.specs.Typing.{bare_kind, value_kind, takes_input, accumulated_argument, accumulated_kind, Takes}
 use Rattle.sf_differ.specs.declared.difference.Wanted.{Wanted}
 use Rattle.sf_differ.specs.declared.difference.Wanted.TheVariants.{Exactly, Event}
@@ -41,7 +41,7 @@ use Rattle.sf_differ.specs.Differences.{AreWanted, WantsAny, IsOther, DiffersAt,
 use Rattle.sf_differ.specs.Wanting.{IsMade}
 use Rattle.sf_differ.proofs.Told.{told_as, differs_from}
 use Rattle.sf_differ.proofs.Placed.{made_by, only_same, only_self, wants_as, exactly_first, event_wants}
-use Rattle.sf_check.specs.Breaking.{pattern_in, name_in, BindsInside, ArgumentsLeft, Reaches, call_argument, ReachesMembers, argument_members}
+use Rattle.sf_check.specs.Breaking.{program_pattern, program_name, BindsInside, ArgumentsLeft, Reaches, call_argument, ReachesMembers, argument_members}
 use Rattle.sf_check.proofs.Terms.{IsAmongOutputs}
 use Rattle.sf_check.specs.Differing.{bare_wants, value_wants, input_wants, timed_wants, start_wants, accumulated_wants, made_wants, BodyDiffers, BodyStops, EditDiffers, EditUnfit, CallDiffers, argument_within, FormDiffers, call_itself, initial_output, followed_output, TermDiffers, term_itself, term_within, term_members, CollectionDiffers, ArgumentDiffersWithin, within_value, within_process, within_members, TemplateDiffers, template_within, header_output}
 
@@ -139,7 +139,7 @@ module _ (p : Program) (Γ : Context) (t : TermId) (n : Node) (a : Kind) (is : t
   part_tells {Δ} {j} {b} reached h = told_as (λ d k. term_within (subst (λ m. Reaches p Γ m a Δ j b) (sym is) reached) k) h
 
   -- a collection does
-  pub members_tell : {Δ : Context} {c : CollectionId} {b : Kind} {e : Blame} → ReachesMembers p Γ n a Δ c b → Explains (CollectionDiffers p Δ (collection_under p c) b) e → Explains (TermDiffers p Γ t a) e
+  pub members_tell : {Δ : Context} {c : CollectionId} {b : Kind} {e : Blame} → ReachesMembers p Γ n a Δ c b → Explains (CollectionDiffers p Δ (collection_node p c) b) e → Explains (TermDiffers p Γ t a) e
   members_tell {Δ} {c} {b} reached h = told_as (λ d k. term_members (subst (λ m. ReachesMembers p Γ m a Δ c b) (sym is) reached) k) h
 
   module _ (s : Spot) (at : s ≡ term_spot_at p t) where
@@ -157,46 +157,46 @@ module _ (p : Program) (Γ : Context) (t : TermId) (n : Node) (a : Kind) (is : t
     -- a body does
     pub stops_last : {A : Type 0} (Δ : Context) (q : PatternId) (u : TermId) (x b c : Kind) (r : Result A Blame)
         → ((d : Difference) → BodyDiffers p Δ s q u x b c d → FormDiffers p Γ s n a d)
-        → (BindsInside (pattern_in p q) c Δ → Reaches p Γ n a (inside_pattern (pattern_in p q) c Δ) u x)
+        → (BindsInside (program_pattern p q) c Δ → Reaches p Γ n a (inside_pattern (program_pattern p q) c Δ) u x)
         → IfErr r (λ e. Explains (BodyStops p Δ s q u x b c) e) → IfErr r (λ e. Explains (TermDiffers p Γ t a) e)
     stops_last Δ q u x b c (Ok y) f g h = tt
     stops_last Δ q u x b c (Err e) f g h = told_as (λ d k. each d k) h
       where
         each : (d : Difference) → BodyStops p Δ s q u x b c d → TermDiffers p Γ t a d
         each d (inl k) = form_differs d (f d k)
-        each d (inr k) = term_within (subst (λ m. Reaches p Γ m a (inside_pattern (pattern_in p q) c Δ) u x) (sym is) (g k.0)) k.1
+        each d (inr k) = term_within (subst (λ m. Reaches p Γ m a (inside_pattern (program_pattern p q) c Δ) u x) (sym is) (g k.0)) k.1
 
     -- so it is where the body is to give what is wanted in other words
     pub stops_as : {A : Type 0} (Δ : Context) (q : PatternId) (u : TermId) (x b v c : Kind) (r : Result A Blame) → v ≡ b
         → ((d : Difference) → BodyDiffers p Δ s q u x b c d → FormDiffers p Γ s n a d)
-        → (BindsInside (pattern_in p q) c Δ → Reaches p Γ n a (inside_pattern (pattern_in p q) c Δ) u x)
+        → (BindsInside (program_pattern p q) c Δ → Reaches p Γ n a (inside_pattern (program_pattern p q) c Δ) u x)
         → IfErr r (λ e. Explains (BodyStops p Δ s q u x v c) e) → IfErr r (λ e. Explains (TermDiffers p Γ t a) e)
     stops_as Δ q u x b v c r same f g h = stops_last Δ q u x b c r f g (subst (λ (v : Kind). IfErr r (λ e. Explains (BodyStops p Δ s q u x v c) e)) same h)
 
     -- an edit does
     pub edit_last : {A : Type 0} (Δ : Context) (q : PatternId) (u : CollectionId) (k : KeyKind) (x b c : Kind) (r : Result A Blame)
         → ((d : Difference) → EditDiffers p Δ s q u k x b c d → FormDiffers p Γ s n a d)
-        → (BindsInside (pattern_in p q) c Δ → ReachesMembers p Γ n a (inside_pattern (pattern_in p q) c Δ) u x)
+        → (BindsInside (program_pattern p q) c Δ → ReachesMembers p Γ n a (inside_pattern (program_pattern p q) c Δ) u x)
         → IfErr r (λ e. Explains (EditUnfit p Δ s q u k x b c) e) → IfErr r (λ e. Explains (TermDiffers p Γ t a) e)
     edit_last Δ q u k x b c (Ok y) f g h = tt
     edit_last Δ q u k x b c (Err e) f g h = told_as (λ d l. each d l) h
       where
         each : (d : Difference) → EditUnfit p Δ s q u k x b c d → TermDiffers p Γ t a d
         each d (inl l) = form_differs d (f d l)
-        each d (inr l) = term_members (subst (λ m. ReachesMembers p Γ m a (inside_pattern (pattern_in p q) c Δ) u x) (sym is) (g l.0)) l.1
+        each d (inr l) = term_members (subst (λ m. ReachesMembers p Γ m a (inside_pattern (program_pattern p q) c Δ) u x) (sym is) (g l.0)) l.1
 
 -- what is told of a call
-module _ (p : Program) (Γ : Context) (t : TermId) (a : Kind) (k : NameId) (vs : ArgumentsId) (is : term_node_at p t ≡ nodes.Call k vs) (g : Signature) (named : signature_named (name_in p k) Γ.signatures ≡ Some g) where
+module _ (p : Program) (Γ : Context) (t : TermId) (a : Kind) (k : NameId) (vs : ArgumentsId) (is : term_node_at p t ≡ nodes.Call k vs) (g : Signature) (named : signature_named (program_name p k) Γ.signatures ≡ Some g) where
   pub argument_tells : {v : Argument} {x : Name} {q : NameKind} {ws : List Argument} {rs : Bindings} {e : Blame}
-      → ArgumentsLeft p Γ (arguments_under p vs) g.parameters (v ∷ ws) ((x, q) ∷ rs) → Explains (ArgumentDiffersWithin p Γ v q) e → Explains (TermDiffers p Γ t a) e
+      → ArgumentsLeft p Γ (argument_nodes p vs) g.parameters (v ∷ ws) ((x, q) ∷ rs) → Explains (ArgumentDiffersWithin p Γ v q) e → Explains (TermDiffers p Γ t a) e
   argument_tells {x = x} {ws = ws} {rs = rs} left h = told_as (λ d k. each left k) h
     where
-      each : {v : Argument} {q : NameKind} {d : Difference} → ArgumentsLeft p Γ (arguments_under p vs) g.parameters (v ∷ ws) ((x, q) ∷ rs) → ArgumentDiffersWithin p Γ v q d → TermDiffers p Γ t a d
+      each : {v : Argument} {q : NameKind} {d : Difference} → ArgumentsLeft p Γ (argument_nodes p vs) g.parameters (v ∷ ws) ((x, q) ∷ rs) → ArgumentDiffersWithin p Γ v q d → TermDiffers p Γ t a d
       each {d = d} left (within_value h) = term_itself (subst (λ m. FormDiffers p Γ (term_spot_at p t) m a d) (sym is) (call_itself named (argument_within left h)))
       each left (within_process {t = u} {a = b} h) = term_within (subst (λ n. Reaches p Γ n a Γ u b) (sym is) (call_argument named left)) h
       each left (within_members {i = i} {a = b} h) = term_members (subst (λ n. ReachesMembers p Γ n a Γ i b) (sym is) (argument_members named left)) h
 
-  pub call_tells : {A : Type 0} (ws : List Argument) (r : Result A Blame) → ws ≡ arguments_under p vs → IfErr r (λ e. Explains (CallDiffers p Γ (term_spot_at p t) ws a g) e) → IfErr r (λ e. Explains (TermDiffers p Γ t a) e)
+  pub call_tells : {A : Type 0} (ws : List Argument) (r : Result A Blame) → ws ≡ argument_nodes p vs → IfErr r (λ e. Explains (CallDiffers p Γ (term_spot_at p t) ws a g) e) → IfErr r (λ e. Explains (TermDiffers p Γ t a) e)
   call_tells ws r same h =
       form_last p Γ t (nodes.Call k vs) a is (term_spot_at p t) refl _ r (λ d l. call_itself named (subst (λ ws. CallDiffers p Γ (term_spot_at p t) ws a g d) same l)) h
 
@@ -223,20 +223,20 @@ exactly_as {s = s} {t = t} {d = d} same h = subst (λ (u : Kind). IsOther (Some 
 
 -- the outputs of a part behind a value of their type
 pub among_outputs : {p : Program} {Γ : Context} {s : Spot} {h : Heading} {v : ExprId} {t : TermId} {a c e : Kind} {d : Difference}
-    → IsAmongOutputs h → HasType (names_of_values Γ) (expression (expressions_of p) v) c → Takes Γ (tree p t) a e → IsOther (Some (Exactly c)) s e d → FormDiffers p Γ s (nodes.Headed h v t) a d
+    → IsAmongOutputs h → HasType (names_of_values Γ) (expression (program_expressions p) v) c → Takes Γ (tree p t) a e → IsOther (Some (Exactly c)) s e d → FormDiffers p Γ s (nodes.Headed h v t) a d
 among_outputs {p} {Γ} {s} {v = v} {t = t} {a = a} {d = d} (inl is) typed T k = subst (λ h. FormDiffers p Γ s (nodes.Headed h v t) a d) (sym is) (initial_output typed T k)
 among_outputs {p} {Γ} {s} {v = v} {t = t} {a = a} {d = d} (inr is) typed T k = subst (λ h. FormDiffers p Γ s (nodes.Headed h v t) a d) (sym is) (followed_output typed T k)
 
 -- ## A template
 
-module _ (fs : TypesByName) (p : Program) (h : Header) {Γ : Context} {t : TermId} {a : Kind} (under : Γ ≡ context_of fs (parameters_of h.parameters) (templates_of p)) (is : t ≡ h.body) (from : a ≡ h.input) where
+module _ (fs : TypesByName) (p : Program) (h : Header) {Γ : Context} {t : TermId} {a : Kind} (under : Γ ≡ template_context fs (parameters_of h.parameters) (templates_of p)) (is : t ≡ h.body) (from : a ≡ h.input) where
   pub within_template : {d : Difference} → TermDiffers p Γ t a d → TemplateDiffers fs p h d
   within_template {d} k =
-      let E = context_of fs (parameters_of h.parameters) (templates_of p) in
+      let E = template_context fs (parameters_of h.parameters) (templates_of p) in
       template_within (subst (λ (a : Kind). TermDiffers p E h.body a d) from (subst (λ (t : TermId). TermDiffers p E t a d) is (subst (λ (Γ : Context). TermDiffers p Γ t a d) under k)))
 
   pub of_header : {b : Kind} {s : Spot} {d : Difference} → Takes Γ (tree p t) a b → s ≡ term_spot_at p t → IsOther (Some (Exactly h.output)) s b d → TemplateDiffers fs p h d
   of_header {b} {s} {d} T at k =
-      let E = context_of fs (parameters_of h.parameters) (templates_of p) in
+      let E = template_context fs (parameters_of h.parameters) (templates_of p) in
       header_output (subst (λ (a : Kind). Takes E (tree p h.body) a b) from (subst (λ (t : TermId). Takes E (tree p t) a b) is (subst (λ (Γ : Context). Takes Γ (tree p t) a b) under T)))
       (subst (λ (s : Spot). IsOther (Some (Exactly h.output)) s b d) (at ∙ ap (term_spot_at p) is) k)

@@ -23,12 +23,12 @@ use Rattle.sf_expr.specs.Typing.{Fits, HasType}
 use Rattle.sf_term.specs.declared.node.Argument.{Argument}
 use Rattle.sf_term.specs.declared.node.Argument.TheVariants as arguments
 use Rattle.sf_term.specs.declared.program.Program.{Program}
-use Rattle.sf_term.specs.Arena.{arguments_of, arguments_under, term_spot_at}
-use Rattle.sf_term.proofs.Kept.{expression_in}
+use Rattle.sf_term.specs.Arena.{arguments_of, argument_nodes, term_spot_at}
+use Rattle.sf_term.proofs.Extended.{expression_in}
 use Rattle.sf_mean.specs.Contexts.{NameKind, value, process, collection, Bindings, Signature, signature_named, Context, names_of_values}
 use Rattle.sf_mean.specs.Typing.{ArgumentsFit, value_fits, process_fits, collection_fits}
-use Rattle.sf_check.specs.Standing.{name_in}
-use Rattle.sf_check.specs.Judging.{found_at, argument_judged, arguments_judged, term_judged, judged_as}
+use Rattle.sf_check.specs.Standing.{program_name}
+use Rattle.sf_check.specs.Judging.{found_or_broken, argument_judged, arguments_judged, term_judged, judged_as}
 use Rattle.sf_check.specs.Answering.{ArgumentFits}
 use Rattle.sf_check.proofs.Judging.{go, holds, fails}
 
@@ -108,25 +108,25 @@ module _ {p : Program} {s : Spot} {Γ : Context} where
 -- ## A call
 
 module _ (p : Program) (Γ : Context) (t : TermId) (a : Kind) (k : NameId) (vs : ArgumentsId) where
-  pub no_template_stops : (e : Refusal) → signature_named (name_in p k) Γ.signatures ≡ None → e ≡ broken UnknownName (term_spot_at p t) → Stops e (judged_as p t (nodes.Call k vs) Γ a)
-  no_template_stops e none wrong = stops_then e _ _ (stops_broken wrong (ap (found_at UnknownName (term_spot_at p t)) none))
+  pub no_template_stops : (e : Refusal) → signature_named (program_name p k) Γ.signatures ≡ None → e ≡ broken UnknownName (term_spot_at p t) → Stops e (judged_as p t (nodes.Call k vs) Γ a)
+  no_template_stops e none wrong = stops_then e _ _ (stops_broken wrong (ap (found_or_broken UnknownName (term_spot_at p t)) none))
 
-  module _ (g : Signature) (named : signature_named (name_in p k) Γ.signatures ≡ Some g) where
-    pub other_number_stops : (e : Refusal) → nat_eq (length (arguments_under p vs)) (length g.parameters) ≡ false → e ≡ broken Arity (term_spot_at p t) → Stops e (judged_as p t (nodes.Call k vs) Γ a)
-    other_number_stops e other wrong = goes_then e _ g _ (ap (found_at UnknownName (term_spot_at p t)) named) (stops_then e _ _ (stops_broken wrong (fails Arity (term_spot_at p t) other)))
+  module _ (g : Signature) (named : signature_named (program_name p k) Γ.signatures ≡ Some g) where
+    pub other_number_stops : (e : Refusal) → nat_eq (length (argument_nodes p vs)) (length g.parameters) ≡ false → e ≡ broken Arity (term_spot_at p t) → Stops e (judged_as p t (nodes.Call k vs) Γ a)
+    other_number_stops e other wrong = goes_then e _ g _ (ap (found_or_broken UnknownName (term_spot_at p t)) named) (stops_then e _ _ (stops_broken wrong (fails Arity (term_spot_at p t) other)))
 
-    module _ (many : nat_eq (length (arguments_under p vs)) (length g.parameters) ≡ true) where
-      pub arguments_stop : (e : Refusal) → Stops e (arguments_judged p (term_judged p) (term_spot_at p t) Γ (arguments_under p vs) g.parameters) → Stops e (judged_as p t (nodes.Call k vs) Γ a)
-      arguments_stop e h = goes_then e _ g _ (ap (found_at UnknownName (term_spot_at p t)) named) (goes_then e _ tt _ (holds Arity (term_spot_at p t) many) (stops_then e _ _ h))
+    module _ (many : nat_eq (length (argument_nodes p vs)) (length g.parameters) ≡ true) where
+      pub arguments_stop : (e : Refusal) → Stops e (arguments_judged p (term_judged p) (term_spot_at p t) Γ (argument_nodes p vs) g.parameters) → Stops e (judged_as p t (nodes.Call k vs) Γ a)
+      arguments_stop e h = goes_then e _ g _ (ap (found_or_broken UnknownName (term_spot_at p t)) named) (goes_then e _ tt _ (holds Arity (term_spot_at p t) many) (stops_then e _ _ h))
 
-      module _ (fit : Bool) (all : arguments_judged p (term_judged p) (term_spot_at p t) Γ (arguments_under p vs) g.parameters ≡ Ok fit) where
+      module _ (fit : Bool) (all : arguments_judged p (term_judged p) (term_spot_at p t) Γ (argument_nodes p vs) g.parameters ≡ Ok fit) where
         pub call_stops : (e : Refusal) → fit && same_kind a g.input ≡ false → e ≡ broken Mismatch (term_spot_at p t) → Stops e (judged_as p t (nodes.Call k vs) Γ a)
         call_stops e other wrong =
-            goes_then e _ g _ (ap (found_at UnknownName (term_spot_at p t)) named) (goes_then e _ tt _ (holds Arity (term_spot_at p t) many) (goes_then e _ fit _ all (stops_then e _ _ (stops_broken wrong (fails Mismatch (term_spot_at p t) other)))))
+            goes_then e _ g _ (ap (found_or_broken UnknownName (term_spot_at p t)) named) (goes_then e _ tt _ (holds Arity (term_spot_at p t) many) (goes_then e _ fit _ all (stops_then e _ _ (stops_broken wrong (fails Mismatch (term_spot_at p t) other)))))
 
         pub call_goes : (d : Kind) → fit && same_kind a g.input ≡ true → Fits g.output → d ≡ g.output → judged_as p t (nodes.Call k vs) Γ a ≡ Ok d
         call_goes d same fits is =
-            go _ (ap (found_at UnknownName (term_spot_at p t)) named) (go _ (holds Arity (term_spot_at p t) many) (go _ all (go _ (holds Mismatch (term_spot_at p t) same) (fits_at (term_spot_at p t) g.output fits ∙ ap Ok (sym is)))))
+            go _ (ap (found_or_broken UnknownName (term_spot_at p t)) named) (go _ (holds Arity (term_spot_at p t) many) (go _ all (go _ (holds Mismatch (term_spot_at p t) same) (fits_at (term_spot_at p t) g.output fits ∙ ap Ok (sym is)))))
 
 -- ## Tests of a call
 

@@ -17,41 +17,41 @@ use Rattle.sf_expr.specs.Patterns.{PlacedPattern, pattern_of}
 use Rattle.sf_expr.specs.declared.frame.Frame.{Frame}
 use Rattle.sf_expr.specs.declared.meaning.Meaning.{Meaning}
 use Rattle.sf_expr.specs.declared.meaning.Meaning.TheVariants.{Process, Collection}
-use Rattle.sf_expr.specs.Meanings.{Meant, of_value, of_process, of_collection, meant, Entries, found_in, names_from}
-use Rattle.sf_expr.specs.Scopes.{entries_in}
+use Rattle.sf_expr.specs.Meanings.{Meant, of_value, of_process, of_collection, meant, Entries, found_in, value_names}
+use Rattle.sf_expr.specs.Scopes.{frame_entries}
 use Rattle.sf_expr.specs.Refusals.{PatternRefused}
-use Rattle.sf_expr.specs.Judging.{binding_at, Stops}
-use Rattle.sf_expr.specs.Typing.{Names, only_functions, typed_name, untyped_name, with_types, AddsNames, adds_nothing, adds_name, adds_both, Binds}
+use Rattle.sf_expr.specs.Judging.{judged_binding, Stops}
+use Rattle.sf_expr.specs.Typing.{Names, only_functions, typed_name, untyped_name, names_and_functions, AddsNames, adds_nothing, adds_name, adds_both, Binds}
 use Rattle.sf_expr.proofs.Bound.{binds_with, bound_within}
 use Rattle.sf_term.specs.Parameters.{PlacedParameter, binding_of, parameters_of}
 use Rattle.sf_term.specs.Trees.{Templates}
-use Rattle.sf_mean.specs.Contexts.{NameKind, value, process, collection, types_of_process, process_named, types_of_collection, collection_named, Bindings, parameters_inside, context_with, values_in, bindings_inside, inside_pattern, inside_process, inside_collection}
+use Rattle.sf_mean.specs.Contexts.{NameKind, value, process, collection, types_of_process, process_named, types_of_collection, collection_named, Bindings, parameters_inside, outer_context, bound_values, bindings_inside, inside_pattern, inside_process, inside_collection}
 use Rattle.sf_mean.specs.Typing.{ParameterFits}
 use Rattle.sf_check.specs.Standing.{kind_meant, bindings_from, inside_names, kind_named, BindsInside}
 
 -- expressions are typed under the names and the functions that a context has
-pub names_seen_through : (fs : TypesByName) (es : Entries) → values_in fs (bindings_from es) ≡ with_types fs (names_from es)
+pub names_seen_through : (fs : TypesByName) (es : Entries) → bound_values fs (bindings_from es) ≡ names_and_functions fs (value_names es)
 names_seen_through fs [] = refl
 names_seen_through fs (e ∷ es) = each e.1 (names_seen_through fs es)
   where
-    each : (m : Meant) → values_in fs (bindings_from es) ≡ with_types fs (names_from es) → values_in fs (bindings_from ((e.0, m) ∷ es)) ≡ with_types fs (names_from ((e.0, m) ∷ es))
+    each : (m : Meant) → bound_values fs (bindings_from es) ≡ names_and_functions fs (value_names es) → bound_values fs (bindings_from ((e.0, m) ∷ es)) ≡ names_and_functions fs (value_names ((e.0, m) ∷ es))
     each (of_value t) rest = ap (typed_name e.0 t) rest
     each (of_process a b) rest = ap (untyped_name e.0) rest
     each (of_collection k a b) rest = ap (untyped_name e.0) rest
 
 -- names inside others
-pub names_inside : (fs : TypesByName) (ts : Templates) (names : Frame) (es gs : Entries) → gs ≡ entries_in names ++ es → context_with fs (bindings_from gs) ts ≡ inside_names names (context_with fs (bindings_from es) ts)
-names_inside fs ts names es gs more = ap (λ bs. context_with fs bs ts) (ap bindings_from more ∙ map-append (λ (e : Name × Meant). (e.0, kind_meant e.1)) (entries_in names) es)
+pub names_inside : (fs : TypesByName) (ts : Templates) (names : Frame) (es gs : Entries) → gs ≡ frame_entries names ++ es → outer_context fs (bindings_from gs) ts ≡ inside_names names (outer_context fs (bindings_from es) ts)
+names_inside fs ts names es gs more = ap (λ bs. outer_context fs bs ts) (ap bindings_from more ∙ map-append (λ (e : Name × Meant). (e.0, kind_meant e.1)) (frame_entries names) es)
 
 -- inside a name alone
-name_inside : (fs : TypesByName) (ts : Templates) (es : Entries) (names : Frame) (m : Meant) {x y : Name} {none : Entries} → y ≡ x → none ≡ [] → entries_in names ≡ (y, m) ∷ none → inside_names names (context_with fs (bindings_from es) ts) ≡ context_with fs ((x, kind_meant m) ∷ bindings_from es) ts
+name_inside : (fs : TypesByName) (ts : Templates) (es : Entries) (names : Frame) (m : Meant) {x y : Name} {none : Entries} → y ≡ x → none ≡ [] → frame_entries names ≡ (y, m) ∷ none → inside_names names (outer_context fs (bindings_from es) ts) ≡ outer_context fs ((x, kind_meant m) ∷ bindings_from es) ts
 name_inside fs ts es names m {x} {y} {none} same end is =
-    ap (λ ns. context_with fs (bindings_from ns ++ bindings_from es) ts) (is ∙ ap (λ ns. (y, m) ∷ ns) end ∙ ap (λ (z : Name). (z, m) ∷ []) same)
+    ap (λ ns. outer_context fs (bindings_from ns ++ bindings_from es) ts) (is ∙ ap (λ ns. (y, m) ∷ ns) end ∙ ap (λ (z : Name). (z, m) ∷ []) same)
 
-pub process_inside : (fs : TypesByName) (ts : Templates) (es : Entries) (names : Frame) (a b : Kind) {x y : Name} {none : Entries} → y ≡ x → none ≡ [] → entries_in names ≡ (y, of_process a b) ∷ none → inside_names names (context_with fs (bindings_from es) ts) ≡ inside_process x a b (context_with fs (bindings_from es) ts)
+pub process_inside : (fs : TypesByName) (ts : Templates) (es : Entries) (names : Frame) (a b : Kind) {x y : Name} {none : Entries} → y ≡ x → none ≡ [] → frame_entries names ≡ (y, of_process a b) ∷ none → inside_names names (outer_context fs (bindings_from es) ts) ≡ inside_process x a b (outer_context fs (bindings_from es) ts)
 process_inside fs ts es names a b same end is = name_inside fs ts es names (of_process a b) same end is
 
-pub collection_inside : (fs : TypesByName) (ts : Templates) (es : Entries) (names : Frame) (k : KeyKind) (a b : Kind) {x y : Name} {none : Entries} → y ≡ x → none ≡ [] → entries_in names ≡ (y, of_collection k a b) ∷ none → inside_names names (context_with fs (bindings_from es) ts) ≡ inside_collection x k a b (context_with fs (bindings_from es) ts)
+pub collection_inside : (fs : TypesByName) (ts : Templates) (es : Entries) (names : Frame) (k : KeyKind) (a b : Kind) {x y : Name} {none : Entries} → y ≡ x → none ≡ [] → frame_entries names ≡ (y, of_collection k a b) ∷ none → inside_names names (outer_context fs (bindings_from es) ts) ≡ inside_collection x k a b (outer_context fs (bindings_from es) ts)
 collection_inside fs ts es names k a b same end is = name_inside fs ts es names (of_collection k a b) same end is
 
 -- ## Patterns
@@ -79,40 +79,40 @@ only_typed adds_nothing h = h
 only_typed adds_name h = h
 only_typed (adds_both A B) h = only_typed B (only_typed A h)
 
-typed_over : (vs es : Entries) → OnlyTyped (names_from vs) → vs ++ es ≡ values_over (names_from vs) es
+typed_over : (vs es : Entries) → OnlyTyped (value_names vs) → vs ++ es ≡ values_over (value_names vs) es
 typed_over [] es h = refl
 typed_over (v ∷ vs) es h = each v.1 h (typed_over vs es)
   where
-    each : (m : Meant) → OnlyTyped (names_from ((v.0, m) ∷ vs)) → (OnlyTyped (names_from vs) → vs ++ es ≡ values_over (names_from vs) es) → (v.0, m) ∷ (vs ++ es) ≡ values_over (names_from ((v.0, m) ∷ vs)) es
+    each : (m : Meant) → OnlyTyped (value_names ((v.0, m) ∷ vs)) → (OnlyTyped (value_names vs) → vs ++ es ≡ values_over (value_names vs) es) → (v.0, m) ∷ (vs ++ es) ≡ values_over (value_names ((v.0, m) ∷ vs)) es
     each (of_value t) h rest = ap (λ ns. (v.0, of_value t) ∷ ns) (rest h)
     each (of_process a b) h rest = absurd h
     each (of_collection k a b) h rest = absurd h
 
 module _ (fs : TypesByName) (ts : Templates) (es : Entries) {q : PlacedPattern} {p : PlacedPattern} (placed : q ≡ p) (t : Kind) where
-  names_bound : (vs : Entries) → Binds (pattern_of q) t (only_functions []) (names_from vs) → bindings_from vs ++ bindings_from es ≡ bindings_inside (pattern_of p) t (bindings_from es)
+  names_bound : (vs : Entries) → Binds (pattern_of q) t (only_functions []) (value_names vs) → bindings_from vs ++ bindings_from es ≡ bindings_inside (pattern_of p) t (bindings_from es)
   names_bound vs B =
       sym (map-append (λ (e : Name × Meant). (e.0, kind_meant e.1)) vs es) ∙ ap bindings_from (typed_over vs es (only_typed B.adds tt)) ∙ bindings_added es B.adds ∙ ap (λ p. bindings_inside (pattern_of p) t (bindings_from es)) placed
 
-  pub pattern_inside : {E : Type 0} (r : Result Frame E) → IfOk r (λ names. Binds (pattern_of q) t (only_functions []) (names_from (entries_in names))) → IfOk r (λ names. inside_names names (context_with fs (bindings_from es) ts) ≡ inside_pattern (pattern_of p) t (context_with fs (bindings_from es) ts))
-  pattern_inside (Ok names) B = ap (λ bs. context_with fs bs ts) (names_bound (entries_in names) B)
+  pub pattern_inside : {E : Type 0} (r : Result Frame E) → IfOk r (λ names. Binds (pattern_of q) t (only_functions []) (value_names (frame_entries names))) → IfOk r (λ names. inside_names names (outer_context fs (bindings_from es) ts) ≡ inside_pattern (pattern_of p) t (outer_context fs (bindings_from es) ts))
+  pattern_inside (Ok names) B = ap (λ bs. outer_context fs bs ts) (names_bound (frame_entries names) B)
   pattern_inside (Err e) B = tt
 
-  pub pattern_bound : {E : Type 0} (r : Result Frame E) → IfOk r (λ names. Binds (pattern_of q) t (only_functions []) (names_from (entries_in names))) → OnOk r (BindsInside (pattern_of p) t (context_with fs (bindings_from es) ts))
+  pub pattern_bound : {E : Type 0} (r : Result Frame E) → IfOk r (λ names. Binds (pattern_of q) t (only_functions []) (value_names (frame_entries names))) → OnOk r (BindsInside (pattern_of p) t (outer_context fs (bindings_from es) ts))
   pattern_bound (Ok names) B =
-      let vs = entries_in names in
-      let inner : with_types fs (names_from (vs ++ es)) ≡ values_in fs (bindings_inside (pattern_of p) t (bindings_from es)) =
-      sym (names_seen_through fs (vs ++ es)) ∙ ap (values_in fs) (map-append (λ (e : Name × Meant). (e.0, kind_meant e.1)) vs es ∙ names_bound vs B) in
-      let under : Binds (pattern_of q) t (with_types fs (names_from es)) (with_types fs (names_from (vs ++ es))) = binds_with fs (bound_within vs es (vs ++ es) refl B) in
-      subst (λ p. Binds (pattern_of p) t (values_in fs (bindings_from es)) (values_in fs (bindings_inside (pattern_of p) t (bindings_from es)))) placed
-      (subst (λ S. Binds (pattern_of q) t (values_in fs (bindings_from es)) S) (inner ∙ ap (λ p. values_in fs (bindings_inside (pattern_of p) t (bindings_from es))) (sym placed))
-      (subst (λ R. Binds (pattern_of q) t R (with_types fs (names_from (vs ++ es)))) (sym (names_seen_through fs es)) under))
+      let vs = frame_entries names in
+      let inner : names_and_functions fs (value_names (vs ++ es)) ≡ bound_values fs (bindings_inside (pattern_of p) t (bindings_from es)) =
+      sym (names_seen_through fs (vs ++ es)) ∙ ap (bound_values fs) (map-append (λ (e : Name × Meant). (e.0, kind_meant e.1)) vs es ∙ names_bound vs B) in
+      let under : Binds (pattern_of q) t (names_and_functions fs (value_names es)) (names_and_functions fs (value_names (vs ++ es))) = binds_with fs (bound_within vs es (vs ++ es) refl B) in
+      subst (λ p. Binds (pattern_of p) t (bound_values fs (bindings_from es)) (bound_values fs (bindings_inside (pattern_of p) t (bindings_from es)))) placed
+      (subst (λ S. Binds (pattern_of q) t (bound_values fs (bindings_from es)) S) (inner ∙ ap (λ p. bound_values fs (bindings_inside (pattern_of p) t (bindings_from es))) (sym placed))
+      (subst (λ R. Binds (pattern_of q) t R (names_and_functions fs (value_names (vs ++ es)))) (sym (names_seen_through fs es)) under))
   pattern_bound (Err e) B = tt
 
 pub pattern_wrong : {q p : PlacedPattern} (placed : q ≡ p) (t : Kind) (at : Spot) {A : Type 0} (r : Result A Refusal) → IfErr r (OrMemory (PatternRefused q t at)) → IfErr r (OrMemory (PatternRefused p t at))
 pattern_wrong placed t at (Ok names) h = tt
 pattern_wrong placed t at (Err e) h = subst (λ p. OrMemory (PatternRefused p t at) e) placed h
 
-pub pattern_stops : (p : PlacedPattern) (t : Kind) (at : Spot) (R : Names) (e : Refusal) → OrMemory (PatternRefused p t at) e → Stops e (binding_at at p t R)
+pub pattern_stops : (p : PlacedPattern) (t : Kind) (at : Spot) (R : Names) (e : Refusal) → OrMemory (PatternRefused p t at) e → Stops e (judged_binding at p t R)
 pattern_stops p t at R e (because h) = h.first R
 pattern_stops p t at R e no_memory = tt
 

@@ -13,7 +13,7 @@ use Rattle.sf_term.specs.Parameters.{NameKind, Bindings, PlacedParameter, bindin
 use Rattle.sf_term.specs.declared.program.Program.{Program}
 use Rattle.sf_term.specs.Headers.{Header}
 use Rattle.sf_term.specs.Trees.{Template}
-use Rattle.sf_term.specs.Arena.{headers_of, template_in, templates_of}
+use Rattle.sf_term.specs.Arena.{headers_of, term_template, templates_of}
 use Rattle.sf_mean.specs.Networks.{main_of}
 use Rattle.sf_mean.specs.Typing.{IsTyped, Accepted}
 use Rattle.sf_reach.specs.Endless.{ReachesItselfNowhere}
@@ -94,7 +94,7 @@ placed_parameter qs h = by (slice_get qs h.0) refl
 
 module _ (p : Program) where
   no_header : (n : ℕ) → slice_get (headers_of p) n ≡ None → slice_get (templates_of p) n ≡ None
-  no_header n e = slice_get-map (template_in p) (headers_of p) n ∙ ap (option_map (template_in p)) e
+  no_header n e = slice_get-map (term_template p) (headers_of p) n ∙ ap (option_map (term_template p)) e
 
   header_decided : (i : ℕ) (h : Header) → slice_get (headers_of p) i ≡ Some h → HeaderDiffers p i ⊎ ((s : Spot) × HeaderRepeats p i h s)
   header_decided i h at =
@@ -137,7 +137,7 @@ module _ (p : Program) where
 
       next_typed : (n : ℕ) → AreTypedTo n → (o : Option Header) → slice_get (headers_of p) n ≡ o → ((b : Breach) × IsFirstBreak fs p b) ⊎ AreTypedTo (suc n)
       next_typed n typed None e = inr (λ i t k q. elim (lt_or_eq i n (omega arith)) [ inl below ↦ typed i t below q | inr same ↦ absurd (none-some t (sym (no_header n e) ∙ ap (slice_get (templates_of p)) (sym same) ∙ q)) ])
-      next_typed n typed (Some h) e = elim (template_or fs p h (fit n (template_in p h) (template_at p n h e)).1 (fit n (template_in p h) (template_at p n h e)).0) [
+      next_typed n typed (Some h) e = elim (template_or fs p h (fit n (term_template p h) (template_at p n h e)).1 (fit n (term_template p h) (template_at p n h e)).0) [
         | inl is ↦ inr (λ i t k q. one_more_typed fs p n typed h e is i t (omega arith) q)
         | inr r ↦ inl (r.0, record { place = n; header = h; at = e; typed = typed; broken = r.1 })
       ]

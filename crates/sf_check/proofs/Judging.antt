@@ -3,7 +3,8 @@ use Rattle.std.proofs.Common.{◌≡◌, ℕ, zero, suc, ◌<◌, Bool, true, fa
 use Rattle.std.specs.Prelude.{nat_le}
 use Rattle.std.proofs.lemmas.List.Elements.{All-head, All-tail}
 use mathlib.Core.Path.{fun_ext}
-use Rattle.sf_value.specs.Values.{Kind, pair_kind, event_kind, table_kind, unit_kind, bool_kind, int_kind, text_kind, nodes as nodes_of}
+use Rattle.sf_value.specs.Values.{Kind, pair_kind, event_kind, table_kind, unit_kind, bool_kind, int_kind, text_kind}
+use Rattle.sf_value.specs.Values
 use Rattle.sf_refusal.specs.declared.spot.Spot.{Spot}
 use Rattle.sf_refusal.specs.declared.rule.Rule.{Rule}
 use Rattle.sf_refusal.specs.declared.rule.Rule.TheVariants.{BarePre, TypeTooLarge}
@@ -13,7 +14,7 @@ use Rattle.sf_refusal.specs.Refusals.{breach_of}
 use Rattle.sf_operator.specs.Kinds.{same_kind, parts_of}
 use Rattle.sf_operator.proofs.SameKinds.{same_is, is_same}
 use Rattle.sf_expr.specs.Typing.{Fits}
-use Rattle.sf_expr.specs.Judging.{◌>>=◌, matching_at, fitting_at, GivesFound}
+use Rattle.sf_expr.specs.Judging.{◌>>=◌, matching_at, judged_fitting, GivesFound}
 use Rattle.sf_expr.proofs.Inferred.{fits_test}
 use Rattle.sf_expr.proofs.Judged.{kind_answers}
 use Rattle.sf_term.specs.declared.form.Bare.{Bare}
@@ -33,8 +34,8 @@ use Rattle.sf_term.specs.declared.node.Node.TheVariants as nodes
 use Rattle.sf_term.specs.declared.collection.CollExpr.{CollExpr}
 use Rattle.sf_term.specs.declared.collection.CollExpr.TheVariants as collections
 use Rattle.sf_term.specs.declared.program.Program.{Program}
-use Rattle.sf_term.specs.Arena.{term_number, term_node_at, term_spot_at, term_entry_of, arguments_under, collection_under, CollectionBelow, ArgumentBelow, TermPartsBelow}
-use Rattle.sf_term.proofs.Kept.{parts_below}
+use Rattle.sf_term.specs.Arena.{term_number, term_node_at, term_spot_at, program_entry, argument_nodes, collection_node, CollectionBelow, ArgumentBelow, TermPartsBelow}
+use Rattle.sf_term.proofs.Extended.{parts_below}
 use Rattle.sf_mean.specs.Contexts.{NameKind, value, process, collection, Bindings, Context}
 use Rattle.sf_mean.specs.Typing.{bare_kind}
 use Rattle.sf_check.specs.Answering.{AnswersBare}
@@ -70,11 +71,11 @@ pub one_ok : {A : Type 0} (r : Result A Breach) {x y : A} → r ≡ Ok x → r �
 one_ok r e f = cc
 
 -- a type that was answered was found, and fits
-pub fitted : (s : Spot) (o : Option Kind) {t : Kind} → fitting_at s o ≡ Ok t → (o ≡ Some t) × Fits t
+pub fitted : (s : Spot) (o : Option Kind) {t : Kind} → judged_fitting s o ≡ Ok t → (o ≡ Some t) × Fits t
 fitted s None h = absurd cc
-fitted s (Some u) {t} h = each (nat_le (nodes_of u) 256) refl h
+fitted s (Some u) {t} h = each (nat_le (Values.nodes u) 256) refl h
   where
-    each : (b : Bool) → nat_le (nodes_of u) 256 ≡ b → cond b (Ok u) (Err (breach_of TypeTooLarge s)) ≡ Ok t → (Some u ≡ Some t) × Fits t
+    each : (b : Bool) → nat_le (Values.nodes u) 256 ≡ b → cond b (Ok u) (Err (breach_of TypeTooLarge s)) ≡ Ok t → (Some u ≡ Some t) × Fits t
     each true e h = let is : u ≡ t = one_ok (Ok u) refl h in (ap (λ u. Some u) is, subst (λ (t : Kind). Fits t) is (fits_test u e))
     each false e h = absurd cc
 
@@ -120,7 +121,7 @@ told_same t u false h = each (same_kind t u) refl
 -- ## The equations
 
 pub node_below : (p : Program) (t : TermId) → TermPartsBelow p (term_node_at p t) (term_number t)
-unfolding term_node_at term_entry_of
+unfolding term_node_at program_entry
 node_below p t = parts_below p t
 
 -- a node is judged by its parts alone
@@ -140,7 +141,7 @@ module _ (p : Program) (f g : TermId → TermJudge) (n : ℕ) (same : (i : TermI
   argument_local s Γ (arguments.Process t) (collection k c d) b = refl
   argument_local s Γ (arguments.Collection i) (value u) b = refl
   argument_local s Γ (arguments.Collection i) (process c d) b = refl
-  argument_local s Γ (arguments.Collection i) (collection k c d) b = rw (members_local (collection_under p i) b) refl
+  argument_local s Γ (arguments.Collection i) (collection k c d) b = rw (members_local (collection_node p i) b) refl
 
   arguments_local : (s : Spot) (Γ : Context) (vs : List Argument) (qs : Bindings) → All (ArgumentBelow p n) vs → arguments_judged p f s Γ vs qs ≡ arguments_judged p g s Γ vs qs
   arguments_local s Γ [] qs b = refl
@@ -155,7 +156,7 @@ module _ (p : Program) (f g : TermId → TermJudge) (n : ℕ) (same : (i : TermI
   node_local s (nodes.Primitive q) b Γ a = refl
   node_local s (nodes.Named (Process w) x m) b Γ a = refl
   node_local s (nodes.Named Probe x m) b Γ a = refl
-  node_local s (nodes.Call x vs) b Γ a = rw (fun_ext (λ qs. arguments_local s Γ (arguments_under p vs) qs b)) refl
+  node_local s (nodes.Call x vs) b Γ a = rw (fun_ext (λ qs. arguments_local s Γ (argument_nodes p vs) qs b)) refl
   node_local s (nodes.Joined InSequence i j) b Γ a = rw (same i b.0, same j b.1) refl
   node_local s (nodes.Joined InParallel i j) b Γ a = rw (same i b.0, same j b.1) refl
   node_local s (nodes.Joined FannedOut i j) b Γ a = rw (same i b.0, same j b.1) refl
@@ -167,10 +168,10 @@ module _ (p : Program) (f g : TermId → TermJudge) (n : ℕ) (same : (i : TermI
   node_local s (nodes.Headed Followed v i) b Γ a = rw (same i b) refl
   node_local s (nodes.Transformed h i) b Γ a = rw (same i b) refl
   node_local s (nodes.Switching m) b Γ a = switch_local s m m.form b Γ a
-  node_local s (nodes.Keeping m) b Γ a = rw (same m.source b.0, same m.observer b.1, same m.body b.2) refl
-  node_local s (nodes.Gathered i) b Γ a = rw (members_local (collection_under p i) b) refl
-  node_local s (nodes.Releasing m) b Γ a = rw (members_local (collection_under p m.members) b.0, same m.observer b.1, same m.body b.2) refl
-  node_local s (nodes.Editing m) b Γ a = rw (members_local (collection_under p m.members) b.0, members_local (collection_under p m.edit) b.1) refl
+  node_local s (nodes.Continuation m) b Γ a = rw (same m.source b.0, same m.observer b.1, same m.body b.2) refl
+  node_local s (nodes.Gathered i) b Γ a = rw (members_local (collection_node p i) b) refl
+  node_local s (nodes.Releasing m) b Γ a = rw (members_local (collection_node p m.members) b.0, same m.observer b.1, same m.body b.2) refl
+  node_local s (nodes.Editing m) b Γ a = rw (members_local (collection_node p m.members) b.0, members_local (collection_node p m.edit) b.1) refl
 
 -- beyond its number, how far a term is judged says nothing
 below_same : (p : Program) (m n : ℕ) (t : TermId) → term_number t < m → term_number t < n → judged_below p m t ≡ judged_below p n t

@@ -23,10 +23,10 @@ use Rattle.sf_term.specs.declared.collection.CollExpr.TheVariants as collections
 use Rattle.sf_term.specs.declared.program.Program.{Program}
 use Rattle.sf_term.specs.Entries.{absent_collection}
 use Rattle.sf_term.specs.Trees.{without_members, added, dropped, kept, chosen}
-use Rattle.sf_term.specs.Arena.{tree, term_node_at, term_spot_at, expressions_of, expression_under, function_in, collection_of, collection_at}
+use Rattle.sf_term.specs.Arena.{tree, term_node_at, term_spot_at, program_expressions, program_expression, program_function, collection_of, collection_tree}
 use Rattle.sf_mean.specs.Contexts.{collection, Context, names_of_values}
 use Rattle.sf_mean.specs.Typing.{Takes, Collects, collects_none, collects_used, collects_added, collects_dropped, collects_kept, collects_chosen}
-use Rattle.sf_check.specs.Breaking.{kind_named, name_in, Reaches, their_observer, ReachesMembers, editing_members}
+use Rattle.sf_check.specs.Breaking.{kind_named, program_name, Reaches, their_observer, ReachesMembers, editing_members}
 use Rattle.sf_check.proofs.Types.{keys_of_table, values_of_table, typed_under, taken_under}
 use Rattle.sf_check.proofs.Contexts.{collection_is}
 
@@ -38,44 +38,44 @@ module _ (p : Program) (Γ : Context) (a : Kind) where
   absent_collects b is same = subst₂ (λ (c : CollExpr) (b : Kind). Collects Γ (collection_of p c) int_keys a b) is (sym same) collects_none
 
   module _ (x : NameId) (n s : Spot) where
-    module _ (k : KeyKind) (b c : Kind) (named : kind_named (name_in p x) Γ.bindings ≡ Some (collection k b c)) where
+    module _ (k : KeyKind) (b c : Kind) (named : kind_named (program_name p x) Γ.bindings ≡ Some (collection k b c)) where
       pub used_collects : (l : KeyKind) (d : Kind) → same_kind a b ≡ true → l ≡ k → d ≡ c → Collects Γ (collection_of p (collections.Used x n s)) l a d
       used_collects l d same keys is =
           let kind : collection k b c ≡ collection l a d = ap (λ b. collection k b c) (sym (same_is a b same)) ∙ ap₂ (λ k c. collection k a c) (sym keys) (sym is) in
-          collects_used (collection_is (name_in p x) Γ.bindings (named ∙ ap (λ m. Some m) kind))
+          collects_used (collection_is (program_name p x) Γ.bindings (named ∙ ap (λ m. Some m) kind))
 
   module _ (c : CollExpr) (v : ExprId) (t : TermId) (s : Spot) where
     module _ (k : KeyKind) (b : Kind) (given : Collects Γ (collection_of p c) k a b) where
-      module _ (u : Kind) (key : HasType (names_of_values Γ) (expression (expressions_of p) v) u) where
+      module _ (u : Kind) (key : HasType (names_of_values Γ) (expression (program_expressions p) v) u) where
         module _ (d : Kind) (member : Takes Γ (tree p t) a d) where
-          pub added_collects : same_kind u (kind_of_keys k) ≡ true → same_kind d b ≡ true → Collects Γ (added (collection_of p c) (expression_under p v) (tree p t)) k a b
+          pub added_collects : same_kind u (kind_of_keys k) ≡ true → same_kind d b ≡ true → Collects Γ (added (collection_of p c) (program_expression p v) (tree p t)) k a b
           added_collects right same =
-              collects_added given (typed_under p v (subst (HasType (names_of_values Γ) (expression (expressions_of p) v)) (same_is u (kind_of_keys k) right) key)) (subst (Takes Γ (tree p t) a) (same_is d b same) member)
+              collects_added given (typed_under p v (subst (HasType (names_of_values Γ) (expression (program_expressions p) v)) (same_is u (kind_of_keys k) right) key)) (subst (Takes Γ (tree p t) a) (same_is d b same) member)
 
   module _ (c : CollExpr) (v : ExprId) (s : Spot) where
     module _ (k : KeyKind) (b : Kind) (given : Collects Γ (collection_of p c) k a b) where
-      module _ (u : Kind) (key : HasType (names_of_values Γ) (expression (expressions_of p) v) u) where
-        pub dropped_collects : same_kind u (kind_of_keys k) ≡ true → Collects Γ (dropped (collection_of p c) (expression_under p v)) k a b
-        dropped_collects right = collects_dropped given (typed_under p v (subst (HasType (names_of_values Γ) (expression (expressions_of p) v)) (same_is u (kind_of_keys k) right) key))
+      module _ (u : Kind) (key : HasType (names_of_values Γ) (expression (program_expressions p) v) u) where
+        pub dropped_collects : same_kind u (kind_of_keys k) ≡ true → Collects Γ (dropped (collection_of p c) (program_expression p v)) k a b
+        dropped_collects right = collects_dropped given (typed_under p v (subst (HasType (names_of_values Γ) (expression (program_expressions p) v)) (same_is u (kind_of_keys k) right) key))
 
   module _ (c : CollExpr) (f : FunctionId) (s : Spot) where
     module _ (k : KeyKind) (b : Kind) (given : Collects Γ (collection_of p c) k a b) where
-      module _ (u : Kind) (keeps : FunctionTakes (names_of_values Γ) (function_at (expressions_of p) f) (kind_of_keys k) u) where
-        pub kept_collects : same_kind u bool_kind ≡ true → Collects Γ (kept (collection_of p c) (function_in p f)) k a b
-        kept_collects right = collects_kept given (taken_under p f (subst (FunctionTakes (names_of_values Γ) (function_at (expressions_of p) f) (kind_of_keys k)) (same_is u bool_kind right) keeps))
+      module _ (u : Kind) (keeps : FunctionTakes (names_of_values Γ) (function_at (program_expressions p) f) (kind_of_keys k) u) where
+        pub kept_collects : same_kind u bool_kind ≡ true → Collects Γ (kept (collection_of p c) (program_function p f)) k a b
+        kept_collects right = collects_kept given (taken_under p f (subst (FunctionTakes (names_of_values Γ) (function_at (program_expressions p) f) (kind_of_keys k)) (same_is u bool_kind right) keeps))
 
   module _ (v : ExprId) (c d : CollExpr) (s : Spot) where
-    module _ (u : Kind) (truth : HasType (names_of_values Γ) (expression (expressions_of p) v) u) where
+    module _ (u : Kind) (truth : HasType (names_of_values Γ) (expression (program_expressions p) v) u) where
       module _ (k : KeyKind) (b : Kind) (one : Collects Γ (collection_of p c) k a b) where
         module _ (l : KeyKind) (h : Kind) (other : Collects Γ (collection_of p d) l a h) where
-          pub chosen_collects : same_kind u bool_kind ≡ true → table_kind l h ≡ table_kind k b → Collects Γ (chosen (expression_under p v) (collection_of p c) (collection_of p d)) k a b
+          pub chosen_collects : same_kind u bool_kind ≡ true → table_kind l h ≡ table_kind k b → Collects Γ (chosen (program_expression p v) (collection_of p c) (collection_of p d)) k a b
           chosen_collects right same =
-              collects_chosen (typed_under p v (subst (HasType (names_of_values Γ) (expression (expressions_of p) v)) (same_is u bool_kind right) truth)) one
+              collects_chosen (typed_under p v (subst (HasType (names_of_values Γ) (expression (program_expressions p) v)) (same_is u bool_kind right) truth)) one
               (subst₂ (λ l h. Collects Γ (collection_of p d) l a h) (keys_of_table same) (values_of_table same) other)
 
 module _ (p : Program) (Γ : Context) (t : TermId) (a : Kind) (s : Spot) (at : s ≡ term_spot_at p t) where
   -- `pSwitchB`
-  module _ (n : Releasing) (is : term_node_at p t ≡ nodes.Releasing n) (k : KeyKind) (b : Kind) (given : Collects Γ (collection_at p n.members) k a b) where
+  module _ (n : Releasing) (is : term_node_at p t ≡ nodes.Releasing n) (k : KeyKind) (b : Kind) (given : Collects Γ (collection_tree p n.members) k a b) where
     module _ (d : Kind) (table : AnswersKind (Some (table_kind k b)) s (Ok d)) where
       module _ (v : Kind) (watched : AnswersKind (Some (pair_kind a d)) s (Ok v)) where
         of_watched : v ≡ pair_kind a (table_kind k b)

@@ -14,7 +14,7 @@ use Rattle.sf_refusal.specs.declared.spot.Spot.{Spot}
 use Rattle.sf_term.specs.declared.program.Program.{Program}
 use Rattle.sf_term.specs.Trees.{Template}
 use Rattle.sf_term.specs.Parameters.{NameKind, PlacedParameter, binding_of, parameters_of}
-use Rattle.sf_term.specs.Arena.{headers_of, template_in, templates_of}
+use Rattle.sf_term.specs.Arena.{headers_of, term_template, templates_of}
 use Rattle.sf_check.proofs.Templates.{lt_or_eq}
 use Rattle.sf_check.specs.Names.{names_of_set, program_names, parameter_names, parameter_spots, Repeats, AreDifferent, IsFirstRepeat}
 
@@ -123,7 +123,7 @@ pub parameters_counted : (qs : List PlacedParameter) → length (parameter_names
 parameters_counted qs = length-map (parameters_of qs) (λ (b : Name × NameKind). b.0) ∙ length-map qs binding_of
 
 pub templates_counted : (p : Program) → length (program_names p) ≡ length (headers_of p)
-templates_counted p = length-map (templates_of p) (λ (t : Template). t.name) ∙ length-map (headers_of p) (template_in p)
+templates_counted p = length-map (templates_of p) (λ (t : Template). t.name) ∙ length-map (headers_of p) (term_template p)
 
 -- ## The names in a set
 

@@ -9,7 +9,7 @@ use Rattle.sf_refusal.specs.declared.refusal.Breach.{Breach}
 use Rattle.sf_refusal.specs.Refusals.{breach_of, broken}
 use Rattle.sf_term.specs.declared.program.Program.{Program}
 use Rattle.sf_term.specs.Headers.{Header}
-use Rattle.sf_term.specs.Arena.{headers_of, template_in}
+use Rattle.sf_term.specs.Arena.{headers_of, term_template}
 use Rattle.sf_value.specs.Values.{Name}
 use Rattle.sf_reach.proofs.Lawful.{endless_once, endless_somewhere}
 use Rattle.sf_check.specs.Names.{IsFirstRepeat, NamesDiffer, HeaderRepeats, name_repeats, parameter_repeats, HeaderDiffers, IsFirstNameAgain}
@@ -56,7 +56,7 @@ module _ {fs : TypesByName} {p : Program} where
 
   -- a template that stands before the first break is typed
   before_first : {e f : Breach} (h : IsFirstBreak fs p e) (k : IsFirstBreak fs p f) → h.place < k.place → ⊥
-  before_first h k before = template_untyped h.broken (k.typed h.place (template_in p h.header) before (template_at p h.place h.header h.at))
+  before_first h k before = template_untyped h.broken (k.typed h.place (term_template p h.header) before (template_at p h.place h.header h.at))
 
   first_once : {e f : Breach} → IsFirstBreak fs p e → IsFirstBreak fs p f → e ≡ f
   first_once {e} {f} h k =
@@ -67,7 +67,7 @@ module _ {fs : TypesByName} {p : Program} where
       template_once h.broken (subst (λ g. TemplateBreaks fs p g f) same k.broken)
 
   untyped_typed : {e : Breach} → AreTyped fs p → IsFirstBreak fs p e → ⊥
-  untyped_typed typed h = template_untyped h.broken (typed h.place (template_in p h.header) (template_at p h.place h.header h.at))
+  untyped_typed typed h = template_untyped h.broken (typed h.place (term_template p h.header) (template_at p h.place h.header h.at))
 
   pub refuses_once : {e f : Breach} → RefusesNetwork fs p e → RefusesNetwork fs p f → e ≡ f
   refuses_once (name_refused h) (name_refused k) = ap (breach_of DuplicateName) (again_once h k)

@@ -4,12 +4,13 @@ use Rattle.std.proofs.lemmas.Bool.{cases_lt}
 use Rattle.std.specs.Coded.{codes}
 use Rattle.std.proofs.Math.Logic.{∥∥₁_elim, ∥∥₁_map}
 use base.Stored.{Coded-set}
-use Rattle.sf_value.specs.Values.{Kind, nodes as nodes_of}
+use Rattle.sf_value.specs.Values.{Kind}
+use Rattle.sf_value.specs.Values
 use Rattle.sf_value.specs.contracts.ty.Ty as ty
 use Rattle.sf_func.specs.Registries.{TypesByName}
 use Rattle.sf_expr.specs.Typing.{Fits}
 use Rattle.sf_term.specs.Trees.{Term, Template, Templates}
-use Rattle.sf_mean.specs.Contexts.{NameKind, value, process, collection, Context, context_of}
+use Rattle.sf_mean.specs.Contexts.{NameKind, value, process, collection, Context, template_context}
 use Rattle.sf_mean.specs.Typing.{Takes, ParameterFits, IsTyped}
 use Rattle.sf_mean.proofs.Inferred.{takes_found, output_found}
 
@@ -28,7 +29,7 @@ settled Γ t a b h = output_found t a b (∥∥₁_elim h (outputs-set _ _) take
 
 -- a type has at most 256 nodes, where it is known that it has
 settled_fits : (t : Kind) → ∥ Fits t ∥₁ → Fits t
-settled_fits t h = elim (cases_lt 256 (nodes_of t)) [ inl big ↦ absurd (∥∥₁_elim h ⊥-prop (λ small. omega (arith, big, small))) | inr small ↦ small ]
+settled_fits t h = elim (cases_lt 256 (Values.nodes t)) [ inl big ↦ absurd (∥∥₁_elim h ⊥-prop (λ small. omega (arith, big, small))) | inr small ↦ small ]
 
 settled_parameter : (k : NameKind) → ∥ ParameterFits k ∥₁ → ParameterFits k
 settled_parameter (value t) h = settled_fits t h
@@ -39,5 +40,5 @@ settled_parameter (collection k a b) h = (settled_fits a (∥∥₁_map h (λ h.
 pub settled_typed : (fs : TypesByName) (ts : Templates) (t : Template) → ∥ IsTyped fs ts t ∥₁ → IsTyped fs ts t
 settled_typed fs ts t h = record {
   parameters = λ i q within. settled_parameter (slice_index_or t.parameters i q).1 (∥∥₁_map h (λ h. h.parameters i q within));
-  body = settled (context_of fs t.parameters ts) t.body t.input t.output (∥∥₁_map h (λ h. h.body));
+  body = settled (template_context fs t.parameters ts) t.body t.input t.output (∥∥₁_map h (λ h. h.body));
 }

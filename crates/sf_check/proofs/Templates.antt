@@ -9,7 +9,7 @@ use Rattle.sf_func.specs.Registries.{TypesByName}
 use Rattle.sf_term.specs.declared.program.Program.{Program}
 use Rattle.sf_term.specs.Headers.{Header}
 use Rattle.sf_term.specs.Trees.{Template}
-use Rattle.sf_term.specs.Arena.{headers_of, template_in, templates_of}
+use Rattle.sf_term.specs.Arena.{headers_of, term_template, templates_of}
 use Rattle.sf_mean.specs.Typing.{IsTyped}
 pub use Rattle.sf_reach.proofs.Named.{template_at, spot_stands, name_at, header_at}
 use Rattle.sf_check.specs.Breaking.{AreTyped, TemplateBreaks, IsFirstBreak}
@@ -18,7 +18,7 @@ pub lt_or_eq : (m n : ℕ) → m < n + 1 → (m < n) ⊎ (m ≡ n)
 lt_or_eq m n h = grind arith
 
 module _ (fs : TypesByName) (p : Program) (n : ℕ) (typed : (i : ℕ) (t : Template) → i < n → slice_get (templates_of p) i ≡ Some t → IsTyped fs (templates_of p) t) where
-  pub one_more_typed : (h : Header) → slice_get (headers_of p) n ≡ Some h → IsTyped fs (templates_of p) (template_in p h) → (i : ℕ) (t : Template) → i < n + 1 → slice_get (templates_of p) i ≡ Some t → IsTyped fs (templates_of p) t
+  pub one_more_typed : (h : Header) → slice_get (headers_of p) n ≡ Some h → IsTyped fs (templates_of p) (term_template p h) → (i : ℕ) (t : Template) → i < n + 1 → slice_get (templates_of p) i ≡ Some t → IsTyped fs (templates_of p) t
   one_more_typed h here is i t below at =
       elim (lt_or_eq i n below) [
         | inl before ↦ typed i t before at
@@ -28,7 +28,7 @@ module _ (fs : TypesByName) (p : Program) (n : ℕ) (typed : (i : ℕ) (t : Temp
   pub all_typed : length (headers_of p) ≤ n → AreTyped fs p
   all_typed most i t at =
       let within = slice_get_within (templates_of p) i t at in
-      let count = length-map (headers_of p) (template_in p) in
+      let count = length-map (headers_of p) (term_template p) in
       typed i t (omega arith) at
 
   pub template_breaks : (h : Header) → slice_get (headers_of p) n ≡ Some h → (e : Refusal) → OrMemory (TemplateBreaks fs p h) e → OrMemory (IsFirstBreak fs p) e

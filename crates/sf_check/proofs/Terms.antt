@@ -24,10 +24,10 @@ use Rattle.sf_term.specs.declared.node.TermId.{TermId}
 use Rattle.sf_term.specs.declared.node.Switch.{Switch}
 use Rattle.sf_term.specs.declared.node.Node.TheVariants as nodes
 use Rattle.sf_term.specs.declared.program.Program.{Program}
-use Rattle.sf_term.specs.Arena.{tree, term_node_at, term_spot_at, expressions_of}
+use Rattle.sf_term.specs.Arena.{tree, term_node_at, term_spot_at, program_expressions}
 use Rattle.sf_mean.specs.Contexts.{Context, names_of_values}
 use Rattle.sf_mean.specs.Typing.{Takes}
-use Rattle.sf_check.specs.Breaking.{TermBreaks, BodyWanted, after_source, beside_input, Reaches, parallel_left, parallel_right, first_part, second_part, head_part, recurring_first, keeping_observer}
+use Rattle.sf_check.specs.Breaking.{TermBreaks, BodyWanted, after_source, beside_input, Reaches, parallel_left, parallel_right, first_part, second_part, head_part, recurring_first, continuing_observer}
 use Rattle.sf_check.specs.Answering.{AnswersTerm}
 
 -- where memory was wanting
@@ -53,7 +53,7 @@ switch_there p t n e is = subst (λ (w : Switching). term_node_at p t ≡ nodes.
 abbrev pub IsAmongOutputs : Heading → Type 0
 IsAmongOutputs k = (k ≡ Initialized) ⊎ (k ≡ Followed)
 
-module _ (p : Program) (Γ : Context) (a : Kind) (k : Heading) (v : ExprId) (f : TermId) (c : Kind) (typed : HasType (names_of_values Γ) (expression (expressions_of p) v) c) where
+module _ (p : Program) (Γ : Context) (a : Kind) (k : Heading) (v : ExprId) (f : TermId) (c : Kind) (typed : HasType (names_of_values Γ) (expression (program_expressions p) v) c) where
   pub output_reached : IsAmongOutputs k → Fits a → Reaches p Γ (nodes.Headed k v f) a Γ f a
   output_reached (inl e) fits = subst (λ k. Reaches p Γ (nodes.Headed k v f) a Γ f a) (sym e) (head_part {h = Initialized} {a = a} typed fits)
   output_reached (inr e) fits = subst (λ k. Reaches p Γ (nodes.Headed k v f) a Γ f a) (sym e) (head_part {h = Followed} {a = a} typed fits)
@@ -74,7 +74,7 @@ module _ (p : Program) (Γ : Context) (t : TermId) (a : Kind) (s : Spot) (at : s
     second_reached f = subst (λ a. Reaches p Γ (nodes.Sided Second f) a Γ f y) (sym parts) second_part
 
   -- `loopPre`
-  module _ (v : ExprId) (f : TermId) (is : term_node_at p t ≡ nodes.Headed LoopPre v f) (c : Kind) (typed : HasType (names_of_values Γ) (expression (expressions_of p) v) c) where
+  module _ (v : ExprId) (f : TermId) (is : term_node_at p t ≡ nodes.Headed LoopPre v f) (c : Kind) (typed : HasType (names_of_values Γ) (expression (program_expressions p) v) c) where
     pub loop_reached : (w : Kind) → w ≡ pair_kind a c → Fits w → Reaches p Γ (nodes.Headed LoopPre v f) a Γ f w
     loop_reached w e fits = subst (Reaches p Γ (nodes.Headed LoopPre v f) a Γ f) (sym e) (head_part {h = LoopPre} {a = a} typed (subst Fits e fits))
 
@@ -93,9 +93,9 @@ module _ (p : Program) (Γ : Context) (t : TermId) (a : Kind) (s : Spot) (at : s
       input_wants b given = subst (λ a. BodyWanted p Γ (Recurring w) f a x b c) (sym beside) (beside_input given)
 
   -- a switch that keeps its source
-  module _ (w : Observation) (f o : TermId) (k : NameId) (n : Spot) (q : PatternId) (g : TermId) (is : term_node_at p t ≡ nodes.Keeping (record { shown = w; source = f; observer = o; name = k; place = n; pattern = q; body = g })) (b : Kind) (given : Takes Γ (tree p f) a b) where
+  module _ (w : Observation) (f o : TermId) (k : NameId) (n : Spot) (q : PatternId) (g : TermId) (is : term_node_at p t ≡ nodes.Continuation (record { shown = w; source = f; observer = o; name = k; place = n; pattern = q; body = g })) (b : Kind) (given : Takes Γ (tree p f) a b) where
     module _ (v : Kind) (watched : AnswersKind (Some (pair_kind a b)) s (Ok v)) where
-      pub observer_reached : Reaches p Γ (nodes.Keeping (record { shown = w; source = f; observer = o; name = k; place = n; pattern = q; body = g })) a Γ o v
+      pub observer_reached : Reaches p Γ (nodes.Continuation (record { shown = w; source = f; observer = o; name = k; place = n; pattern = q; body = g })) a Γ o v
       observer_reached =
           let same = same_Some _ _ watched.0 in
-          subst (Reaches p Γ (nodes.Keeping (record { shown = w; source = f; observer = o; name = k; place = n; pattern = q; body = g })) a Γ o) same (keeping_observer given (subst Fits (sym same) watched.1))
+          subst (Reaches p Γ (nodes.Continuation (record { shown = w; source = f; observer = o; name = k; place = n; pattern = q; body = g })) a Γ o) same (continuing_observer given (subst Fits (sym same) watched.1))

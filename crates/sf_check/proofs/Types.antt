@@ -6,11 +6,11 @@ use Rattle.sf_expr.specs.declared.exprs.FunctionId.{FunctionId}
 use Rattle.sf_expr.specs.Arena.{expression, function_at}
 use Rattle.sf_expr.specs.Expressions.{Expression, Function}
 use Rattle.sf_expr.specs.Typing.{Names, Fits, HasType, variable_has, literal_has, pair_has, applied_has, operation_has, conditional_has, mapped_has, folded_has, called_has, FunctionTakes, function_takes}
-pub use Rattle.sf_expr.proofs.Judged.{one_type as expression_one}
+pub use Rattle.sf_expr.proofs.Judged.{one_type}
 use Rattle.sf_term.specs.declared.program.Program.{Program}
 use Rattle.sf_term.specs.Trees.{Primitive}
-use Rattle.sf_term.specs.Arena.{expressions_of, expression_under, function_in}
-use Rattle.sf_term.proofs.Kept.{expression_in, function_at_in}
+use Rattle.sf_term.specs.Arena.{program_expressions, program_expression, program_function}
+use Rattle.sf_term.proofs.Extended.{expression_in, function_at_in}
 use Rattle.sf_mean.specs.Contexts.{Context}
 use Rattle.sf_mean.specs.Typing.{PrimitiveTakes, bare_takes, probe_takes, never_takes, value_takes, timed_takes, selected_takes, accumulated_takes, arrow_takes, fused_takes}
 pub use Rattle.sf_mean.proofs.Inferred.{takes_one, input_fits, output_fits, form_of}
@@ -53,14 +53,14 @@ values_of_table e = cc
 
 -- an expression and a function at an id
 module _ (p : Program) {R : Names} where
-  pub typed_in : (v : ExprId) {t : Kind} → HasType R (expression_under p v) t → HasType R (expression (expressions_of p) v) t
+  pub typed_in : (v : ExprId) {t : Kind} → HasType R (program_expression p v) t → HasType R (expression (program_expressions p) v) t
   typed_in v {t} h = subst (λ e. HasType R e t) (sym (expression_in p v)) h
 
-  pub typed_under : (v : ExprId) {t : Kind} → HasType R (expression (expressions_of p) v) t → HasType R (expression_under p v) t
+  pub typed_under : (v : ExprId) {t : Kind} → HasType R (expression (program_expressions p) v) t → HasType R (program_expression p v) t
   typed_under v {t} h = subst (λ e. HasType R e t) (expression_in p v) h
 
-  pub taken_in : (f : FunctionId) {t u : Kind} → FunctionTakes R (function_in p f) t u → FunctionTakes R (function_at (expressions_of p) f) t u
+  pub taken_in : (f : FunctionId) {t u : Kind} → FunctionTakes R (program_function p f) t u → FunctionTakes R (function_at (program_expressions p) f) t u
   taken_in f {t} {u} h = subst (λ f. FunctionTakes R f t u) (sym (function_at_in p f)) h
 
-  pub taken_under : (f : FunctionId) {t u : Kind} → FunctionTakes R (function_at (expressions_of p) f) t u → FunctionTakes R (function_in p f) t u
+  pub taken_under : (f : FunctionId) {t u : Kind} → FunctionTakes R (function_at (program_expressions p) f) t u → FunctionTakes R (program_function p f) t u
   taken_under f {t} {u} h = subst (λ f. FunctionTakes R f t u) (function_at_in p f) h

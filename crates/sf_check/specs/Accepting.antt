@@ -11,8 +11,8 @@ use Rattle.sf_mean.specs.Networks.{main_of}
 use Rattle.sf_check.specs.declared.checked.Checked.{Checked}
 
 -- the program that was accepted
-abbrev pub program_of : Checked → Program
-program_of c = c.program
+abbrev pub accepted_program : Checked → Program
+accepted_program c = c.program
 
 -- the types of the stored functions with which it was accepted
 abbrev pub types_checked : Checked → TypesByName
@@ -24,4 +24,4 @@ no_main = record { name = []; parameters = []; input = int_kind; output = int_ki
 
 -- the template that is run, `main`
 unfoldable pub checked_main : Checked → Template
-checked_main c = unwrap_or (main_of (templates_of (program_of c))) no_main
+checked_main c = unwrap_or (main_of (templates_of (accepted_program c))) no_main

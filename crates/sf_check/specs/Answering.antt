@@ -15,20 +15,20 @@ use Rattle.sf_term.specs.declared.form.Bare.TheVariants.{Pre}
 use Rattle.sf_term.specs.declared.node.TermId.{TermId}
 use Rattle.sf_term.specs.declared.node.Argument.{Argument}
 use Rattle.sf_term.specs.declared.node.Argument.TheVariants as arguments
-use Rattle.sf_term.specs.declared.node.Primitive.{Primitive as PrimitiveNode}
+use Rattle.sf_term.specs.declared.node.Primitive as primitive_nodes
 use Rattle.sf_term.specs.declared.node.Primitive.TheVariants as nodes
 use Rattle.sf_term.specs.declared.collection.CollExpr.{CollExpr}
 use Rattle.sf_term.specs.declared.program.Program.{Program}
 use Rattle.sf_term.specs.Trees.{Primitive, bare, never, with_value, timed, selected, arrow, accumulated}
 use Rattle.sf_term.specs.Entries.{absent_payload}
-use Rattle.sf_term.specs.Arena.{tree, expressions_of, collection_of, collection_at}
+use Rattle.sf_term.specs.Arena.{tree, program_expressions, collection_of, collection_tree}
 use Rattle.sf_mean.specs.Contexts.{NameKind, value, process, collection, Context, names_of_values}
 use Rattle.sf_mean.specs.Typing.{bare_kind, Takes, Collects}
 use Rattle.sf_check.specs.Breaking.{TermBreaks, CollectionBreaks}
 use Rattle.sf_check.specs.declared.member_types.MemberTypes.{MemberTypes}
 
 -- the primitive that a node stands for
-abbrev pub primitive_in : Exprs → PrimitiveNode → Primitive
+abbrev pub primitive_in : Exprs → primitive_nodes.Primitive → Primitive
 primitive_in x (nodes.Bare k) = bare k
 primitive_in x (nodes.Never n) = never (absent_payload (literal_at x n))
 primitive_in x (nodes.WithValue k e) = with_value k (expression x e)
@@ -54,7 +54,7 @@ AnswersMembers p Γ c a (Err e) = OrMemory (CollectionBreaks p Γ c a) e
 
 -- an argument is of the type or the types of a parameter of a kind
 abbrev pub ArgumentFits : Program → Context → Argument → NameKind → Type 0
-ArgumentFits p Γ (arguments.Value e) (value t) = HasType (names_of_values Γ) (expression (expressions_of p) e) t
+ArgumentFits p Γ (arguments.Value e) (value t) = HasType (names_of_values Γ) (expression (program_expressions p) e) t
 ArgumentFits p Γ (arguments.Value e) (process a b) = ⊥
 ArgumentFits p Γ (arguments.Value e) (collection k a b) = ⊥
 ArgumentFits p Γ (arguments.Process t) (value u) = ⊥
@@ -62,4 +62,4 @@ ArgumentFits p Γ (arguments.Process t) (process a b) = Takes Γ (tree p t) a b
 ArgumentFits p Γ (arguments.Process t) (collection k a b) = ⊥
 ArgumentFits p Γ (arguments.Collection i) (value u) = ⊥
 ArgumentFits p Γ (arguments.Collection i) (process a b) = ⊥
-ArgumentFits p Γ (arguments.Collection i) (collection k a b) = Collects Γ (collection_at p i) k a b
+ArgumentFits p Γ (arguments.Collection i) (collection k a b) = Collects Γ (collection_tree p i) k a b

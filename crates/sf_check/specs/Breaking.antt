@@ -30,10 +30,10 @@ use Rattle.sf_term.specs.declared.collection.CollExpr.{CollExpr}
 use Rattle.sf_term.specs.declared.program.Program.{Program}
 use Rattle.sf_term.specs.Headers.{Header}
 use Rattle.sf_term.specs.Trees.{Template}
-use Rattle.sf_term.specs.Arena.{tree, expressions_of, arguments_under, collection_at, headers_of, templates_of}
+use Rattle.sf_term.specs.Arena.{tree, program_expressions, argument_nodes, collection_tree, headers_of, templates_of}
 use Rattle.sf_mean.specs.Contexts.{NameKind, value, process, collection, Bindings, Signature, signature_named, Context, names_of_values, inside_pattern}
 use Rattle.sf_mean.specs.Typing.{Takes, Collects, IsTyped}
-pub use Rattle.sf_check.specs.Standing.{kind_named, pattern_in, name_in, keeping_inside, members_inside, BindsInside}
+pub use Rattle.sf_check.specs.Standing.{kind_named, program_pattern, program_name, continuing_inside, members_inside, BindsInside}
 use Rattle.sf_check.specs.Judging.{members_judged, term_judged, template_judged}
 
 -- a type is none of pairs of a value and an event
@@ -56,9 +56,9 @@ pub data BodyWanted (p : Program) (Γ : Context) : Switching → TermId → (who
 -- An argument keeps its rules so far, for a parameter of a kind: an expression has a type, whichever it is, a term stands for a
 -- process and takes its inputs, and so does a collection for a collection.
 pub data ArgumentKeeps (p : Program) (Γ : Context) : Argument → NameKind → Type 0 where
-  value_keeps : {e : ExprId} {k : NameKind} {t : Kind} → HasType (names_of_values Γ) (expression (expressions_of p) e) t → ArgumentKeeps p Γ (arguments.Value e) k
+  value_keeps : {e : ExprId} {k : NameKind} {t : Kind} → HasType (names_of_values Γ) (expression (program_expressions p) e) t → ArgumentKeeps p Γ (arguments.Value e) k
   process_keeps : {t : TermId} {a b c : Kind} → Takes Γ (tree p t) a c → ArgumentKeeps p Γ (arguments.Process t) (process a b)
-  collection_keeps : {i : CollectionId} {k l : KeyKind} {a b c : Kind} → Collects Γ (collection_at p i) l a c → ArgumentKeeps p Γ (arguments.Collection i) (collection k a b)
+  collection_keeps : {i : CollectionId} {k l : KeyKind} {a b c : Kind} → Collects Γ (collection_tree p i) l a c → ArgumentKeeps p Γ (arguments.Collection i) (collection k a b)
 
 -- Of arguments, which are as many as parameters, these are left with theirs: those before them keep their rules so far.
 pub data ArgumentsLeft (p : Program) (Γ : Context) : List Argument → Bindings → (left : List Argument) (parameters : Bindings) → Type 0 where
@@ -69,7 +69,7 @@ pub data ArgumentsLeft (p : Program) (Γ : Context) : List Argument → Bindings
 -- text keeps its rules.
 pub data Reaches (p : Program) (Γ : Context) : Node → Kind → Context → TermId → Kind → Type 0 where
   call_argument : {k : NameId} {vs : ArgumentsId} {g : Signature} {t : TermId} {x : Name} {a b c : Kind} {ws : List Argument} {qs : Bindings}
-      → signature_named (name_in p k) Γ.signatures ≡ Some g → ArgumentsLeft p Γ (arguments_under p vs) g.parameters (arguments.Process t ∷ ws) ((x, process b c) ∷ qs) → Reaches p Γ (nodes.Call k vs) a Γ t b
+      → signature_named (program_name p k) Γ.signatures ≡ Some g → ArgumentsLeft p Γ (argument_nodes p vs) g.parameters (arguments.Process t ∷ ws) ((x, process b c) ∷ qs) → Reaches p Γ (nodes.Call k vs) a Γ t b
   sequence_left : {f g : TermId} {a : Kind} → Reaches p Γ (nodes.Joined InSequence f g) a Γ f a
   sequence_right : {f g : TermId} {a b : Kind} → Takes Γ (tree p f) a b → Reaches p Γ (nodes.Joined InSequence f g) a Γ g b
   parallel_left : {f g : TermId} {a c : Kind} → Reaches p Γ (nodes.Joined InParallel f g) (pair_kind a c) Γ f a
@@ -79,34 +79,34 @@ pub data Reaches (p : Program) (Γ : Context) : Node → Kind → Context → Te
   first_part : {t : TermId} {a c : Kind} → Reaches p Γ (nodes.Sided First t) (pair_kind a c) Γ t a
   second_part : {t : TermId} {a c : Kind} → Reaches p Γ (nodes.Sided Second t) (pair_kind c a) Γ t a
   head_part : {h : Heading} {v : ExprId} {t : TermId} {a c : Kind}
-      → HasType (names_of_values Γ) (expression (expressions_of p) v) c → Fits (under_head h c a) → Reaches p Γ (nodes.Headed h v t) a Γ t (under_head h c a)
-  transformed_part : {f : FunctionId} {t : TermId} {a c : Kind} → FunctionTakes (names_of_values Γ) (function_at (expressions_of p) f) a c → Reaches p Γ (nodes.Transformed f t) a Γ t a
+      → HasType (names_of_values Γ) (expression (program_expressions p) v) c → Fits (under_head h c a) → Reaches p Γ (nodes.Headed h v t) a Γ t (under_head h c a)
+  transformed_part : {f : FunctionId} {t : TermId} {a c : Kind} → FunctionTakes (names_of_values Γ) (function_at (program_expressions p) f) a c → Reaches p Γ (nodes.Transformed f t) a Γ t a
   switch_source : {w : Observation} {t u : TermId} {q : PatternId} {a : Kind} → Reaches p Γ (nodes.Switching (record { form = Basic w; source = t; pattern = q; body = u })) a Γ t a
   recurring_first : {w : Observation} {t u : TermId} {q : PatternId} {a c : Kind} → Reaches p Γ (nodes.Switching (record { form = Recurring w; source = t; pattern = q; body = u })) (pair_kind a (event_kind c)) Γ t a
   switch_body : {w : Switching} {t u : TermId} {q : PatternId} {x a b c : Kind}
-      → BodyWanted p Γ w t x a b c → BindsInside (pattern_in p q) c Γ → Reaches p Γ (nodes.Switching (record { form = w; source = t; pattern = q; body = u })) x (inside_pattern (pattern_in p q) c Γ) u a
-  keeping_source : {w : Observation} {t o u : TermId} {k : NameId} {n : Spot} {q : PatternId} {a : Kind} → Reaches p Γ (nodes.Keeping (record { shown = w; source = t; observer = o; name = k; place = n; pattern = q; body = u })) a Γ t a
-  keeping_observer : {w : Observation} {t o u : TermId} {k : NameId} {n : Spot} {q : PatternId} {a b : Kind}
-      → Takes Γ (tree p t) a b → Fits (pair_kind a b) → Reaches p Γ (nodes.Keeping (record { shown = w; source = t; observer = o; name = k; place = n; pattern = q; body = u })) a Γ o (pair_kind a b)
-  keeping_body : {w : Observation} {t o u : TermId} {k : NameId} {n : Spot} {q : PatternId} {a b c : Kind}
-      → Takes Γ (tree p t) a b → Takes Γ (tree p o) (pair_kind a b) (event_kind c) → BindsInside (pattern_in p q) c (keeping_inside p k a b Γ)
-      → Reaches p Γ (nodes.Keeping (record { shown = w; source = t; observer = o; name = k; place = n; pattern = q; body = u })) a (inside_pattern (pattern_in p q) c (keeping_inside p k a b Γ)) u a
+      → BodyWanted p Γ w t x a b c → BindsInside (program_pattern p q) c Γ → Reaches p Γ (nodes.Switching (record { form = w; source = t; pattern = q; body = u })) x (inside_pattern (program_pattern p q) c Γ) u a
+  continuing_source : {w : Observation} {t o u : TermId} {k : NameId} {n : Spot} {q : PatternId} {a : Kind} → Reaches p Γ (nodes.Continuation (record { shown = w; source = t; observer = o; name = k; place = n; pattern = q; body = u })) a Γ t a
+  continuing_observer : {w : Observation} {t o u : TermId} {k : NameId} {n : Spot} {q : PatternId} {a b : Kind}
+      → Takes Γ (tree p t) a b → Fits (pair_kind a b) → Reaches p Γ (nodes.Continuation (record { shown = w; source = t; observer = o; name = k; place = n; pattern = q; body = u })) a Γ o (pair_kind a b)
+  continuing_body : {w : Observation} {t o u : TermId} {k : NameId} {n : Spot} {q : PatternId} {a b c : Kind}
+      → Takes Γ (tree p t) a b → Takes Γ (tree p o) (pair_kind a b) (event_kind c) → BindsInside (program_pattern p q) c (continuing_inside p k a b Γ)
+      → Reaches p Γ (nodes.Continuation (record { shown = w; source = t; observer = o; name = k; place = n; pattern = q; body = u })) a (inside_pattern (program_pattern p q) c (continuing_inside p k a b Γ)) u a
   their_observer : {n : Releasing} {k : KeyKind} {a b : Kind}
-      → Collects Γ (collection_at p n.members) k a b → Fits (pair_kind a (table_kind k b)) → Reaches p Γ (nodes.Releasing n) a Γ n.observer (pair_kind a (table_kind k b))
+      → Collects Γ (collection_tree p n.members) k a b → Fits (pair_kind a (table_kind k b)) → Reaches p Γ (nodes.Releasing n) a Γ n.observer (pair_kind a (table_kind k b))
   releasing_body : {n : Releasing} {k : KeyKind} {a b c : Kind}
-      → Collects Γ (collection_at p n.members) k a b → Takes Γ (tree p n.observer) (pair_kind a (table_kind k b)) (event_kind c) → BindsInside (pattern_in p n.pattern) c (members_inside p n.name k a b Γ)
-      → Reaches p Γ (nodes.Releasing n) a (inside_pattern (pattern_in p n.pattern) c (members_inside p n.name k a b Γ)) n.body a
+      → Collects Γ (collection_tree p n.members) k a b → Takes Γ (tree p n.observer) (pair_kind a (table_kind k b)) (event_kind c) → BindsInside (program_pattern p n.pattern) c (members_inside p n.name k a b Γ)
+      → Reaches p Γ (nodes.Releasing n) a (inside_pattern (program_pattern p n.pattern) c (members_inside p n.name k a b Γ)) n.body a
 
 -- In a form on inputs of a type, a collection is typed next, under a context and on inputs of its own.
 pub data ReachesMembers (p : Program) (Γ : Context) : Node → Kind → Context → CollectionId → Kind → Type 0 where
   argument_members : {f : NameId} {vs : ArgumentsId} {g : Signature} {i : CollectionId} {x : Name} {k : KeyKind} {a b c : Kind} {ws : List Argument} {qs : Bindings}
-      → signature_named (name_in p f) Γ.signatures ≡ Some g → ArgumentsLeft p Γ (arguments_under p vs) g.parameters (arguments.Collection i ∷ ws) ((x, collection k b c) ∷ qs) → ReachesMembers p Γ (nodes.Call f vs) a Γ i b
+      → signature_named (program_name p f) Γ.signatures ≡ Some g → ArgumentsLeft p Γ (argument_nodes p vs) g.parameters (arguments.Collection i ∷ ws) ((x, collection k b c) ∷ qs) → ReachesMembers p Γ (nodes.Call f vs) a Γ i b
   gathered_members : {i : CollectionId} {a : Kind} → ReachesMembers p Γ (nodes.Gathered i) a Γ i a
   releasing_members : {n : Releasing} {a : Kind} → ReachesMembers p Γ (nodes.Releasing n) a Γ n.members a
   editing_members : {n : Editing} {a c : Kind} → ReachesMembers p Γ (nodes.Editing n) (pair_kind a (event_kind c)) Γ n.members a
   their_edit : {n : Editing} {k : KeyKind} {a b c : Kind}
-      → Collects Γ (collection_at p n.members) k a b → BindsInside (pattern_in p n.pattern) c (members_inside p n.name k a b Γ)
-      → ReachesMembers p Γ (nodes.Editing n) (pair_kind a (event_kind c)) (inside_pattern (pattern_in p n.pattern) c (members_inside p n.name k a b Γ)) n.edit a
+      → Collects Γ (collection_tree p n.members) k a b → BindsInside (program_pattern p n.pattern) c (members_inside p n.name k a b Γ)
+      → ReachesMembers p Γ (nodes.Editing n) (pair_kind a (event_kind c)) (inside_pattern (program_pattern p n.pattern) c (members_inside p n.name k a b Γ)) n.edit a
 
 -- In the term at an id, on inputs of a type, this is the first rule, in the order of the text, that is broken.
 pub record TermBreaks (p : Program) (Γ : Context) (t : TermId) (a : Kind) (e : Breach) : Type 0 where

@@ -1,6 +1,7 @@
 -- The types that terms take inputs to, or the first rule that each breaks: its parts are looked at in the order of the text, and then the form itself.
 use Rattle.std.specs.Prelude.{◌≡◌, ℕ, suc, zero, nat_eq, nat_le, Bool, true, false, ◌&&◌, List, [], ◌∷◌, length, Option, Some, None, Result, Ok, Err}
-use Rattle.sf_value.specs.Values.{KeyKind, Kind, bool_kind, pair_kind, event_kind, table_kind, nodes as nodes_of}
+use Rattle.sf_value.specs.Values.{KeyKind, Kind, bool_kind, pair_kind, event_kind, table_kind}
+use Rattle.sf_value.specs.Values
 use Rattle.sf_value.specs.KindView.{key_kind_of}
 use Rattle.sf_refusal.specs.declared.spot.Spot.{Spot}
 use Rattle.sf_refusal.specs.declared.rule.Rule.{Rule}
@@ -12,8 +13,8 @@ use Rattle.sf_func.specs.Registries.{TypesByName}
 use Rattle.sf_operator.specs.Kinds.{same_kind, parts_of, payload_of, kind_of_keys}
 use Rattle.sf_expr.specs.declared.exprs.PatternId.{PatternId}
 use Rattle.sf_expr.specs.declared.exprs.Exprs.{Exprs}
-use Rattle.sf_expr.specs.Arena.{literal_at, placed_at}
-use Rattle.sf_expr.specs.Judging.{◌>>=◌, matching_at, fitting_at, binding_at, judged, function_judged, Stops}
+use Rattle.sf_expr.specs.Arena.{literal_at, stored_pattern}
+use Rattle.sf_expr.specs.Judging.{◌>>=◌, matching_at, judged_fitting, judged_binding, judged, function_judged, Stops}
 use Rattle.sf_term.specs.declared.form.Bare.{Bare}
 use Rattle.sf_term.specs.declared.form.Bare.TheVariants.{Pre}
 use Rattle.sf_term.specs.declared.form.Join.TheVariants.{InSequence, InParallel, FannedOut}
@@ -36,18 +37,18 @@ use Rattle.sf_term.specs.declared.program.Program.{Program}
 use Rattle.sf_term.specs.Entries.{absent_payload}
 use Rattle.sf_term.specs.Headers.{Header}
 use Rattle.sf_term.specs.Parameters.{parameters_of}
-use Rattle.sf_term.specs.Arena.{term_number, term_node_at, term_spot_at, expressions_of, arguments_under, collection_under, templates_of}
-use Rattle.sf_mean.specs.Contexts.{NameKind, value, process, collection, Bindings, Signature, signature_named, Context, names_of_values, context_of, inside_pattern}
+use Rattle.sf_term.specs.Arena.{term_number, term_node_at, term_spot_at, program_expressions, argument_nodes, collection_node, templates_of}
+use Rattle.sf_mean.specs.Contexts.{NameKind, value, process, collection, Bindings, Signature, signature_named, Context, names_of_values, template_context, inside_pattern}
 use Rattle.sf_mean.specs.Typing.{bare_kind, value_kind, takes_input, takes_time, timed_kind, takes_number, selected_kind, accumulated_argument, accumulated_kind}
 use Rattle.sf_mean.specs.Inference.{value_is_argument}
-use Rattle.sf_check.specs.Standing.{kind_named, pattern_in, name_in, keeping_inside, members_inside}
+use Rattle.sf_check.specs.Standing.{kind_named, program_pattern, program_name, continuing_inside, members_inside}
 use Rattle.sf_check.specs.declared.body.Body.{Body}
 use Rattle.sf_check.specs.declared.body.Edit.{Edit}
 use Rattle.sf_check.specs.declared.member_types.MemberTypes.{MemberTypes}
 
 -- whether a type has at most 256 nodes, as those of inputs have
 abbrev pub is_bounded : Kind → Bool
-is_bounded t = nat_le (nodes_of t) 256
+is_bounded t = nat_le (Values.nodes t) 256
 
 -- nothing where a test holds, else the rule that is broken at a place
 abbrev pub asked : Rule → Spot → Bool → Result (Unit {0}) Breach
@@ -55,13 +56,13 @@ asked r s true = Ok tt
 asked r s false = Err (breach_of r s)
 
 -- what was found, else the rule that is broken at a place
-abbrev pub found_at : {A : Type 0} → Rule → Spot → Option A → Result A Breach
-found_at r s None = Err (breach_of r s)
-found_at r s (Some x) = Ok x
+abbrev pub found_or_broken : {A : Type 0} → Rule → Spot → Option A → Result A Breach
+found_or_broken r s None = Err (breach_of r s)
+found_or_broken r s (Some x) = Ok x
 
 -- the type of a value and that of the payload of the event beside it, of a type of pairs of both
-abbrev pub beside_at : Spot → Kind → Result (Kind × Kind) Breach
-beside_at s a = do
+abbrev pub judged_beside : Spot → Kind → Result (Kind × Kind) Breach
+judged_beside s a = do
   k ← matching_at s (parts_of a)
   c ← matching_at s (payload_of k.1)
   Ok (k.0, c)
@@ -73,25 +74,25 @@ wanted_at s d b = do
   Ok d
 
 -- the first part of a type of pairs whose second part is the one that is fed back
-abbrev pub fed_at : Spot → (found fed : Kind) → Result Kind Breach
-fed_at s d c = do
+abbrev pub judged_fed : Spot → (found fed : Kind) → Result Kind Breach
+judged_fed s d c = do
   k ← matching_at s (parts_of d)
   _ ← asked Mismatch s (same_kind k.1 c)
   Ok k.0
 
 -- the types of the process that a name stands for, at its place
-abbrev pub process_at : Spot → Option NameKind → Result (Kind × Kind) Breach
-process_at n None = Err (breach_of UnknownName n)
-process_at n (Some (value t)) = Err (breach_of Mismatch n)
-process_at n (Some (process a b)) = Ok (a, b)
-process_at n (Some (collection k a b)) = Err (breach_of Mismatch n)
+abbrev pub judged_process : Spot → Option NameKind → Result (Kind × Kind) Breach
+judged_process n None = Err (breach_of UnknownName n)
+judged_process n (Some (value t)) = Err (breach_of Mismatch n)
+judged_process n (Some (process a b)) = Ok (a, b)
+judged_process n (Some (collection k a b)) = Err (breach_of Mismatch n)
 
 -- the types of the collection that a name stands for, at its place: of its keys, and of its members' inputs and outputs
-abbrev pub members_at : Spot → Option NameKind → Result (KeyKind × Kind × Kind) Breach
-members_at n None = Err (breach_of UnknownName n)
-members_at n (Some (value t)) = Err (breach_of Mismatch n)
-members_at n (Some (process a b)) = Err (breach_of Mismatch n)
-members_at n (Some (collection k a b)) = Ok (k, a, b)
+abbrev pub judged_collection : Spot → Option NameKind → Result (KeyKind × Kind × Kind) Breach
+judged_collection n None = Err (breach_of UnknownName n)
+judged_collection n (Some (value t)) = Err (breach_of Mismatch n)
+judged_collection n (Some (process a b)) = Err (breach_of Mismatch n)
+judged_collection n (Some (collection k a b)) = Ok (k, a, b)
 
 -- under a context, what inputs of a type are taken to, or the first rule that is broken
 abbrev pub Answer : Type 0 → Type 0
@@ -108,44 +109,44 @@ MembersJudge = Answer (KeyKind × Kind)
 -- `pre` stands behind `-->` alone
 abbrev pub bare_judged : Spot → Bare → Kind → Result Kind Breach
 bare_judged s Pre a = Err (breach_of BarePre s)
-bare_judged s k a = fitting_at s (bare_kind k a)
+bare_judged s k a = judged_fitting s (bare_kind k a)
 
 -- the type that a primitive takes inputs of a type to
 abbrev pub primitive_judged : Exprs → Spot → Primitive → TermJudge
 primitive_judged x s (primitives.Bare k) Γ a = bare_judged s k a
-primitive_judged x s (primitives.Never n) Γ a = fitting_at s (Some (event_kind (absent_payload (literal_at x n))))
+primitive_judged x s (primitives.Never n) Γ a = judged_fitting s (Some (event_kind (absent_payload (literal_at x n))))
 primitive_judged x s (primitives.WithValue k v) Γ a = do
   t ← judged x v (names_of_values Γ)
-  fitting_at s (value_kind k t a)
+  judged_fitting s (value_kind k t a)
 primitive_judged x s (primitives.Timed k q v) Γ a = do
   t ← judged x v (names_of_values Γ)
   _ ← asked Mismatch s (takes_input k t a)
   _ ← asked BadConstant s (takes_time k q)
-  fitting_at s (timed_kind k t)
+  judged_fitting s (timed_kind k t)
 primitive_judged x s (primitives.Selected k n) Γ a = do
-  b ← fitting_at s (selected_kind a)
+  b ← judged_fitting s (selected_kind a)
   _ ← asked BadConstant s (takes_number n)
   Ok b
 primitive_judged x s (primitives.Arrow f) Γ a = function_judged x f s a (names_of_values Γ)
 primitive_judged x s (primitives.Accumulated k v f) Γ a = do
   t ← judged x v (names_of_values Γ)
-  c ← fitting_at s (accumulated_argument k t a)
+  c ← judged_fitting s (accumulated_argument k t a)
   u ← function_judged x f s c (names_of_values Γ)
-  fitting_at s (accumulated_kind k t a u)
+  judged_fitting s (accumulated_kind k t a u)
 
 -- The type of the outputs of a body on inputs of a type, which is the one that is wanted of it inside a pattern for payloads
 -- of a type.
 abbrev pub body_judged : Program → Spot → PatternId → TermJudge → (input output payload : Kind) → Context → Result Kind Breach
 body_judged p s q body a b c Γ = do
-  _ ← binding_at s (placed_at (expressions_of p) q) c (names_of_values Γ)
-  d ← body (inside_pattern (pattern_in p q) c Γ) a
+  _ ← judged_binding s (stored_pattern (program_expressions p) q) c (names_of_values Γ)
+  d ← body (inside_pattern (program_pattern p q) c Γ) a
   wanted_at s d b
 
 -- the same of the types of an edit
 abbrev pub edit_judged : Program → Spot → PatternId → MembersJudge → Kind → KeyKind × Kind → (payload : Kind) → Context → Result (KeyKind × Kind) Breach
 edit_judged p s q edit a m c Γ = do
-  _ ← binding_at s (placed_at (expressions_of p) q) c (names_of_values Γ)
-  e ← edit (inside_pattern (pattern_in p q) c Γ) a
+  _ ← judged_binding s (stored_pattern (program_expressions p) q) c (names_of_values Γ)
+  e ← edit (inside_pattern (program_pattern p q) c Γ) a
   _ ← asked Mismatch s (same_kind (table_kind e.0 e.1) (table_kind m.0 m.1))
   Ok e
 
@@ -154,28 +155,28 @@ module _ (p : Program) (part : TermId → TermJudge) where
   abbrev pub members_judged : CollExpr → MembersJudge
   members_judged (collections.Empty k t s) Γ a = Ok (key_kind_of k, t)
   members_judged (collections.Used x n s) Γ a = do
-    m ← members_at n (kind_named (name_in p x) Γ.bindings)
+    m ← judged_collection n (kind_named (program_name p x) Γ.bindings)
     _ ← asked Mismatch s (same_kind a m.1)
     Ok (m.0, m.2)
   members_judged (collections.Added' o c v t s) Γ a = do
     m ← members_judged c Γ a
-    u ← judged (expressions_of p) v (names_of_values Γ)
+    u ← judged (program_expressions p) v (names_of_values Γ)
     d ← part t Γ a
     _ ← asked Mismatch s (same_kind u (kind_of_keys m.0))
     _ ← asked Mismatch s (is_bounded a && same_kind d m.1)
     Ok m
   members_judged (collections.Dropped' o c v s) Γ a = do
     m ← members_judged c Γ a
-    u ← judged (expressions_of p) v (names_of_values Γ)
+    u ← judged (program_expressions p) v (names_of_values Γ)
     _ ← asked Mismatch s (same_kind u (kind_of_keys m.0))
     Ok m
   members_judged (collections.Kept' o c f s) Γ a = do
     m ← members_judged c Γ a
-    u ← function_judged (expressions_of p) f s (kind_of_keys m.0) (names_of_values Γ)
+    u ← function_judged (program_expressions p) f s (kind_of_keys m.0) (names_of_values Γ)
     _ ← asked Mismatch s (same_kind u bool_kind)
     Ok m
   members_judged (collections.Chosen' v o c r d s) Γ a = do
-    u ← judged (expressions_of p) v (names_of_values Γ)
+    u ← judged (program_expressions p) v (names_of_values Γ)
     m ← members_judged c Γ a
     l ← members_judged d Γ a
     _ ← asked Mismatch s (same_kind u bool_kind)
@@ -186,7 +187,7 @@ module _ (p : Program) (part : TermId → TermJudge) where
   -- term stands for no value and no collection, and a collection for no value and no process
   abbrev pub argument_judged : Spot → Context → Argument → NameKind → Result Bool Breach
   argument_judged s Γ (arguments.Value v) k = do
-    t ← judged (expressions_of p) v (names_of_values Γ)
+    t ← judged (program_expressions p) v (names_of_values Γ)
     Ok (value_is_argument (Some t) k)
   argument_judged s Γ (arguments.Process t) (value u) = Err (breach_of Mismatch s)
   argument_judged s Γ (arguments.Process t) (process a b) = do
@@ -196,7 +197,7 @@ module _ (p : Program) (part : TermId → TermJudge) where
   argument_judged s Γ (arguments.Collection i) (value u) = Err (breach_of Mismatch s)
   argument_judged s Γ (arguments.Collection i) (process a b) = Err (breach_of Mismatch s)
   argument_judged s Γ (arguments.Collection i) (collection k a b) = do
-    m ← members_judged (collection_under p i) Γ a
+    m ← members_judged (collection_node p i) Γ a
     Ok (same_kind (table_kind m.0 m.1) (table_kind k b))
 
   -- whether each of the arguments is, one after another
@@ -212,33 +213,33 @@ module _ (p : Program) (part : TermId → TermJudge) where
   -- at; that they fit its parameters, and the inputs its header, is looked at last.
   abbrev pub call_judged : Spot → Context → Option Signature → List Argument → Kind → Result Kind Breach
   call_judged s Γ o vs a = do
-    g ← found_at UnknownName s o
+    g ← found_or_broken UnknownName s o
     _ ← asked Arity s (nat_eq (length vs) (length g.parameters))
     fit ← arguments_judged s Γ vs g.parameters
     _ ← asked Mismatch s (fit && same_kind a g.input)
-    fitting_at s (Some g.output)
+    judged_fitting s (Some g.output)
 
   -- The type that a switch of a form at a place takes inputs of a type to: the event stands beside the value of its first term,
   -- or beside the input.
   abbrev pub switch_judged : Spot → Switch → Switching → TermJudge
   switch_judged s n (Basic w) Γ a = do
     d ← part n.source Γ a
-    k ← beside_at s d
+    k ← judged_beside s d
     body_judged p s n.pattern (part n.body) a k.0 k.1 Γ
   switch_judged s n (Recurring w) Γ a = do
-    k ← beside_at s a
+    k ← judged_beside s a
     b ← part n.source Γ k.0
     body_judged p s n.pattern (part n.body) k.0 b k.1 Γ
 
   -- the type that a form at a place takes inputs of a type to, by those of its parts
   abbrev pub node_judged : Spot → Node → TermJudge
-  node_judged s (nodes.Primitive q) Γ a = primitive_judged (expressions_of p) s q Γ a
+  node_judged s (nodes.Primitive q) Γ a = primitive_judged (program_expressions p) s q Γ a
   node_judged s (nodes.Named (Process w) x n) Γ a = do
-    k ← process_at n (kind_named (name_in p x) Γ.bindings)
+    k ← judged_process n (kind_named (program_name p x) Γ.bindings)
     _ ← asked Mismatch s (same_kind a k.0)
-    fitting_at s (Some k.1)
-  node_judged s (nodes.Named Probe x n) Γ a = fitting_at s (Some a)
-  node_judged s (nodes.Call x vs) Γ a = call_judged s Γ (signature_named (name_in p x) Γ.signatures) (arguments_under p vs) a
+    judged_fitting s (Some k.1)
+  node_judged s (nodes.Named Probe x n) Γ a = judged_fitting s (Some a)
+  node_judged s (nodes.Call x vs) Γ a = call_judged s Γ (signature_named (program_name p x) Γ.signatures) (argument_nodes p vs) a
   node_judged s (nodes.Joined InSequence f g) Γ a = do
     b ← part f Γ a
     part g Γ b
@@ -246,64 +247,64 @@ module _ (p : Program) (part : TermId → TermJudge) where
     k ← matching_at s (parts_of a)
     b ← part f Γ k.0
     c ← part g Γ k.1
-    fitting_at s (Some (pair_kind b c))
+    judged_fitting s (Some (pair_kind b c))
   node_judged s (nodes.Joined FannedOut f g) Γ a = do
     b ← part f Γ a
     c ← part g Γ a
-    fitting_at s (Some (pair_kind b c))
+    judged_fitting s (Some (pair_kind b c))
   node_judged s (nodes.Sided First f) Γ a = do
     k ← matching_at s (parts_of a)
     b ← part f Γ k.0
-    fitting_at s (Some (pair_kind b k.1))
+    judged_fitting s (Some (pair_kind b k.1))
   node_judged s (nodes.Sided Second f) Γ a = do
     k ← matching_at s (parts_of a)
     b ← part f Γ k.1
-    fitting_at s (Some (pair_kind k.0 b))
+    judged_fitting s (Some (pair_kind k.0 b))
   node_judged s (nodes.Headed LoopPre v f) Γ a = do
-    c ← judged (expressions_of p) v (names_of_values Γ)
-    fed ← fitting_at s (Some (pair_kind a c))
+    c ← judged (program_expressions p) v (names_of_values Γ)
+    fed ← judged_fitting s (Some (pair_kind a c))
     d ← part f Γ fed
-    fed_at s d c
+    judged_fed s d c
   node_judged s (nodes.Headed Replaced v f) Γ a = do
-    c ← judged (expressions_of p) v (names_of_values Γ)
+    c ← judged (program_expressions p) v (names_of_values Γ)
     d ← part f Γ a
     _ ← asked Mismatch s (same_kind c a)
     Ok d
   node_judged s (nodes.Headed Initialized v f) Γ a = do
-    c ← judged (expressions_of p) v (names_of_values Γ)
+    c ← judged (program_expressions p) v (names_of_values Γ)
     d ← part f Γ a
     wanted_at s d c
   node_judged s (nodes.Headed Followed v f) Γ a = do
-    c ← judged (expressions_of p) v (names_of_values Γ)
+    c ← judged (program_expressions p) v (names_of_values Γ)
     d ← part f Γ a
     wanted_at s d c
   node_judged s (nodes.Transformed h f) Γ a = do
-    c ← function_judged (expressions_of p) h s a (names_of_values Γ)
+    c ← function_judged (program_expressions p) h s a (names_of_values Γ)
     d ← part f Γ a
     _ ← asked Mismatch s (same_kind c a)
     Ok d
   node_judged s (nodes.Switching n) Γ a = switch_judged s n n.form Γ a
-  node_judged s (nodes.Keeping n) Γ a = do
+  node_judged s (nodes.Continuation n) Γ a = do
     b ← part n.source Γ a
-    both ← fitting_at s (Some (pair_kind a b))
+    both ← judged_fitting s (Some (pair_kind a b))
     d ← part n.observer Γ both
     c ← matching_at s (payload_of d)
-    body_judged p s n.pattern (part n.body) a b c (keeping_inside p n.name a b Γ)
+    body_judged p s n.pattern (part n.body) a b c (continuing_inside p n.name a b Γ)
   node_judged s (nodes.Gathered i) Γ a = do
-    m ← members_judged (collection_under p i) Γ a
-    fitting_at s (Some (table_kind m.0 m.1))
+    m ← members_judged (collection_node p i) Γ a
+    judged_fitting s (Some (table_kind m.0 m.1))
   node_judged s (nodes.Releasing n) Γ a = do
-    m ← members_judged (collection_under p n.members) Γ a
-    t ← fitting_at s (Some (table_kind m.0 m.1))
-    both ← fitting_at s (Some (pair_kind a t))
+    m ← members_judged (collection_node p n.members) Γ a
+    t ← judged_fitting s (Some (table_kind m.0 m.1))
+    both ← judged_fitting s (Some (pair_kind a t))
     d ← part n.observer Γ both
     c ← matching_at s (payload_of d)
     body_judged p s n.pattern (part n.body) a t c (members_inside p n.name m.0 a m.1 Γ)
   node_judged s (nodes.Editing n) Γ a = do
-    k ← beside_at s a
-    m ← members_judged (collection_under p n.members) Γ k.0
-    _ ← edit_judged p s n.pattern (members_judged (collection_under p n.edit)) k.0 m k.1 (members_inside p n.name m.0 k.0 m.1 Γ)
-    fitting_at s (Some (table_kind m.0 m.1))
+    k ← judged_beside s a
+    m ← members_judged (collection_node p n.members) Γ k.0
+    _ ← edit_judged p s n.pattern (members_judged (collection_node p n.edit)) k.0 m k.1 (members_inside p n.name m.0 k.0 m.1 Γ)
+    judged_fitting s (Some (table_kind m.0 m.1))
 
 -- the same by the terms with numbers below one
 abbrev pub judged_below : Program → ℕ → TermId → TermJudge
@@ -325,12 +326,12 @@ judged_body p b Γ = body_judged p b.spot b.pattern (term_judged p b.term) b.inp
 
 -- the same of the types of an edit
 abbrev pub judged_edit : Program → Edit → Context → Result (KeyKind × Kind) Breach
-judged_edit p e Γ = edit_judged p e.spot e.form.pattern (members_judged p (term_judged p) (collection_under p e.form.edit)) e.input.now (key_kind_of e.wanted.now.keys, e.wanted.now.output) e.payload.now Γ
+judged_edit p e Γ = edit_judged p e.spot e.form.pattern (members_judged p (term_judged p) (collection_node p e.form.edit)) e.input.now (key_kind_of e.wanted.now.keys, e.wanted.now.output) e.payload.now Γ
 
 -- with functions of these types, the type that a template's term takes its header's inputs to: that of its header's outputs
 unfoldable pub template_judged : TypesByName → Program → Header → Result Kind Breach
 template_judged fs p h = do
-  b ← term_judged p h.body (context_of fs (parameters_of h.parameters) (templates_of p)) h.input
+  b ← term_judged p h.body (template_context fs (parameters_of h.parameters) (templates_of p)) h.input
   wanted_at (term_spot_at p h.body) b h.output
 
 -- what is answered of a collection is what is found

@@ -1,10 +1,10 @@
 //! Accepted networks.
 ghost use Rattle.std.specs.Prelude.{◌≡◌, ◌↔◌, [], IsTrue, Some, position, bytes_eq, codes, option_map, IfSome};
 ghost use Rattle.sf_func.specs.Signatures.{signatures_in};
-ghost use Rattle.sf_term.specs.Arena.{tree, template_in, templates_of, expressions_of};
+ghost use Rattle.sf_term.specs.Arena.{tree, term_template, templates_of, program_expressions};
 ghost use Rattle.sf_term.specs.Headers.{Header};
 ghost use Rattle.sf_mean.specs.Networks.{main_of, template_named};
-ghost use Rattle.sf_mean.specs.Contexts.{context_of};
+ghost use Rattle.sf_mean.specs.Contexts.{template_context};
 ghost use Rattle.sf_mean.specs.Typing.{Takes, Accepted};
 ghost use Rattle.sf_expr.specs.Typing.{Fits};
 ghost use Rattle.sf_check.specs.Calling.{AreCalledAlike};
@@ -42,13 +42,13 @@ impl Drop for Checked {
 }
 
 impl Checked {
-    ghost use Rattle.sf_check.specs.Accepting.{program_of, types_checked, checked_main};
+    ghost use Rattle.sf_check.specs.Accepting.{accepted_program, types_checked, checked_main};
 
     /// The program that was accepted. It has a template `main` without parameters.
     pub fn program(&self) -> &Program
-        ensures program { result.now ≡ program_of self.now }
-        ensures accepted { Accepted (types_checked self.now) (templates_of (program_of self.now)) }
-        ensures main { main_of (templates_of (program_of self.now)) ≡ Some (checked_main self.now) }
+        ensures program { result.now ≡ accepted_program self.now }
+        ensures accepted { Accepted (types_checked self.now) (templates_of (accepted_program self.now)) }
+        ensures main { main_of (templates_of (accepted_program self.now)) ≡ Some (checked_main self.now) }
         ensures bare { (checked_main self.now).parameters ≡ [] }
     {
         &self.program
@@ -56,8 +56,8 @@ impl Checked {
 
     /// The template of a name, or `None` where the network has none.
     pub fn template(&self, name: &str) -> Option<&Template>
-        ensures found { option_map (λ found. template_in (program_of self.now) found.now) result ≡ template_named name.now (templates_of (program_of self.now)) }
-        ensures stands { IfSome result (λ found. IsHeaderNamed (program_of self.now) name.now found.now) }
+        ensures found { option_map (λ found. term_template (accepted_program self.now) found.now) result ≡ template_named name.now (templates_of (accepted_program self.now)) }
+        ensures stands { IfSome result (λ found. IsHeaderNamed (accepted_program self.now) name.now found.now) }
     {
         let place = self.names.get_index_of(name)?;
         Some(&self.program.templates()[place])
@@ -65,17 +65,17 @@ impl Checked {
 
     /// The template that is run.
     fn main_template(&self) -> &Template
-        ensures main { template_in (program_of self.now) result.now ≡ checked_main self.now }
-        ensures stands { IsHeaderNamed (program_of self.now) (codes "main") result.now }
+        ensures main { term_template (accepted_program self.now) result.now ≡ checked_main self.now }
+        ensures stands { IsHeaderNamed (accepted_program self.now) (codes "main") result.now }
     {
         &self.program.templates()[self.main]
     }
 
     /// The term of `main`, by its id in the program.
     pub fn main(&self) -> TermId
-        ensures stands { (main : Header) × IsHeaderNamed (program_of self.now) (codes "main") main × (result ≡ main.body) }
-        ensures term { tree (program_of self.now) result ≡ (checked_main self.now).body }
-        ensures typed { Takes (context_of (types_checked self.now) [] (templates_of (program_of self.now))) (checked_main self.now).body (checked_main self.now).input (checked_main self.now).output }
+        ensures stands { (main : Header) × IsHeaderNamed (accepted_program self.now) (codes "main") main × (result ≡ main.body) }
+        ensures term { tree (accepted_program self.now) result ≡ (checked_main self.now).body }
+        ensures typed { Takes (template_context (types_checked self.now) [] (templates_of (accepted_program self.now))) (checked_main self.now).body (checked_main self.now).input (checked_main self.now).output }
         ensures fits { Fits (checked_main self.now).input }
     {
         self.main_template().body()
@@ -91,8 +91,8 @@ impl Checked {
     /// Whether each function that the network calls is there with the same types. If so, it is accepted with these
     /// functions too.
     pub fn fits<R: Holds>(&self, functions: &R) -> bool
-        ensures same { IsTrue result ↔ AreCalledAlike (expressions_of (program_of self.now)) (types_checked self.now) (R.types functions.now) }
-        ensures accepted { IsTrue result → Accepted (R.types functions.now) (templates_of (program_of self.now)) }
+        ensures same { IsTrue result ↔ AreCalledAlike (program_expressions (accepted_program self.now)) (types_checked self.now) (R.types functions.now) }
+        ensures accepted { IsTrue result → Accepted (R.types functions.now) (templates_of (accepted_program self.now)) }
     {
         are_called_alike(self.program.expressions(), &self.functions, functions)
     }

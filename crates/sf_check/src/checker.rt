@@ -5,7 +5,7 @@ ghost use Rattle.sf_term.specs.Arena.{templates_of};
 ghost use Rattle.sf_func.specs.Signatures.{signatures_in};
 ghost use Rattle.sf_mean.specs.Networks.{main_of};
 ghost use Rattle.sf_mean.specs.Typing.{Accepted};
-ghost use Rattle.sf_check.specs.Accepting.{program_of, types_checked};
+ghost use Rattle.sf_check.specs.Accepting.{accepted_program, types_checked};
 ghost use Rattle.sf_check.specs.Names.{names_of_set, program_names};
 ghost use Rattle.sf_check.specs.Refusing.{RefusesNetwork, HasNoMain};
 ghost use Rattle.sf_refusal.specs.Refusals.{OrMemory};
@@ -67,7 +67,7 @@ fn check_with(
     functions: Signatures,
 ) -> Result<Checked, (Refusal, Program)>
     ensures accepted { OnOk result (Accepted (signatures_in functions) (templates_of program)) }
-    ensures kept { IfOk result (λ checked. program_of checked ≡ program) }
+    ensures kept { IfOk result (λ checked. accepted_program checked ≡ program) }
     ensures types { IfOk result (λ checked. types_checked checked ≡ signatures_in functions) }
     ensures handed_back { IfErr result (λ refused. refused.1 ≡ program) }
     ensures refused { IfErr result (λ refused. OrMemory (RefusesNetwork (signatures_in functions) program) refused.0) }
@@ -108,7 +108,7 @@ pub fn check(
     functions: &Registry,
 ) -> Result<Checked, (Refusal, Program)>
     ensures accepted { OnOk result (Accepted (⟦<Registry as Holds>⟧.types functions.now) (templates_of program)) }
-    ensures kept { IfOk result (λ checked. program_of checked ≡ program) }
+    ensures kept { IfOk result (λ checked. accepted_program checked ≡ program) }
     ensures types { IfOk result (λ checked. types_checked checked ≡ ⟦<Registry as Holds>⟧.types functions.now) }
     ensures handed_back { IfErr result (λ refused. refused.1 ≡ program) }
     // The first rule that is broken, in the order of the text, at its place.

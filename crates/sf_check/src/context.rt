@@ -3,16 +3,16 @@ ghost use Rattle.std.specs.Prelude.{◌≡◌, Some, None, IfOk, IfErr, IfSome, 
 ghost use Rattle.sf_value.specs.KindView.{key_kind_of};
 ghost use Rattle.sf_func.specs.Signatures.{signatures_in};
 ghost use Rattle.sf_refusal.specs.Refusals.{OrMemory};
-ghost use Rattle.sf_expr.specs.Arena.{placed_at};
+ghost use Rattle.sf_expr.specs.Arena.{stored_pattern};
 ghost use Rattle.sf_expr.specs.Contexts.{exprs_in, types_around};
 ghost use Rattle.sf_expr.specs.Refusals.{PatternRefused};
-ghost use Rattle.sf_expr.specs.Judging.{binding_at, Stops};
-ghost use Rattle.sf_expr.specs.Scopes.{entries_in};
-ghost use Rattle.sf_term.specs.Arena.{expressions_of, template_in, templates_of};
-ghost use Rattle.sf_mean.specs.Contexts.{process, collection, context_with, signature_of, signature_named, names_of_values, inside_pattern};
+ghost use Rattle.sf_expr.specs.Judging.{judged_binding, Stops};
+ghost use Rattle.sf_expr.specs.Scopes.{frame_entries};
+ghost use Rattle.sf_term.specs.Arena.{program_expressions, term_template, templates_of};
+ghost use Rattle.sf_mean.specs.Contexts.{process, collection, outer_context, signature_of, signature_named, names_of_values, inside_pattern};
 ghost use Rattle.sf_check.specs.Names.{names_of_set, program_names};
-ghost use Rattle.sf_check.specs.Standing.{bindings_from, inside_names, kind_named, pattern_in, name_in, keeping_inside, members_inside, BindsInside};
-ghost use Rattle.sf_check.specs.Judging.{process_at, members_at};
+ghost use Rattle.sf_check.specs.Standing.{bindings_from, inside_names, kind_named, program_pattern, program_name, continuing_inside, members_inside, BindsInside};
+ghost use Rattle.sf_check.specs.Judging.{judged_process, judged_collection};
 
 use crate::collection_types::CollectionTypes;
 use crate::process_types::ProcessTypes;
@@ -61,7 +61,7 @@ impl<'a> TypingContext<'a> {
     ) -> Result<TypingContext<'a>, AllocError>
         requires { names_of_set templates.now ≡ program_names program.now }
         ensures program { IfOk result (λ context. program_in context ≡ program.now) }
-        ensures context { IfOk result (λ context. context_in context ≡ context_with (signatures_in functions.now) (bindings_from (entries_in names.now)) (templates_of program.now)) }
+        ensures context { IfOk result (λ context. context_in context ≡ outer_context (signatures_in functions.now) (bindings_from (frame_entries names.now)) (templates_of program.now)) }
     {
         let names = TypeScope::of_frame(alloc, names)?;
         Ok(TypingContext {
@@ -75,7 +75,7 @@ impl<'a> TypingContext<'a> {
 
     /// What expressions of the program are typed under, among the names around the term.
     pub(crate) fn expressions<'b>(&'b self) -> ExprContext<'b, 'a>
-        ensures program { exprs_in result ≡ expressions_of (program_in self.now) }
+        ensures program { exprs_in result ≡ program_expressions (program_in self.now) }
         ensures names { types_around result ≡ names_of_values (context_in self.now) }
     {
         ExprContext {
@@ -88,8 +88,8 @@ impl<'a> TypingContext<'a> {
 
     /// The template of a name, or `None` where there is none.
     pub(crate) fn template(&self, name: NameId) -> Option<&'a Template>
-        ensures found { IfSome result (λ t. signature_named (name_in (program_in self.now) name) (context_in self.now).signatures ≡ Some (signature_of (template_in (program_in self.now) t.now))) }
-        ensures absent { IfNone result (signature_named (name_in (program_in self.now) name) (context_in self.now).signatures ≡ None) }
+        ensures found { IfSome result (λ t. signature_named (program_name (program_in self.now) name) (context_in self.now).signatures ≡ Some (signature_of (term_template (program_in self.now) t.now))) }
+        ensures absent { IfNone result (signature_named (program_name (program_in self.now) name) (context_in self.now).signatures ≡ None) }
     {
         let name = self.program.expressions().name_of(name);
         let place = self.templates.get_index_of(name)?;
@@ -122,11 +122,11 @@ impl<'a> TypingContext<'a> {
         ty: &'b Ty,
         at: Spot,
     ) -> Result<Frame<'b>, Refusal>
-        ensures inside { IfOk result (λ names. inside_names names (context_in self.now) ≡ inside_pattern (pattern_in (program_in self.now) pattern) ty.now (context_in self.now)) }
-        ensures bound { OnOk result (BindsInside (pattern_in (program_in self.now) pattern) ty.now (context_in self.now)) }
-        ensures found { OnOk result (binding_at at (placed_at (expressions_of (program_in self.now)) pattern) ty.now (names_of_values (context_in self.now)) ≡ Ok (names_of_values (inside_pattern (pattern_in (program_in self.now) pattern) ty.now (context_in self.now)))) }
-        ensures refused { IfErr result (OrMemory (PatternRefused (placed_at (expressions_of (program_in self.now)) pattern) ty.now at)) }
-        ensures stops { IfErr result (λ r. Stops r (binding_at at (placed_at (expressions_of (program_in self.now)) pattern) ty.now (names_of_values (context_in self.now)))) }
+        ensures inside { IfOk result (λ names. inside_names names (context_in self.now) ≡ inside_pattern (program_pattern (program_in self.now) pattern) ty.now (context_in self.now)) }
+        ensures bound { OnOk result (BindsInside (program_pattern (program_in self.now) pattern) ty.now (context_in self.now)) }
+        ensures found { OnOk result (judged_binding at (stored_pattern (program_expressions (program_in self.now)) pattern) ty.now (names_of_values (context_in self.now)) ≡ Ok (names_of_values (inside_pattern (program_pattern (program_in self.now) pattern) ty.now (context_in self.now)))) }
+        ensures refused { IfErr result (OrMemory (PatternRefused (stored_pattern (program_expressions (program_in self.now)) pattern) ty.now at)) }
+        ensures stops { IfErr result (λ r. Stops r (judged_binding at (stored_pattern (program_expressions (program_in self.now)) pattern) ty.now (names_of_values (context_in self.now)))) }
     {
         let pattern = self.program.expressions().placed(pattern);
         Frame::of_pattern(self.alloc, pattern, ty, at)
@@ -139,7 +139,7 @@ impl<'a> TypingContext<'a> {
         from: &'b Ty,
         to: &'b Ty,
     ) -> Result<Frame<'b>, AllocError>
-        ensures { IfOk result (λ names. inside_names names (context_in self.now) ≡ keeping_inside (program_in self.now) name from.now to.now (context_in self.now)) }
+        ensures { IfOk result (λ names. inside_names names (context_in self.now) ≡ continuing_inside (program_in self.now) name from.now to.now (context_in self.now)) }
     {
         let name = self.program.expressions().name_of(name);
         let mut names = Frame::new(self.alloc);
@@ -166,8 +166,8 @@ impl<'a> TypingContext<'a> {
     /// The types of the process that a name stands for. Refused at `at` with `UnknownName` where the name is not there, and
     /// with `Mismatch` where it stands for a value or a collection.
     pub(crate) fn process(&self, name: NameId, at: Spot) -> Result<ProcessTypes<'a>, Refusal>
-        ensures found { IfOk result (λ k. kind_named (name_in (program_in self.now) name) (context_in self.now).bindings ≡ Some (process k.from.now k.to.now)) }
-        ensures stops { IfErr result (λ r. Stops r (process_at at (kind_named (name_in (program_in self.now) name) (context_in self.now).bindings))) }
+        ensures found { IfOk result (λ k. kind_named (program_name (program_in self.now) name) (context_in self.now).bindings ≡ Some (process k.from.now k.to.now)) }
+        ensures stops { IfErr result (λ r. Stops r (judged_process at (kind_named (program_name (program_in self.now) name) (context_in self.now).bindings))) }
     {
         let name = self.program.expressions().name_of(name);
         match self.names.stands_for(name) {
@@ -181,8 +181,8 @@ impl<'a> TypingContext<'a> {
     /// The types of the collection that a name stands for. Refused at `at` with `UnknownName` where the name is not there, and
     /// with `Mismatch` where it stands for a value or a process.
     pub(crate) fn collection(&self, name: NameId, at: Spot) -> Result<CollectionTypes<'a>, Refusal>
-        ensures found { IfOk result (λ k. kind_named (name_in (program_in self.now) name) (context_in self.now).bindings ≡ Some (collection (key_kind_of k.keys) k.from.now k.to.now)) }
-        ensures stops { IfErr result (λ r. Stops r (members_at at (kind_named (name_in (program_in self.now) name) (context_in self.now).bindings))) }
+        ensures found { IfOk result (λ k. kind_named (program_name (program_in self.now) name) (context_in self.now).bindings ≡ Some (collection (key_kind_of k.keys) k.from.now k.to.now)) }
+        ensures stops { IfErr result (λ r. Stops r (judged_collection at (kind_named (program_name (program_in self.now) name) (context_in self.now).bindings))) }
     {
         let name = self.program.expressions().name_of(name);
         match self.names.stands_for(name) {

@@ -5,23 +5,23 @@ ghost use Rattle.sf_differ.specs.Differences.{Explains};
 ghost use Rattle.sf_refusal.specs.declared.rule.Rule.TheVariants.{Mismatch};
 ghost use Rattle.sf_refusal.specs.Refusals.{breach_of};
 ghost use Rattle.sf_func.specs.Signatures.{signatures_in};
-ghost use Rattle.sf_expr.specs.Scopes.{entries_in};
+ghost use Rattle.sf_expr.specs.Scopes.{frame_entries};
 ghost use Rattle.sf_differ.specs.Differing.{PatternDiffers, ExpressionDiffers, FunctionDiffers};
-ghost use Rattle.sf_expr.specs.Arena.{expression, function_at, placed_at};
+ghost use Rattle.sf_expr.specs.Arena.{expression, function_at, stored_pattern};
 ghost use Rattle.sf_expr.specs.Typing.{Fits, HasType, FunctionTakes};
-ghost use Rattle.sf_term.specs.declared.collection.CollectionId.{CollectionId as CollectionIdIn};
+ghost use Rattle.sf_term.specs.declared.collection.CollectionId as collection_ids;
 ghost use Rattle.sf_term.specs.declared.collection.CollExpr.TheVariants.{Used};
 ghost use Rattle.sf_term.specs.ParameterView.{kind_of_form};
 ghost use Rattle.sf_term.specs.Trees.{collection_depth};
-ghost use Rattle.sf_term.specs.Arena.{term_number, term_node_at, expressions_of, tree, templates_of, arguments_under, collection_under, collection_of, collection_at, ArgumentBelow, CollectionBelow};
+ghost use Rattle.sf_term.specs.Arena.{term_number, term_node_at, program_expressions, tree, templates_of, argument_nodes, collection_node, collection_of, collection_tree, ArgumentBelow, CollectionBelow};
 ghost use Rattle.sf_term.specs.declared.form.Start.{Start};
-ghost use Rattle.sf_mean.specs.Contexts.{names_of_values, context_with, inside_pattern};
+ghost use Rattle.sf_mean.specs.Contexts.{names_of_values, outer_context, inside_pattern};
 ghost use Rattle.sf_mean.specs.Typing.{Takes, Collects};
 ghost use Rattle.sf_check.specs.Contexts.{program_in, context_in};
 ghost use Rattle.sf_check.specs.Standing.{bindings_from, inside_names};
 ghost use Rattle.sf_check.specs.Names.{names_of_set, program_names, NamesDiffer};
 ghost use Rattle.sf_check.specs.Refusing.{RefusesNetwork};
-ghost use Rattle.sf_check.specs.Breaking.{pattern_in, keeping_inside, members_inside, BindsInside, ArgumentKeeps};
+ghost use Rattle.sf_check.specs.Breaking.{program_pattern, continuing_inside, members_inside, BindsInside, ArgumentKeeps};
 ghost use Rattle.sf_check.specs.Differing.{bare_wants, value_wants, input_wants, timed_wants, start_wants, accumulated_wants, made_wants, PrimitiveDiffers, StopsBody, StopsEdit, TermDiffers, CollectionDiffers, ArgumentDiffersWithin, TemplateDiffers, NetworkDiffers};
 
 use crate::blaming::{suits_keys, suits_members, suits_type};
@@ -41,17 +41,17 @@ use sf_func::{Holds, Registry, Signatures};
 use sf_operator::{event_type, pair_type as pair_of, payload};
 use sf_refusal::{Refusal, Spot};
 use sf_term::{
-    Accumulation, Argument, ArgumentsId, Bare, CollExpr, CollectionId, Editing, Heading, Join,
-    Keeping, Naming, Node, Observation, ParameterForm, Primitive, Program, Releasing, Side, Switch,
-    Switching, Template, TermId, Timing, WithValue,
+    Accumulation, Argument, ArgumentsId, Bare, CollExpr, CollectionId, Continuation, Editing,
+    Heading, Join, Naming, Node, Observation, ParameterForm, Primitive, Program, Releasing, Side,
+    Switch, Switching, Template, TermId, Timing, WithValue,
 };
 use sf_value::{KeyType, Ty};
 use std::alloc::{AllocError, Global};
 
 /// The type of a constant, or what differs in it.
 fn constant(context: &TypingContext, value: ExprId) -> Result<Ty, Blame>
-    ensures ok { IfOk result (λ t. HasType (names_of_values (context_in context.now)) (expression (expressions_of (program_in context.now)) value) t) }
-    ensures err { IfErr result (λ b. Explains (ExpressionDiffers (expressions_of (program_in context.now)) (names_of_values (context_in context.now)) value) b) }
+    ensures ok { IfOk result (λ t. HasType (names_of_values (context_in context.now)) (expression (program_expressions (program_in context.now)) value) t) }
+    ensures err { IfErr result (λ b. Explains (ExpressionDiffers (program_expressions (program_in context.now)) (names_of_values (context_in context.now)) value) b) }
 {
     typed(
         context.alloc,
@@ -69,8 +69,8 @@ fn answer(
     argument: &Ty,
     spot: Spot,
 ) -> Result<Ty, Blame>
-    ensures ok { IfOk result (λ t. FunctionTakes (names_of_values (context_in context.now)) (function_at (expressions_of (program_in context.now)) function) argument.now t) }
-    ensures err { IfErr result (λ b. Explains (FunctionDiffers (expressions_of (program_in context.now)) (names_of_values (context_in context.now)) function argument.now spot) b) }
+    ensures ok { IfOk result (λ t. FunctionTakes (names_of_values (context_in context.now)) (function_at (program_expressions (program_in context.now)) function) argument.now t) }
+    ensures err { IfErr result (λ b. Explains (FunctionDiffers (program_expressions (program_in context.now)) (names_of_values (context_in context.now)) function argument.now spot) b) }
 {
     let expressions = context.expressions();
     explain_function(&expressions, function, argument, spot)
@@ -187,7 +187,7 @@ fn explain_value(
     input: &Ty,
     spot: Spot,
 ) -> Result<(), Blame>
-    ensures { IfErr result (λ b. Explains (PrimitiveDiffers (expressions_of (program_in context.now)) (context_in context.now) spot (Primitive.WithValue kind value) input.now) b) }
+    ensures { IfErr result (λ b. Explains (PrimitiveDiffers (program_expressions (program_in context.now)) (context_in context.now) spot (Primitive.WithValue kind value) input.now) b) }
 {
     let given = constant(context, value)?;
     suited(context.alloc, &given, value_wanted(kind), spot)?;
@@ -204,7 +204,7 @@ fn explain_timed(
     input: &Ty,
     spot: Spot,
 ) -> Result<(), Blame>
-    ensures { IfErr result (λ b. Explains (PrimitiveDiffers (expressions_of (program_in context.now)) (context_in context.now) spot (Primitive.Timed kind time value) input.now) b) }
+    ensures { IfErr result (λ b. Explains (PrimitiveDiffers (program_expressions (program_in context.now)) (context_in context.now) spot (Primitive.Timed kind time value) input.now) b) }
 {
     let given = constant(context, value)?;
     let wanted = timed_wanted(context.alloc, kind, &given)?;
@@ -220,7 +220,7 @@ fn explain_accumulated(
     input: &Ty,
     spot: Spot,
 ) -> Result<(), Blame>
-    ensures { IfErr result (λ b. Explains (PrimitiveDiffers (expressions_of (program_in context.now)) (context_in context.now) spot (Primitive.Accumulated kind value function) input.now) b) }
+    ensures { IfErr result (λ b. Explains (PrimitiveDiffers (program_expressions (program_in context.now)) (context_in context.now) spot (Primitive.Accumulated kind value function) input.now) b) }
 {
     let given = constant(context, value)?;
     suited(context.alloc, input, accumulated_wanted(kind), spot)?;
@@ -239,7 +239,7 @@ fn explain_arrow(
     input: &Ty,
     spot: Spot,
 ) -> Result<(), Blame>
-    ensures { IfErr result (λ b. Explains (PrimitiveDiffers (expressions_of (program_in context.now)) (context_in context.now) spot (Primitive.Arrow function) input.now) b) }
+    ensures { IfErr result (λ b. Explains (PrimitiveDiffers (program_expressions (program_in context.now)) (context_in context.now) spot (Primitive.Arrow function) input.now) b) }
 {
     answer(context, function, input, spot)?;
     Ok(())
@@ -252,7 +252,7 @@ fn explain_primitive(
     input: &Ty,
     spot: Spot,
 ) -> Result<(), Blame>
-    ensures { IfErr result (λ b. Explains (PrimitiveDiffers (expressions_of (program_in context.now)) (context_in context.now) spot primitive input.now) b) }
+    ensures { IfErr result (λ b. Explains (PrimitiveDiffers (program_expressions (program_in context.now)) (context_in context.now) spot primitive input.now) b) }
 {
     match primitive {
         Primitive::Bare(kind) => suited(context.alloc, input, bare_wanted(kind), spot),
@@ -491,14 +491,14 @@ fn explain_recurring(
 
 /// What differs in a term that gives way at the event that an observer sees, and is then known by a name, on inputs of a type.
 #[cycle(explain)]
-fn explain_keeping(
+fn explain_continuing(
     context: &TypingContext,
     term: TermId,
-    form: Keeping,
+    form: Continuation,
     input: &Ty,
 ) -> Result<(), Blame>
     requires fits { Fits input.now }
-    requires there { term_node_at (program_in context.now) term ≡ Node.Keeping form }
+    requires there { term_node_at (program_in context.now) term ≡ Node.Continuation form }
     requires below { (term_number form.source < term_number term) × (term_number form.observer < term_number term) × (term_number form.body < term_number term) }
     ensures { IfErr result (λ b. Explains (TermDiffers (program_in context.now) (context_in context.now) term input.now) b) }
 {
@@ -523,7 +523,7 @@ fn explain_keeping(
 #[cycle(explain)]
 fn explain_kept(context: &TypingContext, name: NameId, body: &Body) -> Result<(), Blame>
     requires { Fits body.now.input.now }
-    ensures { IfErr result (λ b. Explains (StopsBody (program_in context.now) (keeping_inside (program_in context.now) name body.now.input.now body.now.wanted.now (context_in context.now)) body.now) b) }
+    ensures { IfErr result (λ b. Explains (StopsBody (program_in context.now) (continuing_inside (program_in context.now) name body.now.input.now body.now.wanted.now (context_in context.now)) body.now) b) }
 {
     let names = (&*context).process_name(name, &*body.input, &*body.wanted)?;
     explain_inside(context, &names, body)
@@ -539,7 +539,7 @@ fn explain_releasing(
 ) -> Result<(), Blame>
     requires fits { Fits input.now }
     requires there { term_node_at (program_in context.now) term ≡ Node.Releasing form }
-    requires below { CollectionBelow (term_number term) (collection_under (program_in context.now) form.members) × (term_number form.observer < term_number term) × (term_number form.body < term_number term) }
+    requires below { CollectionBelow (term_number term) (collection_node (program_in context.now) form.members) × (term_number form.observer < term_number term) × (term_number form.body < term_number term) }
     ensures { IfErr result (λ b. Explains (TermDiffers (program_in context.now) (context_in context.now) term input.now) b) }
 {
     let spot = context.program.spot(term);
@@ -585,7 +585,7 @@ fn explain_editing(
 ) -> Result<(), Blame>
     requires fits { Fits input.now }
     requires there { term_node_at (program_in context.now) term ≡ Node.Editing form }
-    requires below { CollectionBelow (term_number term) (collection_under (program_in context.now) form.members) × CollectionBelow (term_number term) (collection_under (program_in context.now) form.edit) }
+    requires below { CollectionBelow (term_number term) (collection_node (program_in context.now) form.members) × CollectionBelow (term_number term) (collection_node (program_in context.now) form.edit) }
     ensures { IfErr result (λ b. Explains (TermDiffers (program_in context.now) (context_in context.now) term input.now) b) }
 {
     let spot = context.program.spot(term);
@@ -606,8 +606,8 @@ fn explain_editing(
 #[cycle(explain)]
 fn explain_edited(context: &TypingContext, term: TermId, edit: &Edit) -> Result<(), Blame>
     requires fits { Fits edit.now.input.now }
-    requires below { CollectionBelow (term_number term) (collection_under (program_in context.now) edit.now.form.edit) }
-    requires shallow { collection_depth (collection_of (program_in context.now) (collection_under (program_in context.now) edit.now.form.edit)) ≤ 64 }
+    requires below { CollectionBelow (term_number term) (collection_node (program_in context.now) edit.now.form.edit) }
+    requires shallow { collection_depth (collection_of (program_in context.now) (collection_node (program_in context.now) edit.now.form.edit)) ≤ 64 }
     ensures { IfErr result (λ b. Explains (StopsEdit (program_in context.now) (members_inside (program_in context.now) edit.now.form.name (key_kind_of edit.now.wanted.now.keys) edit.now.input.now edit.now.wanted.now.output (context_in context.now)) edit.now) b) }
 {
     let wanted = edit.wanted;
@@ -629,8 +629,8 @@ fn explain_edit_inside(
     edit: &Edit,
 ) -> Result<(), Blame>
     requires fits { Fits edit.now.input.now }
-    requires below { CollectionBelow (term_number term) (collection_under (program_in context.now) edit.now.form.edit) }
-    requires shallow { collection_depth (collection_of (program_in context.now) (collection_under (program_in context.now) edit.now.form.edit)) ≤ 64 }
+    requires below { CollectionBelow (term_number term) (collection_node (program_in context.now) edit.now.form.edit) }
+    requires shallow { collection_depth (collection_of (program_in context.now) (collection_node (program_in context.now) edit.now.form.edit)) ≤ 64 }
     ensures { IfErr result (λ b. Explains (StopsEdit (program_in context.now) (inside_names names.now (context_in context.now)) edit.now) b) }
 {
     let inner = (&*context).within(&*names)?;
@@ -641,8 +641,8 @@ fn explain_edit_inside(
 #[cycle(explain)]
 fn explain_edit(context: &TypingContext, term: TermId, edit: &Edit) -> Result<(), Blame>
     requires fits { Fits edit.now.input.now }
-    requires below { CollectionBelow (term_number term) (collection_under (program_in context.now) edit.now.form.edit) }
-    requires shallow { collection_depth (collection_of (program_in context.now) (collection_under (program_in context.now) edit.now.form.edit)) ≤ 64 }
+    requires below { CollectionBelow (term_number term) (collection_node (program_in context.now) edit.now.form.edit) }
+    requires shallow { collection_depth (collection_of (program_in context.now) (collection_node (program_in context.now) edit.now.form.edit)) ≤ 64 }
     ensures { IfErr result (λ b. Explains (StopsEdit (program_in context.now) (context_in context.now) edit.now) b) }
 {
     let names = bound(&*context, edit.form.pattern, &*edit.payload, edit.spot)?;
@@ -667,10 +667,10 @@ fn members_part_within(
     input: &Ty,
 ) -> Result<MemberTypes, Blame>
     requires fits { Fits input.now }
-    requires below { CollectionBelow (term_number form) (collection_under (program_in context.now) members) }
-    requires shallow { collection_depth (collection_of (program_in context.now) (collection_under (program_in context.now) members)) ≤ 64 }
-    ensures ok { IfOk result (λ m. Collects (inside_names names.now (context_in context.now)) (collection_at (program_in context.now) members) (key_kind_of m.keys) input.now m.output) }
-    ensures err { IfErr result (λ b. Explains (CollectionDiffers (program_in context.now) (inside_names names.now (context_in context.now)) (collection_under (program_in context.now) members) input.now) b) }
+    requires below { CollectionBelow (term_number form) (collection_node (program_in context.now) members) }
+    requires shallow { collection_depth (collection_of (program_in context.now) (collection_node (program_in context.now) members)) ≤ 64 }
+    ensures ok { IfOk result (λ m. Collects (inside_names names.now (context_in context.now)) (collection_tree (program_in context.now) members) (key_kind_of m.keys) input.now m.output) }
+    ensures err { IfErr result (λ b. Explains (CollectionDiffers (program_in context.now) (inside_names names.now (context_in context.now)) (collection_node (program_in context.now) members) input.now) b) }
 {
     let inner = (&*context).within(&*names)?;
     members_at_part(&inner, form, members, input)
@@ -686,7 +686,7 @@ fn explain_gathered(
 ) -> Result<(), Blame>
     requires fits { Fits input.now }
     requires there { term_node_at (program_in context.now) term ≡ Node.Gathered members }
-    requires below { CollectionBelow (term_number term) (collection_under (program_in context.now) members) }
+    requires below { CollectionBelow (term_number term) (collection_node (program_in context.now) members) }
     ensures { IfErr result (λ b. Explains (TermDiffers (program_in context.now) (context_in context.now) term input.now) b) }
 {
     members_at_part(context, term, members, input)?;
@@ -702,10 +702,10 @@ fn members_at_part(
     input: &Ty,
 ) -> Result<MemberTypes, Blame>
     requires fits { Fits input.now }
-    requires below { CollectionBelow (term_number form) (collection_under (program_in context.now) members) }
-    requires shallow { collection_depth (collection_of (program_in context.now) (collection_under (program_in context.now) members)) ≤ 64 }
-    ensures ok { IfOk result (λ m. Collects (context_in context.now) (collection_at (program_in context.now) members) (key_kind_of m.keys) input.now m.output) }
-    ensures err { IfErr result (λ b. Explains (CollectionDiffers (program_in context.now) (context_in context.now) (collection_under (program_in context.now) members) input.now) b) }
+    requires below { CollectionBelow (term_number form) (collection_node (program_in context.now) members) }
+    requires shallow { collection_depth (collection_of (program_in context.now) (collection_node (program_in context.now) members)) ≤ 64 }
+    ensures ok { IfOk result (λ m. Collects (context_in context.now) (collection_tree (program_in context.now) members) (key_kind_of m.keys) input.now m.output) }
+    ensures err { IfErr result (λ b. Explains (CollectionDiffers (program_in context.now) (context_in context.now) (collection_node (program_in context.now) members) input.now) b) }
 {
     match context.program.collection(members) {
         Some(collection) => members_part(context, form, collection, input),
@@ -810,9 +810,9 @@ fn bound<'b>(
     ty: &'b Ty,
     spot: Spot,
 ) -> Result<Frame<'b>, Blame>
-    ensures inside { IfOk result (λ names. inside_names names (context_in context.now) ≡ inside_pattern (pattern_in (program_in context.now) pattern) ty.now (context_in context.now)) }
-    ensures bound { OnOk result (BindsInside (pattern_in (program_in context.now) pattern) ty.now (context_in context.now)) }
-    ensures err { IfErr result (λ b. Explains (PatternDiffers (placed_at (expressions_of (program_in context.now)) pattern) ty.now spot) b) }
+    ensures inside { IfOk result (λ names. inside_names names (context_in context.now) ≡ inside_pattern (program_pattern (program_in context.now) pattern) ty.now (context_in context.now)) }
+    ensures bound { OnOk result (BindsInside (program_pattern (program_in context.now) pattern) ty.now (context_in context.now)) }
+    ensures err { IfErr result (λ b. Explains (PatternDiffers (stored_pattern (program_expressions (program_in context.now)) pattern) ty.now spot) b) }
 {
     match context.pattern_names(pattern, ty, spot) {
         Ok(names) => Ok(names),
@@ -865,7 +865,7 @@ fn explain_argument(
     parameter: &ParameterForm,
 ) -> Result<(), Blame>
     requires below { ArgumentBelow (program_in context.now) (term_number term) argument }
-    requires shallow { (i : CollectionIdIn) → argument ≡ Argument.Collection i → collection_depth (collection_of (program_in context.now) (collection_under (program_in context.now) i)) ≤ 64 }
+    requires shallow { (i : collection_ids.CollectionId) → argument ≡ Argument.Collection i → collection_depth (collection_of (program_in context.now) (collection_node (program_in context.now) i)) ≤ 64 }
     ensures ok { OnOk result (ArgumentKeeps (program_in context.now) (context_in context.now) argument (kind_of_form parameter.now)) }
     ensures err { IfErr result (λ b. Explains (ArgumentDiffersWithin (program_in context.now) (context_in context.now) argument (kind_of_form parameter.now)) b) }
 {
@@ -902,7 +902,7 @@ fn explain_call(
     input: &Ty,
 ) -> Result<(), Blame>
     requires there { term_node_at (program_in context.now) term ≡ Node.Call name arguments }
-    requires below { All (ArgumentBelow (program_in context.now) (term_number term)) (arguments_under (program_in context.now) arguments) }
+    requires below { All (ArgumentBelow (program_in context.now) (term_number term)) (argument_nodes (program_in context.now) arguments) }
     ensures { IfErr result (λ b. Explains (TermDiffers (program_in context.now) (context_in context.now) term input.now) b) }
 {
     let Some(template) = context.template(name) else {
@@ -952,7 +952,7 @@ fn explain(context: &TypingContext, term: TermId, input: &Ty) -> Result<(), Blam
             Switching::Basic(shown) => explain_basic(context, term, shown, form, input),
             Switching::Recurring(shown) => { explain_recurring(context, term, shown, form, input) }
         },
-        Node::Keeping(form) => explain_keeping(context, term, form, input),
+        Node::Continuation(form) => explain_continuing(context, term, form, input),
         Node::Gathered(members) => explain_gathered(context, term, members, input),
         Node::Releasing(form) => explain_releasing(context, term, form, input),
         Node::Editing(form) => explain_editing(context, term, form, input),
@@ -983,8 +983,8 @@ fn template_part(
     template: &Template,
 ) -> Result<Ty, Blame>
     requires { names_of_set templates.now ≡ program_names program.now }
-    ensures ok { IfOk result (λ t. Takes (context_with (signatures_in functions.now) (bindings_from (entries_in names.now)) (templates_of program.now)) (tree program.now template.now.body) template.now.input t) }
-    ensures err { IfErr result (λ b. Explains (TermDiffers program.now (context_with (signatures_in functions.now) (bindings_from (entries_in names.now)) (templates_of program.now)) template.now.body template.now.input) b) }
+    ensures ok { IfOk result (λ t. Takes (outer_context (signatures_in functions.now) (bindings_from (frame_entries names.now)) (templates_of program.now)) (tree program.now template.now.body) template.now.input t) }
+    ensures err { IfErr result (λ b. Explains (TermDiffers program.now (outer_context (signatures_in functions.now) (bindings_from (frame_entries names.now)) (templates_of program.now)) template.now.body template.now.input) b) }
 {
     let context = TypingContext::of_body(alloc, program, templates, functions, &*names)?;
     let input = template.input();

@@ -1,7 +1,7 @@
 //! The names of a template's parameters.
 ghost use Rattle.std.specs.Prelude.{◌≡◌, ◌∷◌, [], All, IfOk, OnOk};
 ghost use Rattle.sf_value.specs.Values.{Name};
-ghost use Rattle.sf_expr.specs.Scopes.{entries_in};
+ghost use Rattle.sf_expr.specs.Scopes.{frame_entries};
 ghost use Rattle.sf_term.specs.Parameters.{NameKind, binding_of, parameters_of};
 ghost use Rattle.sf_mean.specs.Contexts.{parameters_inside};
 ghost use Rattle.sf_mean.specs.Typing.{ParameterFits};
@@ -13,7 +13,7 @@ use std::alloc::{AllocError, Global};
 
 /// Puts the name of a parameter behind names, with what it stands for.
 fn add_parameter<'a>(names: &mut Frame<'a>, parameter: &'a Parameter) -> Result<(), AllocError>
-    ensures bound { OnOk result (bindings_from (entries_in names.new) ≡ binding_of parameter.now ∷ bindings_from (entries_in names.old)) }
+    ensures bound { OnOk result (bindings_from (frame_entries names.new) ≡ binding_of parameter.now ∷ bindings_from (frame_entries names.old)) }
     ensures fits { OnOk result (ParameterFits parameter.now.kind) }
 {
     let name = parameter.name();
@@ -39,7 +39,7 @@ pub(crate) fn parameter_names<'a>(
     alloc: Global,
     parameters: &'a [Parameter],
 ) -> Result<Frame<'a>, AllocError>
-    ensures bound { IfOk result (λ names. bindings_from (entries_in names) ≡ parameters_inside (parameters_of parameters.now) []) }
+    ensures bound { IfOk result (λ names. bindings_from (frame_entries names) ≡ parameters_inside (parameters_of parameters.now) []) }
     ensures fit { OnOk result (All (λ (q : Name × NameKind). ParameterFits q.1) (parameters_of parameters.now)) }
 {
     let mut names = Frame::new(alloc);

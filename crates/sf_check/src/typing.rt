@@ -6,25 +6,26 @@ ghost use Rattle.sf_refusal.specs.Refusals.{broken, OrMemory};
 ghost use Rattle.sf_refusal.specs.declared.rule.Rule.TheVariants.{Mismatch};
 ghost use Rattle.sf_func.specs.Signatures.{signatures_in};
 ghost use Rattle.sf_expr.specs.Refusals.{Judges};
-ghost use Rattle.sf_expr.specs.Judging.{matching_at, fitting_at, judged, function_judged, Stops, GivesFound};
+ghost use Rattle.sf_expr.specs.Judging.{matching_at, judged_fitting, judged, function_judged, Stops, GivesFound};
 ghost use Rattle.sf_expr.specs.Typing.{Fits};
 ghost use Rattle.sf_term.specs.Trees.{collection_depth};
-ghost use Rattle.sf_term.specs.Arena.{term_number, term_node_at, term_spot_at, expressions_of, arguments_under, collection_under, collection_of, ArgumentBelow, CollectionBelow, TermPartsBelow, template_in, templates_of};
+ghost use Rattle.sf_term.specs.Arena.{term_number, term_node_at, term_spot_at, program_expressions, argument_nodes, collection_node, collection_of, ArgumentBelow, CollectionBelow, TermPartsBelow, term_template, templates_of};
 ghost use Rattle.sf_term.specs.declared.collection.CollExpr.TheVariants.{Used};
-ghost use Rattle.sf_term.specs.declared.collection.CollectionId.{CollectionId as CollectionIdIn};
+ghost use Rattle.sf_term.specs.declared.collection.CollectionId as collection_ids;
 ghost use Rattle.sf_term.specs.ParameterView.{kind_of_form};
 ghost use Rattle.sf_expr.specs.declared.exprs.Exprs.{Exprs};
 ghost use Rattle.sf_term.specs.declared.form.Start.{Start};
 ghost use Rattle.sf_term.specs.declared.form.Selection.{Selection};
-ghost use Rattle.sf_expr.specs.Scopes.{entries_in};
-ghost use Rattle.sf_mean.specs.Contexts.{Context, names_of_values, context_with};
+ghost use Rattle.sf_expr.specs.Scopes.{frame_entries};
+ghost use Rattle.sf_mean.specs.Contexts.{Context, names_of_values, outer_context};
 ghost use Rattle.sf_mean.specs.Inference.{value_is_argument};
-ghost use Rattle.sf_check.specs.Standing.{bindings_from, inside_names, keeping_inside, members_inside};
+ghost use Rattle.sf_check.specs.Standing.{bindings_from, inside_names, continuing_inside, members_inside};
 ghost use Rattle.sf_operator.specs.Breaches.{AnswersKind};
 ghost use Rattle.sf_operator.specs.Kinds.{same_kind, parts_of, payload_of};
-ghost use Rattle.sf_mean.specs.Typing.{value_kind, takes_input as an_input, takes_time as a_time, timed_kind, takes_number as a_number, selected_kind, accumulated_argument, accumulated_kind, IsTyped};
+ghost use Rattle.sf_mean.specs.Typing.{value_kind, timed_kind, selected_kind, accumulated_argument, accumulated_kind, IsTyped};
+ghost use Rattle.sf_mean.specs.Typing;
 ghost use Rattle.sf_check.specs.Contexts.{program_in, context_in};
-ghost use Rattle.sf_check.specs.Judging.{asked, beside_at, wanted_at, fed_at, primitive_judged, argument_judged, members_judged, judged_as, term_judged, judged_body, judged_edit, GivesMembers};
+ghost use Rattle.sf_check.specs.Judging.{asked, judged_beside, wanted_at, judged_fed, primitive_judged, argument_judged, members_judged, judged_as, term_judged, judged_body, judged_edit, GivesMembers};
 ghost use Rattle.sf_check.specs.Answering.{AnswersBare, AnswersTerm, AnswersMembers};
 ghost use Rattle.sf_check.specs.Names.{names_of_set, program_names};
 ghost use Rattle.sf_check.specs.Breaking.{IsNoEventBeside, TemplateBreaks, AreTyped, IsFirstBreak};
@@ -41,9 +42,9 @@ use sf_func::Signatures;
 use sf_operator::{event_type, pair_type as pair_of, payload, same};
 use sf_refusal::{Refusal, Rule, Spot};
 use sf_term::{
-    Accumulation, Argument, ArgumentsId, Bare, CollExpr, CollectionId, Editing, Heading, Join,
-    Keeping, Naming, Node, Observation, ParameterForm, Primitive, Program, Releasing, Side, Switch,
-    Switching, Template, TermId, Timing, WithValue,
+    Accumulation, Argument, ArgumentsId, Bare, CollExpr, CollectionId, Continuation, Editing,
+    Heading, Join, Naming, Node, Observation, ParameterForm, Primitive, Program, Releasing, Side,
+    Switch, Switching, Template, TermId, Timing, WithValue,
 };
 use sf_value::{KeyType, Ty, same_type};
 use std::alloc::Global;
@@ -67,9 +68,9 @@ pub(crate) fn parts(ty: &Ty, spot: Spot) -> Result<(&Ty, &Ty), Refusal>
 pub(crate) fn value_and_payload(ty: &Ty, spot: Spot) -> Result<(&Ty, &Ty), Refusal>
     ensures ok { IfOk result (λ types. ty.now ≡ pair_kind types.0.now (event_kind types.1.now)) }
     ensures fits { IfOk result (λ types. Fits types.0.now) }
-    ensures found { IfOk result (λ types. beside_at spot ty.now ≡ Ok (types.0.now, types.1.now)) }
+    ensures found { IfOk result (λ types. judged_beside spot ty.now ≡ Ok (types.0.now, types.1.now)) }
     ensures err { IfErr result (λ r. (r ≡ broken Mismatch spot) × IsNoEventBeside ty.now) }
-    ensures stops { IfErr result (λ r. Stops r (beside_at spot ty.now)) }
+    ensures stops { IfErr result (λ r. Stops r (judged_beside spot ty.now)) }
 {
     let (value, event) = parts(ty, spot)?;
     Ok((value, payload(event, spot)?))
@@ -104,7 +105,7 @@ fn payload_at(ty: &Ty, spot: Spot) -> Result<&Ty, Refusal>
 /// The type of pairs of two types. Refused at the spot with `TypeTooLarge`, and with `Memory`.
 #[tactic(auto, using(sf_expr::proofs::Judged::kind_answers))]
 fn both_at(alloc: Global, first: &Ty, second: &Ty, spot: Spot) -> Result<Ty, Refusal>
-    ensures { GivesFound result (fitting_at spot (Some (pair_kind first.now second.now))) }
+    ensures { GivesFound result (judged_fitting spot (Some (pair_kind first.now second.now))) }
 {
     pair_of(alloc, first, second, spot)
 }
@@ -112,14 +113,14 @@ fn both_at(alloc: Global, first: &Ty, second: &Ty, spot: Spot) -> Result<Ty, Ref
 /// The type of the tables of members with these types. Refused at the spot with `TypeTooLarge`, and with `Memory`.
 #[tactic(auto, using(sf_expr::proofs::Judged::kind_answers))]
 fn table_at(alloc: Global, types: &MemberTypes, spot: Spot) -> Result<Ty, Refusal>
-    ensures { GivesFound result (fitting_at spot (Some (table_kind (key_kind_of types.now.keys) types.now.output))) }
+    ensures { GivesFound result (judged_fitting spot (Some (table_kind (key_kind_of types.now.keys) types.now.output))) }
 {
     table_type(alloc, types, spot)
 }
 
 /// The type of a value.
 fn value_type(context: &TypingContext, value: ExprId) -> Result<Ty, Refusal>
-    ensures { GivesFound result (judged (expressions_of (program_in context.now)) value (names_of_values (context_in context.now))) }
+    ensures { GivesFound result (judged (program_expressions (program_in context.now)) value (names_of_values (context_in context.now))) }
 {
     type_of(
         context.alloc,
@@ -132,7 +133,7 @@ fn value_type(context: &TypingContext, value: ExprId) -> Result<Ty, Refusal>
 
 /// The type of a constant.
 pub(crate) fn constant_type(context: &TypingContext, value: ExprId) -> Result<Ty, Refusal>
-    ensures { Judges (expressions_of (program_in context.now)) (names_of_values (context_in context.now)) value result }
+    ensures { Judges (program_expressions (program_in context.now)) (names_of_values (context_in context.now)) value result }
 {
     value_type(context, value)
 }
@@ -177,7 +178,7 @@ fn never_output(
     input: &Ty,
     spot: Spot,
 ) -> Result<Ty, Refusal>
-    ensures { GivesFound result (primitive_judged (expressions_of (program_in context.now)) spot (Primitive.Never constant) (context_in context.now) input.now) }
+    ensures { GivesFound result (primitive_judged (program_expressions (program_in context.now)) spot (Primitive.Never constant) (context_in context.now) input.now) }
 {
     let constant = context.program.expressions().constant_at(constant);
     match constant.form() {
@@ -241,7 +242,7 @@ fn value_output(
     input: &Ty,
     spot: Spot,
 ) -> Result<Ty, Refusal>
-    ensures { GivesFound result (primitive_judged (expressions_of (program_in context.now)) spot (Primitive.WithValue kind value) (context_in context.now) input.now) }
+    ensures { GivesFound result (primitive_judged (program_expressions (program_in context.now)) spot (Primitive.WithValue kind value) (context_in context.now) input.now) }
 {
     let given = value_type(context, value)?;
     given_output(context.alloc, kind, given, input, spot)
@@ -249,7 +250,7 @@ fn value_output(
 
 /// Whether a form takes a time, in milliseconds.
 fn takes_time(kind: Timing, time: i64) -> bool
-    ensures { result ≡ a_time kind time }
+    ensures { result ≡ Typing.takes_time kind time }
 {
     match kind {
         Timing::After => 0 <= time && time <= 1_000_000_000_000,
@@ -259,7 +260,7 @@ fn takes_time(kind: Timing, time: i64) -> bool
 
 /// Nothing where a form with a value of a type takes inputs of a type; else refused at the spot with `Mismatch`.
 fn takes_input(kind: Timing, given: &Ty, input: &Ty, spot: Spot) -> Result<(), Refusal>
-    ensures { GivesFound result (asked Mismatch spot (an_input kind given.now input.now)) }
+    ensures { GivesFound result (asked Mismatch spot (Typing.takes_input kind given.now input.now)) }
 {
     match kind {
         Timing::After | Timing::Repeatedly => Ok(()),
@@ -288,7 +289,7 @@ fn timed_output(
     input: &Ty,
     spot: Spot,
 ) -> Result<Ty, Refusal>
-    ensures { GivesFound result (primitive_judged (expressions_of (program_in context.now)) spot (Primitive.Timed kind time value) (context_in context.now) input.now) }
+    ensures { GivesFound result (primitive_judged (program_expressions (program_in context.now)) spot (Primitive.Timed kind time value) (context_in context.now) input.now) }
 {
     let given = value_type(context, value)?;
     takes_input(kind, &given, input, spot)?;
@@ -300,7 +301,7 @@ fn timed_output(
 
 /// Whether this is a number of events that a form takes.
 fn takes_number(count: i64) -> bool
-    ensures { result ≡ a_number count }
+    ensures { result ≡ Typing.takes_number count }
 {
     0 <= count && count <= 1_000_000_000
 }
@@ -332,7 +333,7 @@ fn answer_type(
     argument: &Ty,
     spot: Spot,
 ) -> Result<Ty, Refusal>
-    ensures { GivesFound result (function_judged (expressions_of (program_in context.now)) function spot argument.now (names_of_values (context_in context.now))) }
+    ensures { GivesFound result (function_judged (program_expressions (program_in context.now)) function spot argument.now (names_of_values (context_in context.now))) }
 {
     let expressions = context.expressions();
     function_type(&expressions, function, argument, spot)
@@ -400,7 +401,7 @@ fn accumulated_output(
     input: &Ty,
     spot: Spot,
 ) -> Result<Ty, Refusal>
-    ensures { GivesFound result (primitive_judged (expressions_of (program_in context.now)) spot (Primitive.Accumulated kind value function) (context_in context.now) input.now) }
+    ensures { GivesFound result (primitive_judged (program_expressions (program_in context.now)) spot (Primitive.Accumulated kind value function) (context_in context.now) input.now) }
 {
     let given = value_type(context, value)?;
     let argument = accumulated_argument_type(context.alloc, kind, &given, input, spot)?;
@@ -415,7 +416,7 @@ fn primitive_output(
     input: &Ty,
     spot: Spot,
 ) -> Result<Ty, Refusal>
-    ensures { GivesFound result (primitive_judged (expressions_of (program_in context.now)) spot primitive (context_in context.now) input.now) }
+    ensures { GivesFound result (primitive_judged (program_expressions (program_in context.now)) spot primitive (context_in context.now) input.now) }
 {
     match primitive {
         Primitive::Bare(kind) => bare_output(context.alloc, kind, input, spot),
@@ -435,7 +436,7 @@ fn primitive_output(
 /// The type of the outputs of a loop, by the type of its part's outputs: pairs, whose second parts are fed back.
 #[tactic(auto, using(sf_expr::proofs::Judged::stops_then))]
 fn loop_output(alloc: Global, output: &Ty, fed: &Ty, spot: Spot) -> Result<Ty, Refusal>
-    ensures { GivesFound result (fed_at spot output.now fed.now) }
+    ensures { GivesFound result (judged_fed spot output.now fed.now) }
 {
     let (first, second) = parts(output, spot)?;
     agree(second, fed, spot)?;
@@ -708,14 +709,14 @@ fn recurring_output(
 /// then known by a name, on inputs of a type.
 #[cycle(output)]
 #[tactic(auto, using(sf_expr::proofs::Judged::stops_then))]
-fn keeping_output(
+fn continuing_output(
     context: &TypingContext,
     term: TermId,
-    form: Keeping,
+    form: Continuation,
     input: &Ty,
 ) -> Result<Ty, Refusal>
     requires below { (term_number form.source < term_number term) × (term_number form.observer < term_number term) × (term_number form.body < term_number term) }
-    ensures { GivesFound result (judged_as (program_in context.now) term (Node.Keeping form) (context_in context.now) input.now) }
+    ensures { GivesFound result (judged_as (program_in context.now) term (Node.Continuation form) (context_in context.now) input.now) }
 {
     let spot = context.program.spot(term);
     let value = judge(context, form.source, input)?;
@@ -737,7 +738,7 @@ fn keeping_output(
 /// a type and the name of a process from the one to the other.
 #[cycle(output)]
 fn kept_output(context: &TypingContext, name: NameId, body: &Body) -> Result<Ty, Refusal>
-    ensures { GivesFound result (judged_body (program_in context.now) body.now (keeping_inside (program_in context.now) name body.now.input.now body.now.wanted.now (context_in context.now))) }
+    ensures { GivesFound result (judged_body (program_in context.now) body.now (continuing_inside (program_in context.now) name body.now.input.now body.now.wanted.now (context_in context.now))) }
 {
     let names = (&*context).process_name(name, &*body.input, &*body.wanted)?;
     body_within(context, &names, body)
@@ -788,9 +789,9 @@ fn judge_members(
     members: CollectionId,
     input: &Ty,
 ) -> Result<MemberTypes, Refusal>
-    requires below { CollectionBelow (term_number form) (collection_under (program_in context.now) members) }
-    requires shallow { collection_depth (collection_of (program_in context.now) (collection_under (program_in context.now) members)) ≤ 64 }
-    ensures { GivesMembers result (members_judged (program_in context.now) (term_judged (program_in context.now)) (collection_under (program_in context.now) members) (context_in context.now) input.now) }
+    requires below { CollectionBelow (term_number form) (collection_node (program_in context.now) members) }
+    requires shallow { collection_depth (collection_of (program_in context.now) (collection_node (program_in context.now) members)) ≤ 64 }
+    ensures { GivesMembers result (members_judged (program_in context.now) (term_judged (program_in context.now)) (collection_node (program_in context.now) members) (context_in context.now) input.now) }
 {
     match context.program.collection(members) {
         Some(collection) => members_of(context, form, collection, input),
@@ -860,7 +861,7 @@ fn gathered_output(
     input: &Ty,
 ) -> Result<Ty, Refusal>
     requires there { term_node_at (program_in context.now) term ≡ Node.Gathered members }
-    requires below { CollectionBelow (term_number term) (collection_under (program_in context.now) members) }
+    requires below { CollectionBelow (term_number term) (collection_node (program_in context.now) members) }
     ensures { GivesFound result (judged_as (program_in context.now) term (Node.Gathered members) (context_in context.now) input.now) }
 {
     let types = judge_members(context, term, members, input)?;
@@ -878,7 +879,7 @@ fn releasing_output(
     input: &Ty,
 ) -> Result<Ty, Refusal>
     requires there { term_node_at (program_in context.now) term ≡ Node.Releasing form }
-    requires below { CollectionBelow (term_number term) (collection_under (program_in context.now) form.members) × (term_number form.observer < term_number term) × (term_number form.body < term_number term) }
+    requires below { CollectionBelow (term_number term) (collection_node (program_in context.now) form.members) × (term_number form.observer < term_number term) × (term_number form.body < term_number term) }
     ensures { GivesFound result (judged_as (program_in context.now) term (Node.Releasing form) (context_in context.now) input.now) }
 {
     let spot = context.program.spot(term);
@@ -923,7 +924,7 @@ fn editing_output(
     input: &Ty,
 ) -> Result<Ty, Refusal>
     requires there { term_node_at (program_in context.now) term ≡ Node.Editing form }
-    requires below { CollectionBelow (term_number term) (collection_under (program_in context.now) form.members) × CollectionBelow (term_number term) (collection_under (program_in context.now) form.edit) }
+    requires below { CollectionBelow (term_number term) (collection_node (program_in context.now) form.members) × CollectionBelow (term_number term) (collection_node (program_in context.now) form.edit) }
     ensures { GivesFound result (judged_as (program_in context.now) term (Node.Editing form) (context_in context.now) input.now) }
 {
     let spot = context.program.spot(term);
@@ -944,8 +945,8 @@ fn editing_output(
 /// type and the name of members of these types.
 #[cycle(output)]
 fn edited_types(context: &TypingContext, term: TermId, edit: &Edit) -> Result<MemberTypes, Refusal>
-    requires below { CollectionBelow (term_number term) (collection_under (program_in context.now) edit.now.form.edit) }
-    requires shallow { collection_depth (collection_of (program_in context.now) (collection_under (program_in context.now) edit.now.form.edit)) ≤ 64 }
+    requires below { CollectionBelow (term_number term) (collection_node (program_in context.now) edit.now.form.edit) }
+    requires shallow { collection_depth (collection_of (program_in context.now) (collection_node (program_in context.now) edit.now.form.edit)) ≤ 64 }
     ensures { GivesMembers result (judged_edit (program_in context.now) edit.now (members_inside (program_in context.now) edit.now.form.name (key_kind_of edit.now.wanted.now.keys) edit.now.input.now edit.now.wanted.now.output (context_in context.now))) }
 {
     let wanted = edit.wanted;
@@ -967,8 +968,8 @@ fn edit_within(
     term: TermId,
     edit: &Edit,
 ) -> Result<MemberTypes, Refusal>
-    requires below { CollectionBelow (term_number term) (collection_under (program_in context.now) edit.now.form.edit) }
-    requires shallow { collection_depth (collection_of (program_in context.now) (collection_under (program_in context.now) edit.now.form.edit)) ≤ 64 }
+    requires below { CollectionBelow (term_number term) (collection_node (program_in context.now) edit.now.form.edit) }
+    requires shallow { collection_depth (collection_of (program_in context.now) (collection_node (program_in context.now) edit.now.form.edit)) ≤ 64 }
     ensures { GivesMembers result (judged_edit (program_in context.now) edit.now (inside_names names.now (context_in context.now))) }
 {
     let inner = (&*context).within(&*names)?;
@@ -979,8 +980,8 @@ fn edit_within(
 /// type.
 #[cycle(output)]
 fn edit_types(context: &TypingContext, term: TermId, edit: &Edit) -> Result<MemberTypes, Refusal>
-    requires below { CollectionBelow (term_number term) (collection_under (program_in context.now) edit.now.form.edit) }
-    requires shallow { collection_depth (collection_of (program_in context.now) (collection_under (program_in context.now) edit.now.form.edit)) ≤ 64 }
+    requires below { CollectionBelow (term_number term) (collection_node (program_in context.now) edit.now.form.edit) }
+    requires shallow { collection_depth (collection_of (program_in context.now) (collection_node (program_in context.now) edit.now.form.edit)) ≤ 64 }
     ensures { GivesMembers result (judged_edit (program_in context.now) edit.now (context_in context.now)) }
 {
     let names = (&*context).pattern_names(edit.form.pattern, &*edit.payload, edit.spot)?;
@@ -998,9 +999,9 @@ fn members_within(
     members: CollectionId,
     input: &Ty,
 ) -> Result<MemberTypes, Refusal>
-    requires below { CollectionBelow (term_number form) (collection_under (program_in context.now) members) }
-    requires shallow { collection_depth (collection_of (program_in context.now) (collection_under (program_in context.now) members)) ≤ 64 }
-    ensures { GivesMembers result (members_judged (program_in context.now) (term_judged (program_in context.now)) (collection_under (program_in context.now) members) (inside_names names.now (context_in context.now)) input.now) }
+    requires below { CollectionBelow (term_number form) (collection_node (program_in context.now) members) }
+    requires shallow { collection_depth (collection_of (program_in context.now) (collection_node (program_in context.now) members)) ≤ 64 }
+    ensures { GivesMembers result (members_judged (program_in context.now) (term_judged (program_in context.now)) (collection_node (program_in context.now) members) (inside_names names.now (context_in context.now)) input.now) }
 {
     let inner = (&*context).within(&*names)?;
     judge_members(&inner, form, members, input)
@@ -1061,7 +1062,7 @@ fn argument_fits(
     parameter: &ParameterForm,
 ) -> Result<bool, Refusal>
     requires below { ArgumentBelow (program_in context.now) (term_number term) argument }
-    requires shallow { (i : CollectionIdIn) → argument ≡ Argument.Collection i → collection_depth (collection_of (program_in context.now) (collection_under (program_in context.now) i)) ≤ 64 }
+    requires shallow { (i : collection_ids.CollectionId) → argument ≡ Argument.Collection i → collection_depth (collection_of (program_in context.now) (collection_node (program_in context.now) i)) ≤ 64 }
     ensures { GivesFound result (argument_judged (program_in context.now) (term_judged (program_in context.now)) (term_spot_at (program_in context.now) term) (context_in context.now) argument (kind_of_form parameter.now)) }
 {
     match (argument, parameter) {
@@ -1105,7 +1106,7 @@ fn call_output(
     input: &Ty,
 ) -> Result<Ty, Refusal>
     requires there { term_node_at (program_in context.now) term ≡ Node.Call name arguments }
-    requires below { All (ArgumentBelow (program_in context.now) (term_number term)) (arguments_under (program_in context.now) arguments) }
+    requires below { All (ArgumentBelow (program_in context.now) (term_number term)) (argument_nodes (program_in context.now) arguments) }
     ensures { GivesFound result (judged_as (program_in context.now) term (Node.Call name arguments) (context_in context.now) input.now) }
 {
     let spot = context.program.spot(term);
@@ -1154,7 +1155,7 @@ fn judge_form(context: &TypingContext, term: TermId, node: Node, input: &Ty) -> 
             transformed_output(context, term, function, part, input)
         }
         Node::Switching(form) => switching_output(context, term, form, input),
-        Node::Keeping(form) => keeping_output(context, term, form, input),
+        Node::Continuation(form) => continuing_output(context, term, form, input),
         Node::Gathered(members) => gathered_output(context, term, members, input),
         Node::Releasing(form) => releasing_output(context, term, form, input),
         Node::Editing(form) => editing_output(context, term, form, input),
@@ -1188,9 +1189,9 @@ pub(crate) fn members_at(
     input: &Ty,
 ) -> Result<MemberTypes, Refusal>
     requires fits { Fits input.now }
-    requires below { CollectionBelow (term_number form) (collection_under (program_in context.now) members) }
-    requires shallow { collection_depth (collection_of (program_in context.now) (collection_under (program_in context.now) members)) ≤ 64 }
-    ensures { AnswersMembers (program_in context.now) (context_in context.now) (collection_under (program_in context.now) members) input.now result }
+    requires below { CollectionBelow (term_number form) (collection_node (program_in context.now) members) }
+    requires shallow { collection_depth (collection_of (program_in context.now) (collection_node (program_in context.now) members)) ≤ 64 }
+    ensures { AnswersMembers (program_in context.now) (context_in context.now) (collection_node (program_in context.now) members) input.now result }
 {
     judge_members(context, form, members, input)
 }
@@ -1206,7 +1207,7 @@ fn template_output(
     template: &Template,
 ) -> Result<Ty, Refusal>
     requires { names_of_set templates.now ≡ program_names program.now }
-    ensures { AnswersTerm program.now (context_with (signatures_in functions.now) (bindings_from (entries_in names.now)) (templates_of program.now)) template.now.body template.now.input result }
+    ensures { AnswersTerm program.now (outer_context (signatures_in functions.now) (bindings_from (frame_entries names.now)) (templates_of program.now)) template.now.body template.now.input result }
 {
     let context = TypingContext::of_body(alloc, program, templates, functions, &*names)?;
     let input = template.input();
@@ -1224,7 +1225,7 @@ pub(crate) fn check_template(
     template: &Template,
 ) -> Result<(), Refusal>
     requires { names_of_set names.now ≡ program_names program.now }
-    ensures ok { OnOk result (IsTyped (signatures_in functions.now) (templates_of program.now) (template_in program.now template.now)) }
+    ensures ok { OnOk result (IsTyped (signatures_in functions.now) (templates_of program.now) (term_template program.now template.now)) }
     ensures err { IfErr result (OrMemory (TemplateBreaks (signatures_in functions.now) program.now template.now)) }
 {
     let parameters = parameter_names(alloc, template.parameters())?;

@@ -4,7 +4,7 @@ use Rattle.std.specs.Prelude.{Option, Some, None, bytes_eq, unwrap_or}
 use Rattle.sf_value.specs.Values.{Name, Data}
 use Rattle.sf_func.specs.Registries.{AnswersByName}
 use Rattle.sf_operator.specs.Outcomes.{nonsense}
-use Rattle.sf_expr.specs.Evaluation.{Scope, functions_in, value_of}
+use Rattle.sf_expr.specs.Evaluation.{Scope, scope_functions, value_of}
 use Rattle.sf_code.specs.Names.{ValuesByName, value_named, value_among, name_over, scope_with}
 
 chosen : (b : Bool) (o q : Option Data) → cond b (unwrap_or o nonsense) (unwrap_or q nonsense) ≡ unwrap_or (cond b o q) nonsense
@@ -15,7 +15,7 @@ value_over : (x y : Name) (o : Option Data) (s : Scope) → value_of x (name_ove
 value_over x y (Some d) s = refl
 value_over x y None s = refl
 
-functions_over : (y : Name) (o : Option Data) (s : Scope) → functions_in (name_over y o s) ≡ functions_in s
+functions_over : (y : Name) (o : Option Data) (s : Scope) → scope_functions (name_over y o s) ≡ scope_functions s
 functions_over y (Some d) s = refl
 functions_over y None s = refl
 
@@ -28,6 +28,6 @@ value_with (v ∷ vs) f x =
     ∙ chosen (bytes_eq x v.0) v.1 (value_named vs x))
 
 -- functions answer as they do in the scope
-pub functions_with : (vs : ValuesByName) (f : AnswersByName) → functions_in (scope_with vs f) ≡ f
+pub functions_with : (vs : ValuesByName) (f : AnswersByName) → scope_functions (scope_with vs f) ≡ f
 functions_with [] f = refl
 functions_with (v ∷ vs) f = functions_over v.0 v.1 (scope_with vs f) ∙ functions_with vs f

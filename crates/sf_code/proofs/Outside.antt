@@ -16,20 +16,20 @@ use Rattle.sf_expr.specs.declared.exprs.Folded.{Folded}
 use Rattle.sf_expr.specs.declared.exprs.NameId.{NameId}
 use Rattle.sf_expr.specs.declared.exprs.PatternId.{PatternId}
 use Rattle.sf_expr.specs.declared.exprs.ExprNode.TheVariants as nodes
-use Rattle.sf_expr.specs.Arena.{expression, name_at, placed_at, Builds, builds_conditional, builds_mapped, builds_folded}
+use Rattle.sf_expr.specs.Arena.{expression, name_at, stored_pattern, Builds, builds_conditional, builds_mapped, builds_folded}
 use Rattle.sf_expr.specs.Expressions.{Pattern, named, both, Expression, variable, literal, paired, applied, operation, conditional, mapped, folded, called}
 use Rattle.sf_expr.specs.Patterns.{pattern_of}
 use Rattle.sf_expr.specs.Meanings.{names_seen}
-use Rattle.sf_code.specs.Around.{names_at}
+use Rattle.sf_code.specs.Around.{names_by_id}
 use Rattle.sf_code.specs.declared.place.Half.{Half}
 use Rattle.sf_code.specs.Places.{Place}
-use Rattle.sf_code.specs.Compiling.{path_in, inner_path, place_or, place_in, is_closed, named_each, BindAsMany}
+use Rattle.sf_code.specs.Compiling.{path_of_name, inner_path, place_or, place_of_name, is_closed, named_each, BindAsMany}
 
 -- ## Patterns of frames
 
 -- whether one of the patterns binds a name
 abbrev binds : Name → List Pattern → Bool
-binds x ps = is_some (place_in x ps)
+binds x ps = is_some (place_of_name x ps)
 
 first_binds : (o : Option (List Half)) (q : Option Place) → is_some (place_or o q) ≡ (is_some o || is_some q)
 first_binds (Some hs) q = refl
@@ -39,10 +39,10 @@ first_binds None (Some p) = refl
 binds_append : (x : Name) (ps qs : List Pattern) → binds x (ps ++ qs) ≡ (binds x ps || binds x qs)
 binds_append x [] qs = refl
 binds_append x (p ∷ ps) qs =
-    first_binds (path_in x p) (place_in x (ps ++ qs))
-    ∙ ap (λ (b : Bool). is_some (path_in x p) || b) (binds_append x ps qs)
-    ∙ sym (or_assoc (is_some (path_in x p)) (binds x ps) (binds x qs))
-    ∙ ap (λ (b : Bool). b || binds x qs) (sym (first_binds (path_in x p) (place_in x ps)))
+    first_binds (path_of_name x p) (place_of_name x (ps ++ qs))
+    ∙ ap (λ (b : Bool). is_some (path_of_name x p) || b) (binds_append x ps qs)
+    ∙ sym (or_assoc (is_some (path_of_name x p)) (binds x ps) (binds x qs))
+    ∙ ap (λ (b : Bool). b || binds x qs) (sym (first_binds (path_of_name x p) (place_of_name x ps)))
 
 -- a name that some patterns bind is bound by them and others
 pub binds_before : (x : Name) (ps qs : List Pattern) → binds x ps ≡ true → binds x (ps ++ qs) ≡ true
@@ -93,7 +93,7 @@ test_some true o = refl
 test_some false o = first_binds None o
 
 one_next : (x y : Name) (ys : List Name) → is_one_of x (y ∷ ys) ≡ (bytes_eq x y || is_one_of x ys)
-one_next x y ys = test_some (bytes_eq x y) (place_in x (named_each ys))
+one_next x y ys = test_some (bytes_eq x y) (place_of_name x (named_each ys))
 
 any_one : (x : Name) (ks : List (Bor (List ℕ))) → list_any (λ (j : Bor (List ℕ)). bytes_eq x j.now) ks ≡ is_one_of x (names_seen ks)
 any_one x [] = refl
@@ -102,25 +102,25 @@ any_one x (k ∷ ks) = ap (λ b. bytes_eq x k.now || b) (any_one x ks) ∙ sym (
 pub seen_both : (ks js : List (Bor (List ℕ))) → names_seen (ks ++ js) ≡ names_seen ks ++ names_seen js
 seen_both ks js = map-append (λ (j : Bor (List ℕ)). j.now) ks js
 
-pub at_both : (x : Exprs) (ks js : List NameId) → names_at x (ks ++ js) ≡ names_at x ks ++ names_at x js
+pub at_both : (x : Exprs) (ks js : List NameId) → names_by_id x (ks ++ js) ≡ names_by_id x ks ++ names_by_id x js
 at_both x ks js = map-append (λ k. name_at x k) ks js
 
 -- a name put behind others
 module _ (x : Exprs) (ks new : List NameId) (k : NameId) (put : new ≡ ks ++ k ∷ []) where
-  pub pushed_kept : BindAsMany (named_each (names_at x ks)) (named_each (names_at x new))
+  pub pushed_kept : BindAsMany (named_each (names_by_id x ks)) (named_each (names_by_id x new))
   pushed_kept y h =
-      ap (λ (js : List NameId). is_one_of y (names_at x js)) put
+      ap (λ (js : List NameId). is_one_of y (names_by_id x js)) put
       ∙ ap (is_one_of y) (at_both x ks (k ∷ []))
-      ∙ one_append y (names_at x ks) (name_at x k ∷ [])
+      ∙ one_append y (names_by_id x ks) (name_at x k ∷ [])
       ∙ ap (λ (c : Bool). c || is_one_of y (name_at x k ∷ [])) h
 
-  pub pushed_there : is_one_of (name_at x k) (names_at x new) ≡ true
+  pub pushed_there : is_one_of (name_at x k) (names_by_id x new) ≡ true
   pushed_there =
       let y = name_at x k in
-      ap (λ (js : List NameId). is_one_of y (names_at x js)) put
+      ap (λ (js : List NameId). is_one_of y (names_by_id x js)) put
       ∙ ap (is_one_of y) (at_both x ks (k ∷ []))
-      ∙ one_append y (names_at x ks) (y ∷ [])
-      ∙ or_right (is_one_of y (names_at x ks)) (is_one_of y (y ∷ []))
+      ∙ one_append y (names_by_id x ks) (y ∷ [])
+      ∙ or_right (is_one_of y (names_by_id x ks)) (is_one_of y (y ∷ []))
       (one_next y y [] ∙ ap (λ (c : Bool). c || is_one_of y []) ((bytes_eq-Decides y y).1 refl))
 
 -- a name put behind others, unless it is one of them
@@ -144,8 +144,8 @@ module _ (k : Bor (List ℕ)) (ks new : List (Bor (List ℕ))) (b : Bool) (put :
           (one_next k.now k.now [] ∙ ap (λ (c : Bool). c || is_one_of k.now []) ((bytes_eq-Decides k.now k.now).1 refl))
 
 -- names of which those of a new text are kept, beside the texts
-pub once_seen : (x : Exprs) (ks : List NameId) (k : NameId) (js new : List (Bor (List ℕ))) (j : Bor (List ℕ)) (b : Bool) → j.now ≡ name_at x k → new ≡ (if b then js else js ++ j ∷ []) → names_at x ks ≡ names_seen js
-    → names_at x (if b then ks else ks ++ k ∷ []) ≡ names_seen new
+pub once_seen : (x : Exprs) (ks : List NameId) (k : NameId) (js new : List (Bor (List ℕ))) (j : Bor (List ℕ)) (b : Bool) → j.now ≡ name_at x k → new ≡ (if b then js else js ++ j ∷ []) → names_by_id x ks ≡ names_seen js
+    → names_by_id x (if b then ks else ks ++ k ∷ []) ≡ names_seen new
 once_seen x ks k js new j true same put h = h ∙ sym (ap names_seen put)
 once_seen x ks k js new j false same put h =
     at_both x ks (k ∷ [])
@@ -154,12 +154,12 @@ once_seen x ks k js new j false same put h =
     ∙ sym (ap names_seen put)
 
 -- one name more is bound where it is bound beside the others
-pub one_more : (x : Exprs) (ks : List NameId) (k : NameId) (ps : List Pattern) → BindAsMany (named_each (names_at x ks)) ps → binds (name_at x k) ps ≡ true → BindAsMany (named_each (names_at x (ks ++ k ∷ []))) ps
+pub one_more : (x : Exprs) (ks : List NameId) (k : NameId) (ps : List Pattern) → BindAsMany (named_each (names_by_id x ks)) ps → binds (name_at x k) ps ≡ true → BindAsMany (named_each (names_by_id x (ks ++ k ∷ []))) ps
 one_more x ks k ps h here y m =
-    by (is_one_of y (names_at x ks)) (bytes_eq y (name_at x k)) refl refl
-    (sym (ap (is_one_of y) (at_both x ks (k ∷ [])) ∙ one_append y (names_at x ks) (name_at x k ∷ []) ∙ ap (λ (c : Bool). is_one_of y (names_at x ks) || c) (one_next y (name_at x k) [])) ∙ m)
+    by (is_one_of y (names_by_id x ks)) (bytes_eq y (name_at x k)) refl refl
+    (sym (ap (is_one_of y) (at_both x ks (k ∷ [])) ∙ one_append y (names_by_id x ks) (name_at x k ∷ []) ∙ ap (λ (c : Bool). is_one_of y (names_by_id x ks) || c) (one_next y (name_at x k) [])) ∙ m)
   where
-    by : (a b : Bool) → is_one_of y (names_at x ks) ≡ a → bytes_eq y (name_at x k) ≡ b → (a || (b || false)) ≡ true → binds y ps ≡ true
+    by : (a b : Bool) → is_one_of y (names_by_id x ks) ≡ a → bytes_eq y (name_at x k) ≡ b → (a || (b || false)) ≡ true → binds y ps ≡ true
     by true b before last n = h y before
     by false true before last n = ap (λ (z : Name). binds z ps) ((bytes_eq-Decides y (name_at x k)).0 last) ∙ here
     by false false before last n = absurd (false≢true n)
@@ -171,15 +171,15 @@ path_some (Some hs) q = refl
 path_some None (Some hs) = refl
 path_some None None = refl
 
-only_binds : (x : Name) (p : Pattern) → binds x (p ∷ []) ≡ is_some (path_in x p)
-only_binds x p = first_binds (path_in x p) None ∙ or-false (is_some (path_in x p))
+only_binds : (x : Name) (p : Pattern) → binds x (p ∷ []) ≡ is_some (path_of_name x p)
+only_binds x p = first_binds (path_of_name x p) None ∙ or-false (is_some (path_of_name x p))
 
 -- a pattern binds the names of both its parts
 pub both_bind : (p q : Pattern) (ys zs : List Name) → BindAsMany (named_each ys) (p ∷ []) → BindAsMany (named_each zs) (q ∷ []) → BindAsMany (named_each (ys ++ zs)) (both p q ∷ [])
 both_bind p q ys zs h k x m =
     only_binds x (both p q)
-    ∙ path_some (path_in x q) (path_in x p)
-    ∙ by (is_one_of x ys) (is_one_of x zs) (is_some (path_in x q)) (is_some (path_in x p)) (sym (one_append x ys zs) ∙ m) (λ i. sym (only_binds x p) ∙ h x i) (λ i. sym (only_binds x q) ∙ k x i)
+    ∙ path_some (path_of_name x q) (path_of_name x p)
+    ∙ by (is_one_of x ys) (is_one_of x zs) (is_some (path_of_name x q)) (is_some (path_of_name x p)) (sym (one_append x ys zs) ∙ m) (λ i. sym (only_binds x p) ∙ h x i) (λ i. sym (only_binds x q) ∙ k x i)
   where
     by : (a b c d : Bool) → (a || b) ≡ true → (a ≡ true → d ≡ true) → (b ≡ true → c ≡ true) → (c || d) ≡ true
     by a b true d n f g = refl
@@ -195,10 +195,10 @@ module _ {x : Exprs} (ps : List Pattern) where
   conditional_closed {a} old new builds_conditional more h k l = and_from _ _ (closed_more old new more (expression x a) ps h) (and_from _ _ k l)
 
   pub mapped_closed : {n : Mapped} {t : Expression} (old new : List Pattern) → Builds x (nodes.Mapped n) t → BindAsMany old new
-      → is_closed (ps ++ old) (expression x n.part) ≡ true → is_closed (pattern_of (placed_at x n.pattern) ∷ (ps ++ new)) (expression x n.body) ≡ true → is_closed (ps ++ new) t ≡ true
+      → is_closed (ps ++ old) (expression x n.part) ≡ true → is_closed (pattern_of (stored_pattern x n.pattern) ∷ (ps ++ new)) (expression x n.body) ≡ true → is_closed (ps ++ new) t ≡ true
   mapped_closed {n} old new builds_mapped more h k = and_from _ _ (closed_more old new more (expression x n.part) ps h) k
 
   pub folded_closed : {n : Folded} {t : Expression} (old new : List Pattern) → Builds x (nodes.Folded n) t → BindAsMany old new
-      → is_closed (ps ++ old) (expression x n.first) ≡ true → is_closed (ps ++ old) (expression x n.second) ≡ true → is_closed (pattern_of (placed_at x n.pattern) ∷ (ps ++ new)) (expression x n.body) ≡ true → is_closed (ps ++ new) t ≡ true
+      → is_closed (ps ++ old) (expression x n.first) ≡ true → is_closed (ps ++ old) (expression x n.second) ≡ true → is_closed (pattern_of (stored_pattern x n.pattern) ∷ (ps ++ new)) (expression x n.body) ≡ true → is_closed (ps ++ new) t ≡ true
   folded_closed {n} old new builds_folded more h k l =
       and_from _ _ (closed_more old new more (expression x n.first) ps h) (and_from _ _ (closed_more old new more (expression x n.second) ps k) l)

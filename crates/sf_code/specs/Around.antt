@@ -10,8 +10,8 @@ use Rattle.sf_code.specs.declared.around.Around.{Around}
 use Rattle.sf_code.specs.declared.around.Around.TheVariants.{Nothing, Name as OneName, Both'}
 
 -- the names at ids
-abbrev pub names_at : Exprs → List NameId → List Name
-names_at x ks = map (λ k. name_at x k) ks
+abbrev pub names_by_id : Exprs → List NameId → List Name
+names_by_id x ks = map (λ k. name_at x k) ks
 
 -- the pattern that binds names in their shape
 abbrev pub pattern_around : Exprs → Around → Pattern

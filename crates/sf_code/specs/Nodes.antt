@@ -1,6 +1,6 @@
 -- How code is kept.
 use Rattle.std.specs.Prelude.{Bool, true, false, is_some}
-use Rattle.sf_operator.specs.Operations.{number_in}
+use Rattle.sf_operator.specs.Operations.{number_held}
 use Rattle.sf_code.specs.declared.code.Code.{Code}
 use Rattle.sf_code.specs.declared.code.Code.TheVariants.{Place, Constant, WithNumber, NumberWith}
 
@@ -11,7 +11,7 @@ is_place c = false
 
 -- whether code is a number
 abbrev pub is_number : Code → Bool
-is_number (Constant v) = is_some (number_in v)
+is_number (Constant v) = is_some (number_held v)
 is_number c = false
 
 -- whether code is arithmetic between a place and a number, in either order, as one node

@@ -3,12 +3,12 @@ use Rattle.std.specs.Prelude.{◌≡◌, Bool, ℤ, Option, Some, None, Result, 
 use Rattle.sf_value.specs.Values.{Data, truth, number}
 use Rattle.sf_operator.specs.Answers.{EvaluatesAs}
 use Rattle.sf_operator.specs.Outcomes.{Evaluated, answer, failed}
-use Rattle.sf_operator.specs.Operations.{truth_in, number_in}
+use Rattle.sf_operator.specs.Operations.{truth_held, number_held}
 use Rattle.sf_operator.specs.declared.fault.EvalFault.{EvalFault}
 
 -- the number that an answer is, if it is one; nothing of a fault
 abbrev pub numbered : Evaluated Data → Option (Option ℤ)
-numbered (answer d) = Some (number_in d)
+numbered (answer d) = Some (number_held d)
 numbered (failed x) = None
 
 -- A result answers the number that code is worth, none where it is worth another value, or its fault.
@@ -19,7 +19,7 @@ AnswersNumber (Err fault) worth = EvaluatesAs (λ (z : ℤ). number z) (Err faul
 
 -- whether an answer is true, if it is a truth; nothing of a fault
 abbrev pub trued : Evaluated Data → Option (Option Bool)
-trued (answer d) = Some (truth_in d)
+trued (answer d) = Some (truth_held d)
 trued (failed x) = None
 
 -- A result answers the truth that code is worth, none where it is worth another value, or its fault.

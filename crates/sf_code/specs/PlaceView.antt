@@ -24,10 +24,10 @@ place_of (Here path) = at_frame 0 (path_of path)
 place_of (Out' at place) = one_out (place_of place)
 
 -- the patterns, the innermost first
-abbrev pub patterns_of : Patterns → List Pattern
-patterns_of Empty = []
-patterns_of (Only frame) = pattern_of frame.now.pattern.now ∷ []
-patterns_of (Within' frame at around) = pattern_of frame.now.pattern.now ∷ patterns_of around
+abbrev pub frame_patterns : Patterns → List Pattern
+frame_patterns Empty = []
+frame_patterns (Only frame) = pattern_of frame.now.pattern.now ∷ []
+frame_patterns (Within' frame at around) = pattern_of frame.now.pattern.now ∷ frame_patterns around
 
 -- the pattern of one frame, if there is one
 abbrev pub around_pattern : Option (Box PlacedPattern Global) → List Pattern

@@ -24,11 +24,11 @@ part_at [] d = d
 part_at (h ∷ hs) d = part_at hs (half_of h d)
 
 -- the part of the value of a frame, of which the innermost stands first; outside of all frames there is nothing
-abbrev pub part_in : ℕ → List Half → List Data → Data
-part_in n hs [] = nonsense
-part_in zero hs (v ∷ vs) = part_at hs v
-part_in (suc n) hs (v ∷ vs) = part_in n hs vs
+abbrev pub frame_part : ℕ → List Half → List Data → Data
+frame_part n hs [] = nonsense
+frame_part zero hs (v ∷ vs) = part_at hs v
+frame_part (suc n) hs (v ∷ vs) = frame_part n hs vs
 
 -- the value at a place among the values of frames, the innermost first
 abbrev pub value_in_frames : Place → List Data → Data
-value_in_frames (at_frame n hs) vs = part_in n hs vs
+value_in_frames (at_frame n hs) vs = frame_part n hs vs

@@ -4,7 +4,7 @@ use Rattle.std.specs.declared.alloc.Global.{Global}
 use Rattle.sf_value.specs.Values.{Data, unit, pair}
 use Rattle.sf_expr.specs.Expressions.{Pattern, unnamed, named, both, Expression, Function, function}
 use Rattle.sf_expr.specs.declared.exprs.Exprs.{Exprs}
-use Rattle.sf_expr.specs.Evaluation.{Scope, value_of, functions_in, eval, apply}
+use Rattle.sf_expr.specs.Evaluation.{Scope, value_of, scope_functions, eval, apply}
 use Rattle.sf_code.specs.declared.code.Code.{Code}
 use Rattle.sf_code.specs.declared.open.OpenCode.{OpenCode}
 use Rattle.sf_code.specs.declared.open.Closure.{Closure}
@@ -27,18 +27,18 @@ frame_around x (Some p) s = pattern_values s (pattern_around x p.value) ∷ []
 
 -- Code over a frame of the names around it is that of an expression in a scope: it is worth the same.
 pub record IsCodeOfIn (s : Scope) (e : Expression) (around : List Data) (c : Code) : Type 0 where
-  pub worth : run (code_of c) around (functions_in s) ≡ eval e s
+  pub worth : run (code_of c) around (scope_functions s) ≡ eval e s
 
 -- Code over a frame of the names around it is that of a function in a scope: with its argument in a frame inside that one it
 -- is worth what the function answers.
-pub record IsCodeOfFunctionIn (s : Scope) (g : Function) (around : List Data) (c : Code) : Type 0 where
-  pub worth : (d : Data) → run (code_of c) (d ∷ around) (functions_in s) ≡ apply g d s
+pub record AnswersAsFunction (s : Scope) (g : Function) (around : List Data) (c : Code) : Type 0 where
+  pub worth : (d : Data) → run (code_of c) (d ∷ around) (scope_functions s) ≡ apply g d s
 
 -- Code is that of an expression in every scope, over the values that its names have there: the names around it, which stand among these
 -- expressions, are all of them.
 pub record IsCodeOf (x : Exprs) (e : Expression) (c : OpenCode) : Type 0 where
   pub closed : is_closed (patterns_around x c.around) e ≡ true
-  pub worth : (s : Scope) → run (code_of c.code) (frame_around x c.around s) (functions_in s) ≡ eval e s
+  pub worth : (s : Scope) → run (code_of c.code) (frame_around x c.around s) (scope_functions s) ≡ eval e s
 
 -- whether patterns bind each name of a function that its own doesn't
 abbrev pub is_closed_within : List Pattern → Function → Bool
@@ -47,8 +47,8 @@ is_closed_within ps (function p e) = is_closed (p ∷ ps) e
 -- Code is that of a function in every scope, likewise.
 pub record IsCodeOfFunction (x : Exprs) (g : Function) (c : OpenCode) : Type 0 where
   pub closed : is_closed_within (patterns_around x c.around) g ≡ true
-  pub worth : (s : Scope) (d : Data) → run (code_of c.code) (d ∷ frame_around x c.around s) (functions_in s) ≡ apply g d s
+  pub worth : (s : Scope) (d : Data) → run (code_of c.code) (d ∷ frame_around x c.around s) (scope_functions s) ≡ apply g d s
 
 -- A closure is that of a function in a scope: its code is, over the value that it has.
 abbrev pub IsClosureOf : Scope → Function → Closure → Type 0
-IsClosureOf s g c = IsCodeOfFunctionIn s g (option_to_list c.around) c.function.value.code
+IsClosureOf s g c = AnswersAsFunction s g (option_to_list c.around) c.function.value.code

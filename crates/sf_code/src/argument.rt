@@ -1,7 +1,7 @@
 //! The arguments of a fold's function, one after another in the same nodes.
 ghost use Rattle.std.specs.Prelude.{◌≡◌, IfOk};
-ghost use Rattle.sf_operator.specs.FunctionForms.{value_of_key as data_of_key};
-ghost use Rattle.sf_value.specs.Values.{pair as pair_data};
+ghost use Rattle.sf_operator.specs.FunctionForms;
+ghost use Rattle.sf_value.specs.Values;
 ghost use Rattle.sf_value.specs.View.{key_of};
 
 use sf_operator::value_of_key;
@@ -19,7 +19,7 @@ pub(crate) fn next_argument(
     key: &Key,
     value: &Value,
 ) -> Result<Value, AllocError>
-    ensures { IfOk result (λ v. v ≡ pair_data so_far (pair_data (data_of_key (key_of key.now)) value.now)) }
+    ensures { IfOk result (λ v. v ≡ Values.pair so_far (Values.pair (FunctionForms.value_of_key (key_of key.now)) value.now)) }
 {
     if let Form::Pair(mut node) = last.into_form() {
         if let Some(own) = Rc::get_mut(&mut node) {
@@ -36,7 +36,7 @@ pub(crate) fn next_argument(
 // A row of a table, as the pair of its key and its value: in the node of the last row, likewise.
 #[inline(always)]
 fn next_row(alloc: Global, last: Value, key: &Key, value: &Value) -> Result<Value, AllocError>
-    ensures { IfOk result (λ v. v ≡ pair_data (data_of_key (key_of key.now)) value.now) }
+    ensures { IfOk result (λ v. v ≡ Values.pair (FunctionForms.value_of_key (key_of key.now)) value.now) }
 {
     if let Form::Pair(mut node) = last.into_form() {
         if let Some(own) = Rc::get_mut(&mut node) {
@@ -50,7 +50,7 @@ fn next_row(alloc: Global, last: Value, key: &Key, value: &Value) -> Result<Valu
 
 // A row of a table, as the pair of its key and its value.
 fn row(alloc: Global, key: &Key, value: &Value) -> Result<Value, AllocError>
-    ensures { IfOk result (λ v. v ≡ pair_data (data_of_key (key_of key.now)) value.now) }
+    ensures { IfOk result (λ v. v ≡ Values.pair (FunctionForms.value_of_key (key_of key.now)) value.now) }
 {
     let key = value_of_key(key)?;
     let value = value.clone_in(alloc)?;

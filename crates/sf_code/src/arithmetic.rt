@@ -3,13 +3,14 @@ ghost use Rattle.std.specs.Prelude.{◌≡◌, true, ◌∷◌, IfSome, is_some,
 ghost use Rattle.sf_func.specs.Registries.{AnswersByName};
 ghost use Rattle.sf_operator.specs.Answers.{Computes};
 ghost use Rattle.sf_operator.specs.Outcomes.{answer};
-ghost use Rattle.sf_value.specs.Values.{number as number_of};
-ghost use Rattle.sf_code.specs.Arithmetic.{has_number, is_arithmetic as is_by_arithmetic};
+ghost use Rattle.sf_value.specs.Values;
+ghost use Rattle.sf_code.specs.Arithmetic.{has_number};
+ghost use Rattle.sf_code.specs.Arithmetic as arithmetics;
 ghost use Rattle.sf_code.specs.Codes as trees;
 ghost use Rattle.sf_code.specs.CodeView.{code_of};
 ghost use Rattle.sf_code.specs.PlaceView.{place_of};
 ghost use Rattle.sf_code.specs.Places.{value_in_frames};
-ghost use Rattle.sf_code.specs.Running.{run as worth_of};
+ghost use Rattle.sf_code.specs.Running.{run};
 
 use crate::code::Code;
 use crate::frames::Frames;
@@ -24,14 +25,14 @@ pub struct Calculation {
     /// The function.
     pub closure: Closure,
     // (it is arithmetic alone)
-    ghost alone: { is_by_arithmetic (option_to_list closure.around) (code_of closure.function.value.code) ≡ true },
+    ghost alone: { arithmetics.is_arithmetic (option_to_list closure.around) (code_of closure.function.value.code) ≡ true },
 }
 
 impl Calculation {
     /// What it makes of a number, or the first fault. It takes no memory and asks no stored function.
     #[inline(always)]
     pub fn calculate(&self, number: i64) -> Result<i64, ValueFault>
-        ensures { (f : AnswersByName) → Computes result (worth_of (code_of self.now.closure.function.value.code) (number_of number ∷ option_to_list self.now.closure.around) f) }
+        ensures { (f : AnswersByName) → Computes result (run (code_of self.now.closure.function.value.code) (Values.number number ∷ option_to_list self.now.closure.around) f) }
     {
         calculated(&self.closure.function.code, &self.closure.around, number)
     }
@@ -40,7 +41,7 @@ impl Calculation {
 /// Whether the code of a function makes a number of a number by arithmetic alone, over the value of the names around it: of
 /// its argument, of numbers, and of what arithmetic makes of these.
 pub fn is_arithmetic(code: &Code, around: &Option<Value>) -> bool
-    ensures { result ≡ is_by_arithmetic (option_to_list around.now) (code_of code.now) }
+    ensures { result ≡ arithmetics.is_arithmetic (option_to_list around.now) (code_of code.now) }
 {
     match code {
         Code::Constant(value) => number_in(value).is_some(),
@@ -59,7 +60,7 @@ pub fn is_arithmetic(code: &Code, around: &Option<Value>) -> bool
 #[inline(always)]
 fn number_at(place: &Place, around: &Option<Value>, number: i64) -> Option<i64>
     ensures found { is_some result ≡ has_number (option_to_list around.now) (place_of place.now) }
-    ensures value { IfSome result (λ z. value_in_frames (place_of place.now) (number_of number ∷ option_to_list around.now) ≡ number_of z) }
+    ensures value { IfSome result (λ z. value_in_frames (place_of place.now) (Values.number number ∷ option_to_list around.now) ≡ Values.number z) }
 {
     match place {
         Place::Here(path) => match path {
@@ -74,8 +75,8 @@ fn number_at(place: &Place, around: &Option<Value>, number: i64) -> Option<i64>
 #[cycle(calculated)]
 #[inline(always)]
 fn calculated(code: &Code, around: &Option<Value>, number: i64) -> Result<i64, ValueFault>
-    requires { is_by_arithmetic (option_to_list around.now) (code_of code.now) ≡ true }
-    ensures { (f : AnswersByName) → Computes result (worth_of (code_of code.now) (number_of number ∷ option_to_list around.now) f) }
+    requires { arithmetics.is_arithmetic (option_to_list around.now) (code_of code.now) ≡ true }
+    ensures { (f : AnswersByName) → Computes result (run (code_of code.now) (Values.number number ∷ option_to_list around.now) f) }
 {
     match code {
         Code::Place(place) => match number_at(place, around, number) {
@@ -109,8 +110,8 @@ fn at_once(
     around: &Option<Value>,
     number: i64,
 ) -> Result<i64, ValueFault>
-    requires { is_by_arithmetic (option_to_list around.now) (trees.operation (code_of left.now) operator (code_of right.now)) ≡ true }
-    ensures { (f : AnswersByName) → Computes result (worth_of (trees.operation (code_of left.now) operator (code_of right.now)) (number_of number ∷ option_to_list around.now) f) }
+    requires { arithmetics.is_arithmetic (option_to_list around.now) (trees.operation (code_of left.now) operator (code_of right.now)) ≡ true }
+    ensures { (f : AnswersByName) → Computes result (run (trees.operation (code_of left.now) operator (code_of right.now)) (Values.number number ∷ option_to_list around.now) f) }
 {
     let Some(first) = at_hand(left, around, number) else {
         return operation(left, operator, right, around, number);
@@ -127,7 +128,7 @@ fn at_once(
 // The number that code is where it is a place of a number or a number.
 #[inline(always)]
 fn at_hand(code: &Code, around: &Option<Value>, number: i64) -> Option<i64>
-    ensures { IfSome result (λ z. (f : AnswersByName) → worth_of (code_of code.now) (number_of number ∷ option_to_list around.now) f ≡ answer (number_of z)) }
+    ensures { IfSome result (λ z. (f : AnswersByName) → run (code_of code.now) (Values.number number ∷ option_to_list around.now) f ≡ answer (Values.number z)) }
 {
     match code {
         Code::Place(place) => number_at(place, around, number),
@@ -146,8 +147,8 @@ fn operation(
     around: &Option<Value>,
     number: i64,
 ) -> Result<i64, ValueFault>
-    requires { is_by_arithmetic (option_to_list around.now) (trees.operation (code_of left.now) operator (code_of right.now)) ≡ true }
-    ensures { (f : AnswersByName) → Computes result (worth_of (trees.operation (code_of left.now) operator (code_of right.now)) (number_of number ∷ option_to_list around.now) f) }
+    requires { arithmetics.is_arithmetic (option_to_list around.now) (trees.operation (code_of left.now) operator (code_of right.now)) ≡ true }
+    ensures { (f : AnswersByName) → Computes result (run (trees.operation (code_of left.now) operator (code_of right.now)) (Values.number number ∷ option_to_list around.now) f) }
 {
     let Operator::Arithmetic(operator) = operator else {
         unreachable!();

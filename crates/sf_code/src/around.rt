@@ -1,11 +1,11 @@
 //! The names around an expression: those that no pattern of its frames binds.
 ghost use Rattle.std.specs.Prelude.{◌≡◌, true, [], ◌∷◌, ◌++◌, IfOk, OnOk, is_some};
-ghost use Rattle.sf_expr.specs.Arena.{expression, name_at, placed_at};
+ghost use Rattle.sf_expr.specs.Arena.{expression, name_at, stored_pattern};
 ghost use Rattle.sf_expr.specs.Patterns.{pattern_of};
-ghost use Rattle.sf_code.specs.Compiling.{is_closed, named_each, path_in, place_in, BindAsMany};
-ghost use Rattle.sf_expr.specs.declared.exprs.Exprs.{Exprs as Arena};
-ghost use Rattle.sf_code.specs.PlaceView.{patterns_of, around_pattern};
-ghost use Rattle.sf_code.specs.Around.{names_at, pattern_around, patterns_around};
+ghost use Rattle.sf_code.specs.Compiling.{is_closed, named_each, path_of_name, place_of_name, BindAsMany};
+ghost use Rattle.sf_expr.specs.declared.exprs.Exprs as expression_arenas;
+ghost use Rattle.sf_code.specs.PlaceView.{frame_patterns, around_pattern};
+ghost use Rattle.sf_code.specs.Around.{names_by_id, pattern_around, patterns_around};
 
 use crate::pattern::FramePattern;
 use crate::place::Patterns;
@@ -71,8 +71,8 @@ pub(crate) fn names_around(
     id: ExprId,
     patterns: &Patterns,
 ) -> Result<Option<Box<Around>>, AllocError>
-    ensures closed { IfOk result (λ around. is_closed (patterns_of patterns.now ++ patterns_around exprs.now around) (expression exprs.now id) ≡ true) }
-    ensures fewest { is_closed (patterns_of patterns.now) (expression exprs.now id) ≡ true → IfOk result (λ around. around ≡ None) }
+    ensures closed { IfOk result (λ around. is_closed (frame_patterns patterns.now ++ patterns_around exprs.now around) (expression exprs.now id) ≡ true) }
+    ensures fewest { is_closed (frame_patterns patterns.now) (expression exprs.now id) ≡ true → IfOk result (λ around. around ≡ None) }
 {
     let mut names = Vec::new(alloc);
     gather(alloc, exprs, id, patterns, &mut names)?;
@@ -82,7 +82,7 @@ pub(crate) fn names_around(
 
 // Of names of the same text the first.
 fn each_once(alloc: Global, exprs: &Exprs, names: &[NameId]) -> Result<Vec<NameId>, AllocError>
-    ensures bound { IfOk result (λ own. BindAsMany (named_each (names_at exprs.now names.now)) (named_each (names_at exprs.now own.items))) }
+    ensures bound { IfOk result (λ own. BindAsMany (named_each (names_by_id exprs.now names.now)) (named_each (names_by_id exprs.now own.items))) }
     ensures fewest { names.now ≡ [] → IfOk result (λ own. own.items ≡ []) }
 {
     let mut seen = IndexSet::new(alloc);
@@ -98,7 +98,7 @@ fn each_once(alloc: Global, exprs: &Exprs, names: &[NameId]) -> Result<Vec<NameI
 
 // Names as names around code, if there are any.
 fn around_of(alloc: Global, names: &[NameId]) -> Result<Option<Box<Around>>, AllocError>
-    ensures bound { (x : Arena) → IfOk result (λ around. BindAsMany (named_each (names_at x names.now)) (patterns_around x around)) }
+    ensures bound { (x : expression_arenas.Exprs) → IfOk result (λ around. BindAsMany (named_each (names_by_id x names.now)) (patterns_around x around)) }
     ensures fewest { names.now ≡ [] → IfOk result (λ around. around ≡ None) }
 {
     if names.is_empty() {
@@ -110,7 +110,7 @@ fn around_of(alloc: Global, names: &[NameId]) -> Result<Option<Box<Around>>, All
 
 // The same of some, as low as can be.
 fn balanced(alloc: Global, names: &[NameId]) -> Result<Around, AllocError>
-    ensures { (x : Arena) → IfOk result (λ around. BindAsMany (named_each (names_at x names.now)) (pattern_around x around ∷ [])) }
+    ensures { (x : expression_arenas.Exprs) → IfOk result (λ around. BindAsMany (named_each (names_by_id x names.now)) (pattern_around x around ∷ [])) }
 {
     match names {
         [] => Ok(Around::Nothing),
@@ -133,9 +133,9 @@ fn gather(
     patterns: &Patterns,
     names: &mut Vec<NameId>,
 ) -> Result<(), AllocError>
-    ensures kept { OnOk result (BindAsMany (named_each (names_at exprs.now names.old.items)) (named_each (names_at exprs.now names.new.items))) }
-    ensures closed { OnOk result (is_closed (patterns_of patterns.now ++ named_each (names_at exprs.now names.new.items)) (expression exprs.now id) ≡ true) }
-    ensures fewest { OnOk result (is_closed (patterns_of patterns.now) (expression exprs.now id) ≡ true → names.new.items ≡ names.old.items) }
+    ensures kept { OnOk result (BindAsMany (named_each (names_by_id exprs.now names.old.items)) (named_each (names_by_id exprs.now names.new.items))) }
+    ensures closed { OnOk result (is_closed (frame_patterns patterns.now ++ named_each (names_by_id exprs.now names.new.items)) (expression exprs.now id) ≡ true) }
+    ensures fewest { OnOk result (is_closed (frame_patterns patterns.now) (expression exprs.now id) ≡ true → names.new.items ≡ names.old.items) }
 {
     match exprs.node(id) {
         ExprNode::Unit | ExprNode::Truth(_) | ExprNode::Int(_) | ExprNode::Constant(_) => Ok(()),
@@ -171,10 +171,10 @@ fn gather_both(
     patterns: &Patterns,
     names: &mut Vec<NameId>,
 ) -> Result<(), AllocError>
-    ensures kept { OnOk result (BindAsMany (named_each (names_at exprs.now names.old.items)) (named_each (names_at exprs.now names.new.items))) }
-    ensures first { OnOk result (is_closed (patterns_of patterns.now ++ named_each (names_at exprs.now names.new.items)) (expression exprs.now first) ≡ true) }
-    ensures second { OnOk result (is_closed (patterns_of patterns.now ++ named_each (names_at exprs.now names.new.items)) (expression exprs.now second) ≡ true) }
-    ensures fewest { OnOk result (is_closed (patterns_of patterns.now) (expression exprs.now first) ≡ true → is_closed (patterns_of patterns.now) (expression exprs.now second) ≡ true → names.new.items ≡ names.old.items) }
+    ensures kept { OnOk result (BindAsMany (named_each (names_by_id exprs.now names.old.items)) (named_each (names_by_id exprs.now names.new.items))) }
+    ensures first { OnOk result (is_closed (frame_patterns patterns.now ++ named_each (names_by_id exprs.now names.new.items)) (expression exprs.now first) ≡ true) }
+    ensures second { OnOk result (is_closed (frame_patterns patterns.now ++ named_each (names_by_id exprs.now names.new.items)) (expression exprs.now second) ≡ true) }
+    ensures fewest { OnOk result (is_closed (frame_patterns patterns.now) (expression exprs.now first) ≡ true → is_closed (frame_patterns patterns.now) (expression exprs.now second) ≡ true → names.new.items ≡ names.old.items) }
 {
     gather(alloc, exprs, first, patterns, names)?;
     gather(alloc, exprs, second, patterns, names)
@@ -190,9 +190,9 @@ fn gather_within(
     patterns: &Patterns,
     names: &mut Vec<NameId>,
 ) -> Result<(), AllocError>
-    ensures kept { OnOk result (BindAsMany (named_each (names_at exprs.now names.old.items)) (named_each (names_at exprs.now names.new.items))) }
-    ensures closed { OnOk result (is_closed (pattern_of (placed_at exprs.now pattern) ∷ (patterns_of patterns.now ++ named_each (names_at exprs.now names.new.items))) (expression exprs.now body) ≡ true) }
-    ensures fewest { OnOk result (is_closed (pattern_of (placed_at exprs.now pattern) ∷ patterns_of patterns.now) (expression exprs.now body) ≡ true → names.new.items ≡ names.old.items) }
+    ensures kept { OnOk result (BindAsMany (named_each (names_by_id exprs.now names.old.items)) (named_each (names_by_id exprs.now names.new.items))) }
+    ensures closed { OnOk result (is_closed (pattern_of (stored_pattern exprs.now pattern) ∷ (frame_patterns patterns.now ++ named_each (names_by_id exprs.now names.new.items))) (expression exprs.now body) ≡ true) }
+    ensures fewest { OnOk result (is_closed (pattern_of (stored_pattern exprs.now pattern) ∷ frame_patterns patterns.now) (expression exprs.now body) ≡ true → names.new.items ≡ names.old.items) }
 {
     let frame = FramePattern::new(alloc, (&*exprs).placed(pattern))?;
     let inner = (&*patterns).within(&frame);
@@ -206,9 +206,9 @@ fn note(
     patterns: &Patterns,
     names: &mut Vec<NameId>,
 ) -> Result<(), AllocError>
-    ensures kept { OnOk result (BindAsMany (named_each (names_at exprs.now names.old.items)) (named_each (names_at exprs.now names.new.items))) }
-    ensures bound { OnOk result (is_some (place_in (name_at exprs.now name) (patterns_of patterns.now ++ named_each (names_at exprs.now names.new.items))) ≡ true) }
-    ensures fewest { OnOk result (is_some (place_in (name_at exprs.now name) (patterns_of patterns.now)) ≡ true → names.new.items ≡ names.old.items) }
+    ensures kept { OnOk result (BindAsMany (named_each (names_by_id exprs.now names.old.items)) (named_each (names_by_id exprs.now names.new.items))) }
+    ensures bound { OnOk result (is_some (place_of_name (name_at exprs.now name) (frame_patterns patterns.now ++ named_each (names_by_id exprs.now names.new.items))) ≡ true) }
+    ensures fewest { OnOk result (is_some (place_of_name (name_at exprs.now name) (frame_patterns patterns.now)) ≡ true → names.new.items ≡ names.old.items) }
 {
     if !patterns.binds(exprs.name_of(name)) {
         names.push(name)?;

@@ -1,6 +1,6 @@
 //! The code of expressions.
 ghost use Rattle.std.specs.Prelude.{◌≡◌, true, ◌∷◌, IfOk, IfSome, is_some};
-ghost use Rattle.sf_expr.specs.Arena.{expression, placed_at, name_at};
+ghost use Rattle.sf_expr.specs.Arena.{expression, stored_pattern, name_at};
 ghost use Rattle.sf_expr.specs.Evaluation.{literal_value, nonsense};
 ghost use Rattle.sf_expr.specs.Patterns.{pattern_of};
 ghost use Rattle.sf_value.specs.Values.{number};
@@ -8,8 +8,8 @@ ghost use Rattle.sf_code.specs.Codes as trees;
 ghost use Rattle.sf_code.specs.CodeView.{code_of};
 ghost use Rattle.sf_code.specs.Nodes.{is_place, is_number, is_one_node};
 ghost use Rattle.sf_operator.specs.declared.operator.Arithmetic.{Arithmetic};
-ghost use Rattle.sf_code.specs.Compiling.{code_under, place_in, name_code as code_of_name};
-ghost use Rattle.sf_code.specs.PlaceView.{patterns_of};
+ghost use Rattle.sf_code.specs.Compiling.{closed_code, place_of_name, code_of_name};
+ghost use Rattle.sf_code.specs.PlaceView.{frame_patterns};
 
 use crate::code::Code;
 use crate::pattern::FramePattern;
@@ -27,7 +27,7 @@ pub(crate) fn compile(
     id: ExprId,
     patterns: &Patterns,
 ) -> Result<Code, AllocError>
-    ensures { IfOk result (λ code. code_of code ≡ code_under (patterns_of patterns.now) (expression exprs.now id)) }
+    ensures { IfOk result (λ code. code_of code ≡ closed_code (frame_patterns patterns.now) (expression exprs.now id)) }
 {
     match exprs.node(id) {
         ExprNode::Unit => Ok(Code::Constant(Value::unit())),
@@ -63,7 +63,7 @@ fn boxed(
     id: ExprId,
     patterns: &Patterns,
 ) -> Result<Box<Code>, AllocError>
-    ensures { IfOk result (λ code. code_of code.value ≡ code_under (patterns_of patterns.now) (expression exprs.now id)) }
+    ensures { IfOk result (λ code. code_of code.value ≡ closed_code (frame_patterns patterns.now) (expression exprs.now id)) }
 {
     let code = compile(alloc, exprs, id, patterns)?;
     Ok(Box::new(alloc, code)?)
@@ -78,8 +78,8 @@ fn both(
     second: ExprId,
     patterns: &Patterns,
 ) -> Result<(Box<Code>, Box<Code>), AllocError>
-    ensures first { IfOk result (λ pair. code_of pair.0.value ≡ code_under (patterns_of patterns.now) (expression exprs.now first)) }
-    ensures second { IfOk result (λ pair. code_of pair.1.value ≡ code_under (patterns_of patterns.now) (expression exprs.now second)) }
+    ensures first { IfOk result (λ pair. code_of pair.0.value ≡ closed_code (frame_patterns patterns.now) (expression exprs.now first)) }
+    ensures second { IfOk result (λ pair. code_of pair.1.value ≡ closed_code (frame_patterns patterns.now) (expression exprs.now second)) }
 {
     let first = boxed(alloc, exprs, first, patterns)?;
     let second = boxed(alloc, exprs, second, patterns)?;
@@ -95,7 +95,7 @@ fn within(
     body: ExprId,
     patterns: &Patterns,
 ) -> Result<Box<Code>, AllocError>
-    ensures { IfOk result (λ code. code_of code.value ≡ code_under (pattern_of (placed_at exprs.now pattern) ∷ patterns_of patterns.now) (expression exprs.now body)) }
+    ensures { IfOk result (λ code. code_of code.value ≡ closed_code (pattern_of (stored_pattern exprs.now pattern) ∷ frame_patterns patterns.now) (expression exprs.now body)) }
 {
     let frame = FramePattern::new(alloc, (&*exprs).placed(pattern))?;
     let inner = (&*patterns).within(&frame);
@@ -112,8 +112,8 @@ fn operation(
     right: ExprId,
     patterns: &Patterns,
 ) -> Result<Code, AllocError>
-    ensures { let ps = patterns_of patterns.now in
-        IfOk result (λ code. code_of code ≡ trees.operation (code_under ps (expression exprs.now left)) operator (code_under ps (expression exprs.now right))) }
+    ensures { let ps = frame_patterns patterns.now in
+        IfOk result (λ code. code_of code ≡ trees.operation (closed_code ps (expression exprs.now left)) operator (closed_code ps (expression exprs.now right))) }
 {
     let left = compile(alloc, exprs, left, patterns)?;
     let right = compile(alloc, exprs, right, patterns)?;
@@ -176,8 +176,8 @@ fn conditional(
     second: ExprId,
     patterns: &Patterns,
 ) -> Result<Code, AllocError>
-    ensures { let ps = patterns_of patterns.now in
-        IfOk result (λ code. code_of code ≡ trees.conditional (code_under ps (expression exprs.now condition)) (code_under ps (expression exprs.now first)) (code_under ps (expression exprs.now second))) }
+    ensures { let ps = frame_patterns patterns.now in
+        IfOk result (λ code. code_of code ≡ trees.conditional (closed_code ps (expression exprs.now condition)) (closed_code ps (expression exprs.now first)) (closed_code ps (expression exprs.now second))) }
 {
     let condition = boxed(alloc, exprs, condition, patterns)?;
     let (first, second) = both(alloc, exprs, first, second, patterns)?;
@@ -192,9 +192,9 @@ fn mapped(
     node: Mapped,
     patterns: &Patterns,
 ) -> Result<Code, AllocError>
-    ensures { let ps = patterns_of patterns.now in
-        let p = pattern_of (placed_at exprs.now node.pattern) in
-        IfOk result (λ code. code_of code ≡ trees.mapped (code_under ps (expression exprs.now node.part)) node.mapping (code_under (p ∷ ps) (expression exprs.now node.body))) }
+    ensures { let ps = frame_patterns patterns.now in
+        let p = pattern_of (stored_pattern exprs.now node.pattern) in
+        IfOk result (λ code. code_of code ≡ trees.mapped (closed_code ps (expression exprs.now node.part)) node.mapping (closed_code (p ∷ ps) (expression exprs.now node.body))) }
 {
     let part = boxed(alloc, exprs, node.part, patterns)?;
     let body = within(alloc, exprs, node.pattern, node.body, patterns)?;
@@ -209,9 +209,9 @@ fn folded(
     node: Folded,
     patterns: &Patterns,
 ) -> Result<Code, AllocError>
-    ensures { let ps = patterns_of patterns.now in
-        let p = pattern_of (placed_at exprs.now node.pattern) in
-        IfOk result (λ code. code_of code ≡ trees.folded (code_under ps (expression exprs.now node.first)) node.folding (code_under ps (expression exprs.now node.second)) (code_under (p ∷ ps) (expression exprs.now node.body))) }
+    ensures { let ps = frame_patterns patterns.now in
+        let p = pattern_of (stored_pattern exprs.now node.pattern) in
+        IfOk result (λ code. code_of code ≡ trees.folded (closed_code ps (expression exprs.now node.first)) node.folding (closed_code ps (expression exprs.now node.second)) (closed_code (p ∷ ps) (expression exprs.now node.body))) }
 {
     let (first, second) = both(alloc, exprs, node.first, node.second, patterns)?;
     let body = within(alloc, exprs, node.pattern, node.body, patterns)?;
@@ -227,7 +227,7 @@ fn called(
     part: ExprId,
     patterns: &Patterns,
 ) -> Result<Code, AllocError>
-    ensures { IfOk result (λ code. code_of code ≡ trees.called (name_at exprs.now function) (code_under (patterns_of patterns.now) (expression exprs.now part))) }
+    ensures { IfOk result (λ code. code_of code ≡ trees.called (name_at exprs.now function) (closed_code (frame_patterns patterns.now) (expression exprs.now part))) }
 {
     let part = boxed(alloc, exprs, part, patterns)?;
     let function = String::from_str(alloc, exprs.name_of(function))?;
@@ -244,7 +244,7 @@ fn constant_code(alloc: Global, constant: &Constant) -> Result<Code, AllocError>
 
 /// The code of a name: its place, or the number 0 where it has none.
 fn name_code(alloc: Global, name: &str, patterns: &Patterns) -> Result<Code, AllocError>
-    ensures { IfOk result (λ code. code_of code ≡ code_of_name nonsense (place_in name.now (patterns_of patterns.now))) }
+    ensures { IfOk result (λ code. code_of code ≡ code_of_name nonsense (place_of_name name.now (frame_patterns patterns.now))) }
 {
     match patterns.place(alloc, name)? {
         Some(place) => Ok(Code::Place(place)),

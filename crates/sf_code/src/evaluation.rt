@@ -3,9 +3,10 @@ ghost use Rattle.std.specs.Prelude.{IfOk};
 ghost use Rattle.sf_value.specs.Values.{Kind, HasKind};
 ghost use Rattle.sf_expr.specs.Arena.{expression};
 ghost use Rattle.sf_expr.specs.Expressions.{Expression};
-ghost use Rattle.sf_expr.specs.Evaluation.{eval as worth};
+ghost use Rattle.sf_expr.specs.Evaluation;
 ghost use Rattle.sf_expr.specs.Soundness.{ScopeHas};
-ghost use Rattle.sf_expr.specs.Typing.{Names as NamesWithTypes, HasType};
+ghost use Rattle.sf_expr.specs.Typing.{HasType};
+ghost use Rattle.sf_expr.specs.Typing;
 ghost use Rattle.sf_operator.specs.Answers.{Evaluates};
 ghost use Rattle.sf_code.specs.Names.{scope_with};
 ghost use Rattle.sf_code.specs.Worth.{IsCodeOf};
@@ -30,8 +31,8 @@ pub fn eval<N: Names, F: Holds>(
     names: &N,
     functions: &F,
 ) -> Result<Value, EvalFault>
-    ensures worth { Evaluates result (worth (expression (N.expressions names.now) id) (scope_with (N.values names.now) (F.answers functions.now))) }
-    ensures typed { (R : NamesWithTypes) (t : Kind) → HasType R (expression (N.expressions names.now) id) t → ScopeHas (scope_with (N.values names.now) (F.answers functions.now)) R →
+    ensures worth { Evaluates result (Evaluation.eval (expression (N.expressions names.now) id) (scope_with (N.values names.now) (F.answers functions.now))) }
+    ensures typed { (R : Typing.Names) (t : Kind) → HasType R (expression (N.expressions names.now) id) t → ScopeHas (scope_with (N.values names.now) (F.answers functions.now)) R →
         IfOk result (λ v. HasKind v t) }
 {
     let code = expression_code(alloc, names.expressions(), id)?;
@@ -45,7 +46,7 @@ pub fn evaluate_among<N: Names, F: Holds>(
     names: &N,
     functions: &F,
 ) -> Result<Value, EvalFault>
-    ensures { (e : Expression) → IsCodeOf (N.expressions names.now) e code.now → Evaluates result (worth e (scope_with (N.values names.now) (F.answers functions.now))) }
+    ensures { (e : Expression) → IsCodeOf (N.expressions names.now) e code.now → Evaluates result (Evaluation.eval e (scope_with (N.values names.now) (F.answers functions.now))) }
 {
     let around = code.frame(alloc, names)?;
     evaluate(alloc, &code.code, &around, functions)

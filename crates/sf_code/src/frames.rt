@@ -1,6 +1,6 @@
 //! The values of frames.
 ghost use Rattle.std.specs.Prelude.{◌≡◌, ◌∷◌, IfOk, option_to_list};
-ghost use Rattle.sf_operator.specs.Operations.{number_in as a_number_in};
+ghost use Rattle.sf_operator.specs.Operations.{number_held};
 ghost use Rattle.sf_code.specs.Places.{half_of, part_at, value_in_frames};
 ghost use Rattle.sf_code.specs.PlaceView.{path_of, place_of};
 ghost use Rattle.sf_code.specs.FrameView.{frames_of, found_value};
@@ -43,7 +43,7 @@ impl<'a> Found<'a> {
 
     /// The number that was found, if it is one; the number 0 where there is nothing.
     pub(crate) fn number(self) -> Option<i64>
-        ensures { result ≡ a_number_in (found_value self.entry) }
+        ensures { result ≡ number_held (found_value self.entry) }
     {
         match self {
             Found::Nothing => Some(0),

@@ -3,13 +3,14 @@ ghost use Rattle.std.specs.Prelude.{◌≡◌, true, [], ◌∷◌, IfOk, option
 ghost use Rattle.sf_expr.specs.Arena.{expression, function_at};
 ghost use Rattle.sf_expr.specs.Expressions.{Expression, Function};
 ghost use Rattle.sf_expr.specs.Patterns.{pattern_of};
-ghost use Rattle.sf_expr.specs.Evaluation.{Scope, functions_in, eval, apply as applied};
+ghost use Rattle.sf_expr.specs.Evaluation.{Scope, scope_functions, eval};
+ghost use Rattle.sf_expr.specs.Evaluation;
 ghost use Rattle.sf_operator.specs.Answers.{Evaluates, EvaluatesAs};
 ghost use Rattle.sf_code.specs.CodeView.{code_of};
-ghost use Rattle.sf_code.specs.Compiling.{code_under, is_closed, is_closed_function};
+ghost use Rattle.sf_code.specs.Compiling.{closed_code, is_closed, is_closed_function};
 ghost use Rattle.sf_code.specs.Around.{patterns_around};
-ghost use Rattle.sf_code.specs.Running.{run as worth_of};
-ghost use Rattle.sf_code.specs.Worth.{IsCodeOf, IsCodeOfFunction, IsCodeOfIn, IsCodeOfFunctionIn};
+ghost use Rattle.sf_code.specs.Running;
+ghost use Rattle.sf_code.specs.Worth.{IsCodeOf, IsCodeOfFunction, IsCodeOfIn, AnswersAsFunction};
 
 use crate::around::{Around, names_around, pattern_of_around};
 use crate::code::Code;
@@ -57,7 +58,7 @@ fn code_over(
     id: ExprId,
     around: &Option<Box<Around>>,
 ) -> Result<Code, AllocError>
-    ensures { IfOk result (λ code. code_of code ≡ code_under (patterns_around exprs.now around.now) (expression exprs.now id)) }
+    ensures { IfOk result (λ code. code_of code ≡ closed_code (patterns_around exprs.now around.now) (expression exprs.now id)) }
 {
     let pattern = pattern_of_around(alloc, exprs, around)?;
     let outside = FramePattern::around(alloc, &pattern)?;
@@ -72,7 +73,7 @@ fn code_within(
     body: ExprId,
     around: &Option<Box<Around>>,
 ) -> Result<Code, AllocError>
-    ensures { IfOk result (λ code. code_of code ≡ code_under (pattern_of frame.now.pattern.now ∷ patterns_around exprs.now around.now) (expression exprs.now body)) }
+    ensures { IfOk result (λ code. code_of code ≡ closed_code (pattern_of frame.now.pattern.now ∷ patterns_around exprs.now around.now) (expression exprs.now body)) }
 {
     let pattern = pattern_of_around(alloc, exprs, around)?;
     let outside = FramePattern::around(alloc, &pattern)?;
@@ -88,7 +89,7 @@ pub fn evaluate<F: Holds>(
     around: &Option<Value>,
     functions: &F,
 ) -> Result<Value, EvalFault>
-    ensures { (s : Scope) → functions_in s ≡ F.answers functions.now → (e : Expression) → IsCodeOfIn s e (option_to_list around.now) code.now → Evaluates result (eval e s) }
+    ensures { (s : Scope) → scope_functions s ≡ F.answers functions.now → (e : Expression) → IsCodeOfIn s e (option_to_list around.now) code.now → Evaluates result (eval e s) }
 {
     run(alloc, code, &Frames::around(around), functions)
 }
@@ -102,7 +103,7 @@ pub fn apply<F: Holds>(
     value: &Value,
     functions: &F,
 ) -> Result<Value, EvalFault>
-    ensures { (s : Scope) → functions_in s ≡ F.answers functions.now → (g : Function) → IsCodeOfFunctionIn s g (option_to_list around.now) code.now → Evaluates result (applied g value.now s) }
+    ensures { (s : Scope) → scope_functions s ≡ F.answers functions.now → (g : Function) → AnswersAsFunction s g (option_to_list around.now) code.now → Evaluates result (Evaluation.apply g value.now s) }
 {
     run_over(alloc, code, around, value, functions)
 }
@@ -117,7 +118,7 @@ pub fn apply_in_place<F: Holds>(
     functions: &F,
     value: &mut Value,
 ) -> Result<(), EvalFault>
-    ensures { EvaluatesAs (λ u. value.new) result (worth_of (code_of code.now) (value.old ∷ option_to_list around.now) (F.answers functions.now)) }
+    ensures { EvaluatesAs (λ u. value.new) result (Running.run (code_of code.now) (value.old ∷ option_to_list around.now) (F.answers functions.now)) }
 {
     if let Some((first, second)) = paired_halves(code) {
         let input = mem::replace(value, Value::int(0));
@@ -137,7 +138,7 @@ fn run_over<F: Holds>(
     value: &Value,
     functions: &F,
 ) -> Result<Value, EvalFault>
-    ensures { Evaluates result (worth_of (code_of code.now) (value.now ∷ option_to_list around.now) (F.answers functions.now)) }
+    ensures { Evaluates result (Running.run (code_of code.now) (value.now ∷ option_to_list around.now) (F.answers functions.now)) }
 {
     let outside = Frames::around(around);
     let frames = outside.within(value);

@@ -1,6 +1,6 @@
 //! Values under names.
 ghost use Rattle.std.specs.Prelude.{◌≡◌, option_map};
-ghost use Rattle.sf_expr.specs.declared.exprs.Exprs.{Exprs as Arena};
+ghost use Rattle.sf_expr.specs.declared.exprs.Exprs as expression_arenas;
 ghost use Rattle.sf_expr.specs.Arena.{name_at};
 ghost use Rattle.sf_code.specs.Names.{ValuesByName, value_named};
 
@@ -13,7 +13,7 @@ pub trait Names {
     ghost values: { Self → ValuesByName };
 
     // where the ids of names stand
-    ghost expressions: { Self → Arena };
+    ghost expressions: { Self → expression_arenas.Exprs };
 
     /// The expressions among which ids of names stand.
     fn expressions(&self) -> &Exprs

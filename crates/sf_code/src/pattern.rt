@@ -4,8 +4,8 @@ ghost use Rattle.std.specs.BTreeMap.{get_by_text};
 ghost use Rattle.std.specs.Option.{ForSome};
 ghost use Rattle.sf_value.specs.Values.{Name};
 ghost use Rattle.sf_expr.specs.Patterns.{pattern_of};
-ghost use Rattle.sf_code.specs.Compiling.{path_in as path_of_name};
-ghost use Rattle.sf_code.specs.Indexes.{IsIndexOf};
+ghost use Rattle.sf_code.specs.Compiling.{path_of_name};
+ghost use Rattle.sf_code.specs.Indexes.{IndexesPattern};
 
 use sf_expr::{Pat, PatForm};
 use std::alloc::{AllocError, Global};
@@ -22,7 +22,7 @@ pub(crate) struct FramePattern<'a> {
     // Its names, where it has many parts: most names are looked for in patterns that don't bind them.
     index: Option<BTreeMap<String, ()>>,
     // (they are its names)
-    ghost indexed: { ForSome index (λ names. IsIndexOf (pattern_of pattern.now) names) },
+    ghost indexed: { ForSome index (λ names. IndexesPattern (pattern_of pattern.now) names) },
 }
 
 impl<'a> FramePattern<'a> {

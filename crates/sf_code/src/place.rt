@@ -1,8 +1,8 @@
 //! Places of names, and how they are found.
 ghost use Rattle.std.specs.Prelude.{◌≡◌, ◌∷◌, IfOk, is_some, option_map};
 ghost use Rattle.sf_expr.specs.Patterns.{pattern_of};
-ghost use Rattle.sf_code.specs.Compiling.{path_in as path_of_name, place_in as place_of_name};
-ghost use Rattle.sf_code.specs.PlaceView.{path_of, place_of, patterns_of, around_pattern, around_frame};
+ghost use Rattle.sf_code.specs.Compiling.{path_of_name, place_of_name};
+ghost use Rattle.sf_code.specs.PlaceView.{path_of, place_of, frame_patterns, around_pattern, around_frame};
 
 use crate::pattern::FramePattern;
 use sf_expr::{Pat, PatForm};
@@ -49,7 +49,7 @@ pub(crate) enum Patterns<'a> {
 impl<'a> Patterns<'a> {
     /// One frame, if there is a pattern.
     pub(crate) fn around(pattern: &'a Option<FramePattern<'a>>) -> Patterns<'a>
-        ensures { patterns_of result ≡ around_frame pattern.now }
+        ensures { frame_patterns result ≡ around_frame pattern.now }
     {
         match pattern {
             Some(pattern) => Patterns::Only(pattern),
@@ -59,14 +59,14 @@ impl<'a> Patterns<'a> {
 
     /// These patterns, and inside them that of one frame more.
     pub(crate) fn within<'b>(&'b self, pattern: &'b FramePattern<'b>) -> Patterns<'b>
-        ensures { patterns_of result ≡ pattern_of pattern.now.pattern.now ∷ patterns_of self.now }
+        ensures { frame_patterns result ≡ pattern_of pattern.now.pattern.now ∷ frame_patterns self.now }
     {
         Patterns::Within(pattern, self)
     }
 
     /// The place of a name among the frames of these patterns; none where it is not bound.
     pub(crate) fn place(&self, alloc: Global, name: &str) -> Result<Option<Place>, AllocError>
-        ensures { IfOk result (λ place. option_map place_of place ≡ place_of_name name.now (patterns_of self.now)) }
+        ensures { IfOk result (λ place. option_map place_of place ≡ place_of_name name.now (frame_patterns self.now)) }
     {
         match self {
             Patterns::Empty => Ok(None),
@@ -86,7 +86,7 @@ impl<'a> Patterns<'a> {
 
     /// Whether one of these patterns binds a name.
     pub(crate) fn binds(&self, name: &str) -> bool
-        ensures { result ≡ is_some (place_of_name name.now (patterns_of self.now)) }
+        ensures { result ≡ is_some (place_of_name name.now (frame_patterns self.now)) }
     {
         match self {
             Patterns::Empty => false,

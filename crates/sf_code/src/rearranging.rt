@@ -1,7 +1,9 @@
 //! Pairs whose halves change places.
 ghost use Rattle.std.specs.Prelude.{◌≡◌, [], ◌∷◌, IfOk, IfSome, OnOk};
-ghost use Rattle.sf_value.specs.Values.{Data, pair as pair_data};
-ghost use Rattle.sf_code.specs.Codes.{paired, place as code_at};
+ghost use Rattle.sf_value.specs.Values.{Data};
+ghost use Rattle.sf_value.specs.Values;
+ghost use Rattle.sf_code.specs.Codes.{paired};
+ghost use Rattle.sf_code.specs.Codes;
 ghost use Rattle.sf_code.specs.CodeView.{code_of};
 ghost use Rattle.sf_code.specs.Places.{at_frame, half_of};
 ghost use Rattle.sf_code.specs.PlaceView.{path_of, place_of};
@@ -16,7 +18,7 @@ use std::rc::Rc;
 /// The two halves of the argument of which code makes a pair, if it does that and no more.
 #[inline(always)]
 pub(crate) fn paired_halves(code: &Code) -> Option<(Half, Half)>
-    ensures { IfSome result (λ hs. code_of code.now ≡ paired (code_at (at_frame 0 (hs.0 ∷ []))) (code_at (at_frame 0 (hs.1 ∷ [])))) }
+    ensures { IfSome result (λ hs. code_of code.now ≡ paired (Codes.place (at_frame 0 (hs.0 ∷ []))) (Codes.place (at_frame 0 (hs.1 ∷ [])))) }
 {
     let Code::Pair(first, second) = code else {
         return None;
@@ -29,7 +31,7 @@ pub(crate) fn paired_halves(code: &Code) -> Option<(Half, Half)>
 // The half of the argument that code is.
 #[inline(always)]
 fn coded_half(code: &Code) -> Option<Half>
-    ensures { IfSome result (λ h. code_of code.now ≡ code_at (at_frame 0 (h ∷ []))) }
+    ensures { IfSome result (λ h. code_of code.now ≡ Codes.place (at_frame 0 (h ∷ []))) }
 {
     match code {
         Code::Place(place) => placed_half(place),
@@ -70,7 +72,7 @@ pub(crate) fn rearranged(
     first: Half,
     second: Half,
 ) -> Result<Value, AllocError>
-    ensures { IfOk result (λ v. v ≡ pair_data (half_of first value) (half_of second value)) }
+    ensures { IfOk result (λ v. v ≡ Values.pair (half_of first value) (half_of second value)) }
 {
     let mut node = value.into_pair(alloc)?;
     if let Some(own) = Rc::get_mut(&mut node) {
@@ -83,7 +85,7 @@ pub(crate) fn rearranged(
 // The pair of copies of two halves.
 #[inline(never)]
 fn copied(alloc: Global, halves: &Pair, first: Half, second: Half) -> Result<Value, AllocError>
-    ensures { IfOk result (λ v. v ≡ pair_data (half_of first (pair_data halves.now.first halves.now.second)) (half_of second (pair_data halves.now.first halves.now.second))) }
+    ensures { IfOk result (λ v. v ≡ Values.pair (half_of first (Values.pair halves.now.first halves.now.second)) (half_of second (Values.pair halves.now.first halves.now.second))) }
 {
     let first = copied_half(alloc, halves, first)?;
     let second = copied_half(alloc, halves, second)?;
@@ -93,8 +95,8 @@ fn copied(alloc: Global, halves: &Pair, first: Half, second: Half) -> Result<Val
 // Puts two of the halves in the places of both.
 #[inline(always)]
 fn rearrange(alloc: Global, halves: &mut Pair, first: Half, second: Half) -> Result<(), AllocError>
-    ensures first { OnOk result (halves.new.first ≡ half_of first (pair_data halves.old.first halves.old.second)) }
-    ensures second { OnOk result (halves.new.second ≡ half_of second (pair_data halves.old.first halves.old.second)) }
+    ensures first { OnOk result (halves.new.first ≡ half_of first (Values.pair halves.old.first halves.old.second)) }
+    ensures second { OnOk result (halves.new.second ≡ half_of second (Values.pair halves.old.first halves.old.second)) }
 {
     match (first, second) {
         (Half::First, Half::Second) => {}
@@ -108,7 +110,7 @@ fn rearrange(alloc: Global, halves: &mut Pair, first: Half, second: Half) -> Res
 // A copy of a half, which shares what it is made of.
 #[inline(always)]
 fn copied_half(alloc: Global, halves: &Pair, half: Half) -> Result<Value, AllocError>
-    ensures { IfOk result (λ v. v ≡ half_of half (pair_data halves.now.first halves.now.second)) }
+    ensures { IfOk result (λ v. v ≡ half_of half (Values.pair halves.now.first halves.now.second)) }
 {
     match half {
         Half::First => halves.first.clone_in(alloc),

@@ -1,22 +1,25 @@
 //! What code is worth.
 ghost use Rattle.std.specs.Prelude.{◌≡◌, ◌∷◌, IfOk, Option, cond, map};
 ghost use Rattle.sf_code.specs.Codes as trees;
-ghost use Rattle.sf_code.specs.Running.{run as worth_of};
+ghost use Rattle.sf_code.specs.Running;
 ghost use Rattle.sf_code.specs.CodeView.{code_of};
 ghost use Rattle.sf_code.specs.FrameView.{frames_of};
 ghost use Rattle.sf_operator.specs.Answers.{Evaluates, EvaluatesAs};
 ghost use Rattle.sf_operator.specs.declared.operator.Folding.TheVariants as foldings;
 ghost use Rattle.sf_operator.specs.declared.operator.Operator.TheVariants as operators;
-ghost use Rattle.sf_value.specs.Values.{Data, number as number_of, pair as pair_data, event as event_data, no_event};
+ghost use Rattle.sf_value.specs.Values.{Data, no_event};
+ghost use Rattle.sf_value.specs.Values;
 ghost use Rattle.sf_operator.specs.declared.operator.Unary.TheVariants as unaries;
 ghost use Rattle.std.specs.Ordering.{int_cmp};
-ghost use Rattle.sf_operator.specs.Operations.{truth_in, of_comparison, operated as operated_value, unary_value};
+ghost use Rattle.sf_operator.specs.Operations.{truth_held, of_comparison, unary_value};
+ghost use Rattle.sf_operator.specs.Operations;
 ghost use Rattle.sf_code.specs.FrameView.{found_value};
 ghost use Rattle.sf_expr.specs.Evaluation.{granted};
 ghost use Rattle.sf_func.specs.Meaning.{Applied};
 ghost use Rattle.sf_code.specs.Numbers.{AnswersNumber, AnswersTruth};
-ghost use Rattle.sf_value.specs.View.{key_of, rows_under};
-ghost use Rattle.sf_operator.specs.Outcomes.{Evaluated, answer as worth_as, ◌>>=◌ as followed, known};
+ghost use Rattle.sf_value.specs.View.{key_of, keyed_rows};
+ghost use Rattle.sf_operator.specs.Outcomes.{Evaluated, ◌>>=◌ as followed, known};
+ghost use Rattle.sf_operator.specs.Outcomes;
 ghost use Rattle.sf_operator.specs.FunctionForms.{mapped_value, folded_value, folded_rows};
 ghost use Rattle.sf_operator.specs.declared.operator.Mapping.TheVariants as mappings;
 
@@ -40,7 +43,7 @@ pub(crate) fn run<F: Holds>(
     frames: &Frames,
     functions: &F,
 ) -> Result<Value, EvalFault>
-    ensures { Evaluates result (worth_of (code_of code.now) (frames_of frames.now) (F.answers functions.now)) }
+    ensures { Evaluates result (Running.run (code_of code.now) (frames_of frames.now) (F.answers functions.now)) }
 {
     match code {
         Code::Constant(value) => copied(alloc, value),
@@ -82,7 +85,7 @@ pub(crate) fn run<F: Holds>(
 /// What was found.
 #[inline(always)]
 fn found(alloc: Global, found: Found) -> Result<Value, EvalFault>
-    ensures { Evaluates result (worth_as (found_value found.entry)) }
+    ensures { Evaluates result (Outcomes.answer (found_value found.entry)) }
 {
     Ok(found.value(alloc)?)
 }
@@ -90,7 +93,7 @@ fn found(alloc: Global, found: Found) -> Result<Value, EvalFault>
 /// A number as a value, or the fault in its place.
 #[inline(always)]
 fn computed(number: Result<i64, EvalFault>) -> Result<Value, EvalFault>
-    ensures { (worth : Evaluated Data) → EvaluatesAs (λ n. number_of n) number worth → Evaluates result worth }
+    ensures { (worth : Evaluated Data) → EvaluatesAs (λ n. Values.number n) number worth → Evaluates result worth }
 {
     Ok(Value::int(number?))
 }
@@ -105,7 +108,7 @@ fn pair<F: Holds>(
     frames: &Frames,
     functions: &F,
 ) -> Result<Value, EvalFault>
-    ensures { Evaluates result (worth_of (trees.paired (code_of first.now) (code_of second.now)) (frames_of frames.now) (F.answers functions.now)) }
+    ensures { Evaluates result (Running.run (trees.paired (code_of first.now) (code_of second.now)) (frames_of frames.now) (F.answers functions.now)) }
 {
     let first = run(alloc, first, frames, functions)?;
     let second = run(alloc, second, frames, functions);
@@ -115,7 +118,7 @@ fn pair<F: Holds>(
 /// The pair of two values, or the fault in place of the second.
 #[inline(always)]
 fn paired(alloc: Global, first: Value, second: Result<Value, EvalFault>) -> Result<Value, EvalFault>
-    ensures { (worth : Evaluated Data) → Evaluates second worth → Evaluates result (followed worth (λ b. worth_as (pair_data first b))) }
+    ensures { (worth : Evaluated Data) → Evaluates second worth → Evaluates result (followed worth (λ b. Outcomes.answer (Values.pair first b))) }
 {
     Ok(Value::pair(alloc, first, second?)?)
 }
@@ -130,7 +133,7 @@ fn applied<F: Holds>(
     frames: &Frames,
     functions: &F,
 ) -> Result<Value, EvalFault>
-    ensures { Evaluates result (worth_of (trees.applied operator (code_of part.now)) (frames_of frames.now) (F.answers functions.now)) }
+    ensures { Evaluates result (Running.run (trees.applied operator (code_of part.now)) (frames_of frames.now) (F.answers functions.now)) }
 {
     let part = run(alloc, part, frames, functions)?;
     operate_on(alloc, operator, &part)
@@ -147,7 +150,7 @@ fn operation<F: Holds>(
     frames: &Frames,
     functions: &F,
 ) -> Result<Value, EvalFault>
-    ensures { Evaluates result (worth_of (trees.operation (code_of left.now) operator (code_of right.now)) (frames_of frames.now) (F.answers functions.now)) }
+    ensures { Evaluates result (Running.run (trees.operation (code_of left.now) operator (code_of right.now)) (frames_of frames.now) (F.answers functions.now)) }
 {
     let left = run(alloc, left, frames, functions)?;
     match decide(operator, &left) {
@@ -167,7 +170,7 @@ fn operated(
     left: Value,
     right: Result<Value, EvalFault>,
 ) -> Result<Value, EvalFault>
-    ensures { (worth : Evaluated Data) → Evaluates right worth → Evaluates result (followed worth (operated_value operator left)) }
+    ensures { (worth : Evaluated Data) → Evaluates right worth → Evaluates result (followed worth (Operations.operated operator left)) }
 {
     operate(alloc, operator, &left, &right?)
 }
@@ -183,7 +186,7 @@ fn arithmetic<F: Holds>(
     frames: &Frames,
     functions: &F,
 ) -> Result<i64, EvalFault>
-    ensures { EvaluatesAs (λ n. number_of n) result (worth_of (trees.operation (code_of left.now) (operators.Arithmetic operator) (code_of right.now)) (frames_of frames.now) (F.answers functions.now)) }
+    ensures { EvaluatesAs (λ n. Values.number n) result (Running.run (trees.operation (code_of left.now) (operators.Arithmetic operator) (code_of right.now)) (frames_of frames.now) (F.answers functions.now)) }
 {
     let left = number(alloc, left, frames, functions)?;
     let right = number(alloc, right, frames, functions)?;
@@ -199,7 +202,7 @@ fn arithmetic<F: Holds>(
 /// The number that arithmetic makes of what was found and a number, or its fault: the number 0 of what is no number.
 #[inline(always)]
 fn with_number(operator: Arithmetic, found: Found, number: i64) -> Result<i64, EvalFault>
-    ensures { EvaluatesAs (λ n. number_of n) result (operated_value (operators.Arithmetic operator) (found_value found.entry) (number_of number)) }
+    ensures { EvaluatesAs (λ n. Values.number n) result (Operations.operated (operators.Arithmetic operator) (found_value found.entry) (Values.number number)) }
 {
     match found.number() {
         Some(own) => Ok(calculate(operator, own, number)?),
@@ -210,7 +213,7 @@ fn with_number(operator: Arithmetic, found: Found, number: i64) -> Result<i64, E
 /// The number that arithmetic makes of a number and what was found, or its fault: the number 0 of what is no number.
 #[inline(always)]
 fn number_with(operator: Arithmetic, number: i64, found: Found) -> Result<i64, EvalFault>
-    ensures { EvaluatesAs (λ n. number_of n) result (operated_value (operators.Arithmetic operator) (number_of number) (found_value found.entry)) }
+    ensures { EvaluatesAs (λ n. Values.number n) result (Operations.operated (operators.Arithmetic operator) (Values.number number) (found_value found.entry)) }
 {
     match found.number() {
         Some(own) => Ok(calculate(operator, number, own)?),
@@ -228,7 +231,7 @@ fn number<F: Holds>(
     frames: &Frames,
     functions: &F,
 ) -> Result<Option<i64>, EvalFault>
-    ensures { AnswersNumber result (worth_of (code_of code.now) (frames_of frames.now) (F.answers functions.now)) }
+    ensures { AnswersNumber result (Running.run (code_of code.now) (frames_of frames.now) (F.answers functions.now)) }
 {
     match code {
         Code::Constant(value) => Ok(number_in(value)),
@@ -252,7 +255,7 @@ fn number_run<F: Holds>(
     frames: &Frames,
     functions: &F,
 ) -> Result<Option<i64>, EvalFault>
-    ensures { AnswersNumber result (worth_of (code_of code.now) (frames_of frames.now) (F.answers functions.now)) }
+    ensures { AnswersNumber result (Running.run (code_of code.now) (frames_of frames.now) (F.answers functions.now)) }
 {
     match code {
         Code::Operation(left, Operator::Arithmetic(operator), right) => {
@@ -274,7 +277,7 @@ fn numeric(value: Result<Value, EvalFault>) -> Result<Option<i64>, EvalFault>
 /// A number that is always there, or the fault in its place.
 #[inline(always)]
 fn counted(number: Result<i64, EvalFault>) -> Result<Option<i64>, EvalFault>
-    ensures { (worth : Evaluated Data) → EvaluatesAs (λ n. number_of n) number worth → AnswersNumber result worth }
+    ensures { (worth : Evaluated Data) → EvaluatesAs (λ n. Values.number n) number worth → AnswersNumber result worth }
 {
     Ok(Some(number?))
 }
@@ -287,7 +290,7 @@ fn truth<F: Holds>(
     frames: &Frames,
     functions: &F,
 ) -> Result<Option<bool>, EvalFault>
-    ensures { AnswersTruth result (worth_of (code_of code.now) (frames_of frames.now) (F.answers functions.now)) }
+    ensures { AnswersTruth result (Running.run (code_of code.now) (frames_of frames.now) (F.answers functions.now)) }
 {
     match code {
         Code::Constant(value) => Ok(is_true(value)),
@@ -313,7 +316,7 @@ fn truthful(value: Result<Value, EvalFault>) -> Result<Option<bool>, EvalFault>
 
 /// The truth that was found, if it is one.
 fn truth_found(found: Found) -> Option<bool>
-    ensures { result ≡ truth_in (found_value found.entry) }
+    ensures { result ≡ truth_held (found_value found.entry) }
 {
     match found {
         Found::Nothing => None,
@@ -342,7 +345,7 @@ fn compared<F: Holds>(
     frames: &Frames,
     functions: &F,
 ) -> Result<Option<bool>, EvalFault>
-    ensures { AnswersTruth result (worth_of (trees.operation (code_of left.now) (operators.Comparison operator) (code_of right.now)) (frames_of frames.now) (F.answers functions.now)) }
+    ensures { AnswersTruth result (Running.run (trees.operation (code_of left.now) (operators.Comparison operator) (code_of right.now)) (frames_of frames.now) (F.answers functions.now)) }
 {
     let left = run(alloc, left, frames, functions)?;
     match number_in(&left) {
@@ -364,7 +367,7 @@ fn ordered(
     left: i64,
     right: Result<Option<i64>, EvalFault>,
 ) -> Result<Option<bool>, EvalFault>
-    ensures { (worth : Evaluated Data) → AnswersNumber right worth → AnswersTruth result (followed worth (operated_value (operators.Comparison operator) (number_of left))) }
+    ensures { (worth : Evaluated Data) → AnswersNumber right worth → AnswersTruth result (followed worth (Operations.operated (operators.Comparison operator) (Values.number left))) }
 {
     match right? {
         Some(right) => Ok(Some(in_order(operator, left, right))),
@@ -396,7 +399,7 @@ fn combined<F: Holds>(
     frames: &Frames,
     functions: &F,
 ) -> Result<Option<bool>, EvalFault>
-    ensures { AnswersTruth result (worth_of (trees.operation (code_of left.now) (operators.Logic operator) (code_of right.now)) (frames_of frames.now) (F.answers functions.now)) }
+    ensures { AnswersTruth result (Running.run (trees.operation (code_of left.now) (operators.Logic operator) (code_of right.now)) (frames_of frames.now) (F.answers functions.now)) }
 {
     let left = truth(alloc, left, frames, functions)?;
     match (operator, left) {
@@ -417,7 +420,7 @@ fn conditional<F: Holds>(
     frames: &Frames,
     functions: &F,
 ) -> Result<Value, EvalFault>
-    ensures { Evaluates result (worth_of (trees.conditional (code_of condition.now) (code_of first.now) (code_of second.now)) (frames_of frames.now) (F.answers functions.now)) }
+    ensures { Evaluates result (Running.run (trees.conditional (code_of condition.now) (code_of first.now) (code_of second.now)) (frames_of frames.now) (F.answers functions.now)) }
 {
     match truth(alloc, condition, frames, functions)? {
         Some(true) => run(alloc, first, frames, functions),
@@ -436,7 +439,7 @@ fn answer<F: Holds>(
     frames: &Frames,
     functions: &F,
 ) -> Result<Value, EvalFault>
-    ensures { Evaluates result (worth_of (code_of body.now) (value.now ∷ frames_of frames.now) (F.answers functions.now)) }
+    ensures { Evaluates result (Running.run (code_of body.now) (value.now ∷ frames_of frames.now) (F.answers functions.now)) }
 {
     let inner = (&*frames).within(&*value);
     run(alloc, body, &inner, &*functions)
@@ -453,7 +456,7 @@ fn mapped<F: Holds>(
     frames: &Frames,
     functions: &F,
 ) -> Result<Value, EvalFault>
-    ensures { Evaluates result (worth_of (trees.mapped (code_of part.now) mapping (code_of body.now)) (frames_of frames.now) (F.answers functions.now)) }
+    ensures { Evaluates result (Running.run (trees.mapped (code_of part.now) mapping (code_of body.now)) (frames_of frames.now) (F.answers functions.now)) }
 {
     let part = run(alloc, part, frames, functions)?;
     match mapping {
@@ -472,7 +475,7 @@ fn filter<F: Holds>(
     frames: &Frames,
     functions: &F,
 ) -> Result<Value, EvalFault>
-    ensures { Evaluates result (mapped_value mappings.Filter event.now (λ x. worth_of (code_of body.now) (x ∷ frames_of frames.now) (F.answers functions.now))) }
+    ensures { Evaluates result (mapped_value mappings.Filter event.now (λ x. Running.run (code_of body.now) (x ∷ frames_of frames.now) (F.answers functions.now))) }
 {
     match payload_in(event) {
         Some(Some(payload)) => {
@@ -491,7 +494,7 @@ fn kept(
     event: &Value,
     accepted: Result<Option<bool>, EvalFault>,
 ) -> Result<Value, EvalFault>
-    ensures { (worth : Evaluated Data) → AnswersTruth accepted worth → Evaluates result (followed worth (λ b. known (truth_in b) (λ c. worth_as (cond c event.now no_event)))) }
+    ensures { (worth : Evaluated Data) → AnswersTruth accepted worth → Evaluates result (followed worth (λ b. known (truth_held b) (λ c. Outcomes.answer (cond c event.now no_event)))) }
 {
     match accepted? {
         Some(true) => copied(alloc, event),
@@ -509,7 +512,7 @@ fn map<F: Holds>(
     frames: &Frames,
     functions: &F,
 ) -> Result<Value, EvalFault>
-    ensures { Evaluates result (mapped_value mappings.Map event.now (λ x. worth_of (code_of body.now) (x ∷ frames_of frames.now) (F.answers functions.now))) }
+    ensures { Evaluates result (mapped_value mappings.Map event.now (λ x. Running.run (code_of body.now) (x ∷ frames_of frames.now) (F.answers functions.now))) }
 {
     match payload_in(event) {
         Some(Some(payload)) => occurring(alloc, answer(alloc, body, payload, frames, functions)),
@@ -521,7 +524,7 @@ fn map<F: Holds>(
 /// The event of a payload, or the fault in its place.
 #[inline(always)]
 fn occurring(alloc: Global, payload: Result<Value, EvalFault>) -> Result<Value, EvalFault>
-    ensures { (worth : Evaluated Data) → Evaluates payload worth → Evaluates result (followed worth (λ x. worth_as (event_data x))) }
+    ensures { (worth : Evaluated Data) → Evaluates payload worth → Evaluates result (followed worth (λ x. Outcomes.answer (Values.event x))) }
 {
     Ok(Value::event(alloc, payload?)?)
 }
@@ -538,7 +541,7 @@ fn matched<F: Holds>(
     frames: &Frames,
     functions: &F,
 ) -> Result<Value, EvalFault>
-    ensures { Evaluates result (worth_of (trees.folded (code_of first.now) foldings.Match (code_of second.now) (code_of body.now)) (frames_of frames.now) (F.answers functions.now)) }
+    ensures { Evaluates result (Running.run (trees.folded (code_of first.now) foldings.Match (code_of second.now) (code_of body.now)) (frames_of frames.now) (F.answers functions.now)) }
 {
     let first = run(alloc, first, frames, functions)?;
     match payload_in(&first) {
@@ -559,7 +562,7 @@ fn merged<F: Holds>(
     frames: &Frames,
     functions: &F,
 ) -> Result<Value, EvalFault>
-    ensures { Evaluates result (worth_of (trees.folded (code_of first.now) foldings.Merge (code_of second.now) (code_of body.now)) (frames_of frames.now) (F.answers functions.now)) }
+    ensures { Evaluates result (Running.run (trees.folded (code_of first.now) foldings.Merge (code_of second.now) (code_of body.now)) (frames_of frames.now) (F.answers functions.now)) }
 {
     let first = run(alloc, first, frames, functions)?;
     let second = run(alloc, second, frames, functions)?;
@@ -576,7 +579,7 @@ fn merge<F: Holds>(
     frames: &Frames,
     functions: &F,
 ) -> Result<Value, EvalFault>
-    ensures { Evaluates result (folded_value foldings.Merge first.now (worth_as second.now) (λ x. worth_of (code_of body.now) (x ∷ frames_of frames.now) (F.answers functions.now))) }
+    ensures { Evaluates result (folded_value foldings.Merge first.now (Outcomes.answer second.now) (λ x. Running.run (code_of body.now) (x ∷ frames_of frames.now) (F.answers functions.now))) }
 {
     match payload_in(first) {
         Some(Some(left)) => match payload_in(second) {
@@ -598,7 +601,7 @@ fn merge<F: Holds>(
 
 /// The pair of copies of two values, which share what they are made of.
 fn pair_of(alloc: Global, first: &Value, second: &Value) -> Result<Value, AllocError>
-    ensures { IfOk result (λ both. both ≡ pair_data first.now second.now) }
+    ensures { IfOk result (λ both. both ≡ Values.pair first.now second.now) }
 {
     let first = first.clone_in(alloc)?;
     let second = second.clone_in(alloc)?;
@@ -616,7 +619,7 @@ fn fold<F: Holds>(
     frames: &Frames,
     functions: &F,
 ) -> Result<Value, EvalFault>
-    ensures { Evaluates result (worth_of (trees.folded (code_of first.now) foldings.Fold (code_of second.now) (code_of body.now)) (frames_of frames.now) (F.answers functions.now)) }
+    ensures { Evaluates result (Running.run (trees.folded (code_of first.now) foldings.Fold (code_of second.now) (code_of body.now)) (frames_of frames.now) (F.answers functions.now)) }
 {
     let table = run(alloc, first, frames, functions)?;
     let start = run(alloc, second, frames, functions)?;
@@ -636,7 +639,7 @@ fn fold_rows<F: Holds>(
     frames: &Frames,
     functions: &F,
 ) -> Result<Value, EvalFault>
-    ensures { Evaluates result (folded_rows (rows_under (map key_of rows.entry.keys.now) rows.entry.values.now) start (λ x. worth_of (code_of body.now) (x ∷ frames_of frames.now) (F.answers functions.now))) }
+    ensures { Evaluates result (folded_rows (keyed_rows (map key_of rows.entry.keys.now) rows.entry.values.now) start (λ x. Running.run (code_of body.now) (x ∷ frames_of frames.now) (F.answers functions.now))) }
 {
     let mut so_far = start;
     let mut argument = Value::unit();
@@ -662,7 +665,7 @@ fn called<F: Holds>(
     frames: &Frames,
     functions: &F,
 ) -> Result<Value, EvalFault>
-    ensures { Evaluates result (worth_of (trees.called (function.now) (code_of part.now)) (frames_of frames.now) (F.answers functions.now)) }
+    ensures { Evaluates result (Running.run (trees.called (function.now) (code_of part.now)) (frames_of frames.now) (F.answers functions.now)) }
 {
     let value = run(alloc, part, frames, functions)?;
     answered(functions.call(alloc, function, &value))

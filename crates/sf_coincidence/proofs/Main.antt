@@ -9,7 +9,7 @@ use Rattle.sf_term.specs.declared.form.Observation.{Observation}
 use Rattle.sf_term.specs.Trees.{Term, headed, Collection}
 use Rattle.sf_mean.specs.Lives.{Step, wait_of, input_of, Life, Process, closure, Environment, Members, scope_around, first_input}
 use Rattle.sf_mean.specs.Formulas.{occurring}
-use Rattle.sf_mean.specs.Meaning.{Network, Outcome, as_outcome, answered_by, newest_or, recorded, Cost, over, last_event, Made, Watched, itself, observed, observed_members, Takeover, Standing, waits, fired, stands_after, body_of, body_with, body_with_members, event_beside, Edit, edit_of, since_edit, edited, which_run, unless_faulted, what_runs, Gives, gives, Outputs, not_begun, and_gave, Sample, of_constants, of_form, of_resumed, Form, of_primitive, of_reference, of_join, of_side, of_loop, of_initialized, of_replaced, of_followed, of_transformed, of_switch, of_keeping, of_recurring, of_gathered, of_releasing, of_editing, of_stages, Next, goes_on, stops, Loops, no_loop, and_looped, Sees, beside_values, by_observer, by_members_observer, Since, at_start, watched, had_fired, SwitchTurn, while_waiting, as_body, Switched, after_fault, after_value, Fires, no_event_yet, event_now, Tables, no_tables, and_table, Each, no_more, one_more, Others, others_go_on, others_stop, Edited, no_edit, edit_failed, edit_now}
+use Rattle.sf_mean.specs.Meaning.{Network, Outcome, as_outcome, answered_by, newest_or, recorded, Cost, over, last_event, Made, Watched, itself, observed, observed_members, Takeover, Standing, waits, fired, stands_after, body_of, continuing_body, body_with_members, event_beside, Edit, edit_of, since_edit, edited, which_run, unless_faulted, what_runs, Gives, gives, Outputs, not_begun, and_gave, Sample, of_constants, of_form, of_resumed, Form, of_primitive, of_reference, of_join, of_side, of_loop, of_initialized, of_replaced, of_followed, of_transformed, of_switch, of_continuing, of_recurring, of_gathered, of_releasing, of_editing, of_stages, Next, goes_on, stops, Loops, no_loop, and_looped, Sees, beside_values, by_observer, by_members_observer, Since, at_start, watched, had_fired, SwitchTurn, while_waiting, as_body, Switched, after_fault, after_value, Fires, no_event_yet, event_now, Tables, no_tables, and_table, Each, no_more, one_more, Others, others_go_on, others_stop, Edited, no_edit, edit_failed, edit_now}
 use Rattle.sf_coincidence.specs.Mentions.{BindsOthers, ExpressionMentions, Mentions, CollectionMentions}
 use Rattle.sf_coincidence.specs.Alike.{Alike, of_closures, of_frozen, AlikeMembers, none_alike, member_alike}
 use Rattle.sf_coincidence.proofs.Worth.{differs, same_worth, same_formula}
@@ -42,7 +42,7 @@ alike_after B C T s L (Some v) = alike_fired (T s L v)
 alike_bodies : {e d : Environment} (p : Pattern) (u : Term) → AlikeFor (λ x. Mentions u x × BindsOthers p x) e d → AlikeBodies (body_of p u e) (body_of p u d)
 alike_bodies p u E v = of_closures (λ x h. at_bound p v (λ o. E x (h, o)))
 
-alike_kept : {P Q : Process} {e d : Environment} (k : Name) (p : Pattern) (u : Term) → Alike P Q → AlikeFor (λ x. Mentions u x × BindsOthers p x × k ≢ x) e d → AlikeTakeover (body_with k P p u e) (body_with k Q p u d)
+alike_kept : {P Q : Process} {e d : Environment} (k : Name) (p : Pattern) (u : Term) → Alike P Q → AlikeFor (λ x. Mentions u x × BindsOthers p x × k ≢ x) e d → AlikeTakeover (continuing_body k P p u e) (continuing_body k Q p u d)
 alike_kept k p u A E s L v = of_closures (λ x h. at_bound p v (λ o. at_running k (alike_frozen L (wait_of s) A) (λ l. E x (h, o, differs x k l))))
 
 alike_members_kept : {ms qs : Members} {e d : Environment} (k : Name) (p : Pattern) (u : Term) → AlikeMembers ms qs → AlikeFor (λ x. Mentions u x × BindsOthers p x × k ≢ x) e d → AlikeTakeover (body_with_members k ms p u e) (body_with_members k qs p u d)
@@ -129,12 +129,12 @@ module _ (n : Network) where
     same_form E M (of_recurring {u = u} {p = p} {L = L} G F) =
         let B = alike_bodies p u (λ x h. E x (inr h)) in
         of_recurring (same (alike_runs (of_closures (λ x h. E x (inl h))) B (last_event L)) G) (same_fires B F)
-    same_form E M (of_keeping {u = u} {k = k} {p = p} S T) =
+    same_form E M (of_continuing {u = u} {k = k} {p = p} S T) =
         let A = of_closures (λ x h. E x (inl h)) in
         let W = alike_observed A (λ x h. E x (inr (inl h))) in
         let B = alike_kept k p u A (λ x h. E x (inr (inr h))) in
         let r = same_since W B S in
-        of_keeping r.2 (same_turn W B r.1 T)
+        of_continuing r.2 (same_turn W B r.1 T)
     same_form E (alike_members M) (of_gathered G) = of_gathered (same_each M G)
     same_form E (alike_members M) (of_releasing {u = u} {k = k} {p = p} S T) =
         let W = alike_observed_members M (λ x h. E x (inr (inl h))) in

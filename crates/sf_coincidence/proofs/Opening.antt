@@ -8,13 +8,13 @@ use Rattle.sf_operator.specs.FunctionForms.{value_of_key}
 use Rattle.sf_expr.specs.Expressions.{Expression}
 use Rattle.sf_expr.specs.Evaluation.{Evaluated, answer, failed, ◌>>=◌, eval, apply}
 use Rattle.sf_term.specs.Parameters.{Bindings}
-use Rattle.sf_term.specs.Trees.{Term, primitive, Reference, reference, started, call, Arguments, no_arguments, value_argument, process_argument, collection_argument, closed_argument, template_named, joined, sided, headed, transformed, switching, keeping, gathered, releasing, editing, staged, Collection, without_members, used, added, dropped, kept, chosen, Template}
+use Rattle.sf_term.specs.Trees.{Term, primitive, Reference, reference, started, call, Arguments, no_arguments, value_argument, process_argument, collection_argument, closed_argument, template_named, joined, sided, headed, transformed, switching, continuing, gathered, releasing, editing, staged, Collection, without_members, used, added, dropped, kept, chosen, Template}
 use Rattle.sf_mean.specs.Lives.{Process, closure, Environment, empty, known, running, collected, Members, member, scope_around}
 use Rattle.sf_mean.specs.Collections.{as_key, add, drop, keep, collect}
 use Rattle.sf_mean.specs.Formulas.{is_high}
 use Rattle.sf_mean.specs.Meaning.{Network, Made, nothing_made, value_made, process_made, members_made, process_referred, argument_process, argued, process_called, referred, head_made, make}
 use Rattle.sf_coincidence.specs.Mentions.{ExpressionMentions, Mentions, CollectionMentions, ReferenceMentions, ArgumentsMention}
-use Rattle.sf_coincidence.specs.Alike.{Alike, of_closures, AlikeMembers, none_alike, member_alike, AlikeAt}
+use Rattle.sf_coincidence.specs.Alike.{Alike, of_closures, AlikeMembers, none_alike, member_alike, AlikeName}
 use Rattle.sf_coincidence.proofs.Worth.{same_worth, same_answer}
 use Rattle.sf_coincidence.proofs.Same.{AlikeFor, scopes_agree, members_alike, members_by_test, alike_itself, members_themselves, alike_passing, at_empty, at_known, at_running, at_collected, alike_started}
 
@@ -97,7 +97,7 @@ alike_argument (sided a t) E = of_closures E
 alike_argument (headed h i t) E = of_closures E
 alike_argument (transformed f t) E = of_closures E
 alike_argument (switching w t p u) E = of_closures E
-alike_argument (keeping w t q k p u) E = of_closures E
+alike_argument (continuing w t q k p u) E = of_closures E
 alike_argument (gathered i) E = of_closures E
 alike_argument (releasing w i q k p u) E = of_closures E
 alike_argument (editing w i k p u) E = of_closures E
@@ -105,7 +105,7 @@ alike_argument (staged x f g) E = of_closures E
 
 -- every name stands for alike
 abbrev AlikeNames : Environment → Environment → Type 0
-AlikeNames e d = (x : Name) → AlikeAt x e d
+AlikeNames e d = (x : Name) → AlikeName x e d
 
 module _ (φ : AnswersByName) {e e' : Environment} where
   alike_argued : (qs : Bindings) (vs : Arguments) → AlikeFor (ArgumentsMention vs) e e' → (d d' : Environment) → AlikeNames d d' → Likewise AlikeNames (argued φ qs vs e d) (argued φ qs vs e' d')
@@ -171,7 +171,7 @@ module _ (n : Network) {e d : Environment} where
   made_alike (transformed f t) v E =
       same_made (ap (λ (w : Evaluated Data). w >>= λ u. answer (value_made u)) (same_answer f v (scope_around n.functions e) (scope_around n.functions d) (scopes_agree n.functions (λ x h. E x (inl h)))))
   made_alike (switching w t p u) v E = both_answer same_nothing
-  made_alike (keeping w t q k p u) v E = both_answer same_nothing
+  made_alike (continuing w t q k p u) v E = both_answer same_nothing
   made_alike (gathered i) v E = gathered_alike i E
   made_alike (releasing w i q k p u) v E = gathered_alike i (λ x h. E x (inl h))
   made_alike (editing w i k p u) v E = gathered_alike i (λ x h. E x (inl h))

@@ -5,20 +5,20 @@ use Rattle.std.proofs.lemmas.Slice.Eq.{bytes_eq-Decides}
 use mathlib.Core.Path.{ap₂, fun_ext}
 use Rattle.sf_value.specs.Values.{Name, Data, pair, first_of, second_of}
 use Rattle.sf_func.specs.Registries.{AnswersByName}
-use Rattle.sf_operator.specs.Operations.{truth_in, unary_value, decided, operated}
+use Rattle.sf_operator.specs.Operations.{truth_held, unary_value, decided, operated}
 use Rattle.sf_operator.specs.FunctionForms.{mapped_value, folded_value}
 use Rattle.sf_expr.specs.Expressions.{Pattern, unnamed, named, both, Expression, variable, literal, paired, applied, operation, conditional, mapped, folded, called, Function, function}
-use Rattle.sf_expr.specs.Evaluation.{Evaluated, answer, ◌>>=◌, Scope, functions_in, value_of, bound_in, unless_decided, granted, known as if_known, eval, apply}
+use Rattle.sf_expr.specs.Evaluation.{Evaluated, answer, ◌>>=◌, Scope, scope_functions, value_of, bound_in, unless_decided, granted, eval, apply, known}
 use Rattle.sf_term.specs.declared.form.Accumulation.{Accumulation}
 use Rattle.sf_term.specs.declared.form.Accumulation.TheVariants.{EdgeBy, AccumBy, AccumHoldBy, Scan}
 use Rattle.sf_term.specs.Trees.{Chain, lone, chained, on_side, on_both, fanned, Primitive, bare, probe, never, with_value, timed, selected, arrow, accumulated, fused}
 use Rattle.sf_mean.specs.Lives.{Step, input_of, Life}
-use Rattle.sf_mean.specs.Formulas.{side_of, with_side, value_formula, timed_formula, before, occurring, next_value, accumulation, event_where, accumulated_formula, apply_chain, formula}
+use Rattle.sf_mean.specs.Formulas.{side_of, side_replaced, value_formula, timed_formula, before, occurring, next_value, accumulation, event_where, accumulated_formula, apply_chain, formula}
 use Rattle.sf_coincidence.specs.Mentions.{BindsOthers, ExpressionMentions, FunctionMentions, ChainMentions, PrimitiveMentions}
 
 -- ## Inside a pattern
 
-functions_bound : (p : Pattern) (d : Data) (s : Scope) → functions_in (bound_in p d s) ≡ functions_in s
+functions_bound : (p : Pattern) (d : Data) (s : Scope) → scope_functions (bound_in p d s) ≡ scope_functions s
 functions_bound unnamed d s = refl
 functions_bound (named y) d s = refl
 functions_bound (both p q) d s = functions_bound q (second_of d) (bound_in p (first_of d) s) ∙ functions_bound p (first_of d) s
@@ -40,7 +40,7 @@ value_bound x (both p q) d s t h = value_bound x q (second_of d) (bound_in p (fi
 
 -- these names have the same values in both scopes, which have the same functions
 pub record Agrees (M : Name → Type 0) (s t : Scope) : Type 0 where
-  pub functions : functions_in s ≡ functions_in t
+  pub functions : scope_functions s ≡ scope_functions t
   pub values : (x : Name) → M x → value_of x s ≡ value_of x t
 
 -- so have fewer names
@@ -62,8 +62,8 @@ same_worth (applied o i) s t A = ap (λ (a : Evaluated Data). a >>= unary_value 
 same_worth (operation i o j) s t A =
     ap₂ (λ (a b : Evaluated Data). a >>= λ x. unless_decided (decided o x) (b >>= operated o x)) (same_worth i s t (fewer (λ x h. inl h) A)) (same_worth j s t (fewer (λ x h. inr h) A))
 same_worth (conditional i j k) s t A =
-    ap (λ (a : Evaluated Data). a >>= λ c. if_known (truth_in c) (λ b. cond b (eval j s) (eval k s))) (same_worth i s t (fewer (λ x h. inl h) A))
-    ∙ ap₂ (λ (y z : Evaluated Data). eval i t >>= λ c. if_known (truth_in c) (λ b. cond b y z)) (same_worth j s t (fewer (λ x h. inr (inl h)) A)) (same_worth k s t (fewer (λ x h. inr (inr h)) A))
+    ap (λ (a : Evaluated Data). a >>= λ c. known (truth_held c) (λ b. cond b (eval j s) (eval k s))) (same_worth i s t (fewer (λ x h. inl h) A))
+    ∙ ap₂ (λ (y z : Evaluated Data). eval i t >>= λ c. known (truth_held c) (λ b. cond b y z)) (same_worth j s t (fewer (λ x h. inr (inl h)) A)) (same_worth k s t (fewer (λ x h. inr (inr h)) A))
 same_worth (mapped i m p j) s t A =
     ap₂ (λ (a : Evaluated Data) (f : Data → Evaluated Data). a >>= λ d. mapped_value m d f)
     (same_worth i s t (fewer (λ x h. inl h) A))
@@ -84,7 +84,7 @@ same_chain : (f : Chain) (d : Data) (s t : Scope) → Agrees (ChainMentions f) s
 same_chain (lone f) d s t A = same_answer f d s t A
 same_chain (chained f g) d s t A =
     ap₂ (λ (a : Evaluated Data) (k : Data → Evaluated Data). a >>= k) (same_chain f d s t (fewer (λ x h. inl h) A)) (fun_ext (λ y. same_chain g y s t (fewer (λ x h. inr h) A)))
-same_chain (on_side a f) d s t A = ap (λ (b : Evaluated Data). b >>= λ y. answer (with_side a d y)) (same_chain f (side_of a d) s t A)
+same_chain (on_side a f) d s t A = ap (λ (b : Evaluated Data). b >>= λ y. answer (side_replaced a d y)) (same_chain f (side_of a d) s t A)
 same_chain (on_both f g) d s t A =
     ap₂ (λ (a b : Evaluated Data). a >>= λ y. b >>= λ z. answer (pair y z)) (same_chain f (first_of d) s t (fewer (λ x h. inl h) A)) (same_chain g (second_of d) s t (fewer (λ x h. inr h) A))
 same_chain (fanned f g) d s t A =

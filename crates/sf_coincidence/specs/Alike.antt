@@ -11,7 +11,7 @@ mutual
   -- Two processes are alike: the same term, around which each name that it mentions stands for alike; or frozen, after the same
   -- life and for the same time, where what was frozen is alike.
   pub data Alike : Process → Process → Type 0 where
-    of_closures : {t : Term} {e d : Environment} → ((x : Name) → Mentions t x → AlikeAt x e d) → Alike (closure t e) (closure t d)
+    of_closures : {t : Term} {e d : Environment} → ((x : Name) → Mentions t x → AlikeName x e d) → Alike (closure t e) (closure t d)
     of_frozen : {P Q : Process} {h : Life} {d : ℕ} → Alike P Q → Alike (resumed P h d) (resumed Q h d)
 
   -- Members are alike: the same keys in the same order, under which stand processes that are alike.
@@ -21,10 +21,10 @@ mutual
 
   -- A name stands for alike in two environments: in expressions for the same value, where none is what makes no sense, for
   -- processes that are alike, and for members that are alike.
-  pub data AlikeAt : Name → Environment → Environment → Type 0 where
+  pub data AlikeName : Name → Environment → Environment → Type 0 where
     alike_at : {x : Name} {e d : Environment}
         → ((φ : AnswersByName) → value_of x (scope_around φ e) ≡ value_of x (scope_around φ d)) → Alike (process_of x e) (process_of x d)
-        → AlikeMembers (members_of x e) (members_of x d) → AlikeAt x e d
+        → AlikeMembers (members_of x e) (members_of x d) → AlikeName x e d
 
 -- the names that are wanted, but for one
 abbrev pub all_but : Name → (Name → Bool) → Name → Bool

@@ -3,7 +3,7 @@
 use Rattle.std.specs.Prelude.{◌≡◌, ◌≢◌, ◌⊎◌, ⊤}
 use Rattle.sf_value.specs.Values.{Name}
 use Rattle.sf_expr.specs.Expressions.{Pattern, unnamed, named, both, Expression, variable, literal, paired, applied, operation, conditional, mapped, folded, called, Function, function}
-use Rattle.sf_term.specs.Trees.{Chain, lone, chained, on_side, on_both, fanned, Primitive, bare, probe, never, with_value, timed, selected, arrow, accumulated, fused, Term, primitive, Reference, reference, started, call, Arguments, no_arguments, value_argument, process_argument, collection_argument, closed_argument, joined, sided, headed, transformed, switching, keeping, gathered, releasing, editing, staged, Collection, without_members, used, added, dropped, kept, chosen}
+use Rattle.sf_term.specs.Trees.{Chain, lone, chained, on_side, on_both, fanned, Primitive, bare, probe, never, with_value, timed, selected, arrow, accumulated, fused, Term, primitive, Reference, reference, started, call, Arguments, no_arguments, value_argument, process_argument, collection_argument, closed_argument, joined, sided, headed, transformed, switching, continuing, gathered, releasing, editing, staged, Collection, without_members, used, added, dropped, kept, chosen}
 
 -- a pattern binds other names than this one
 abbrev pub BindsOthers : Pattern → Name → Type 0
@@ -58,7 +58,7 @@ abbrev mutual
   Mentions (headed h i t) x = ExpressionMentions i x ⊎ Mentions t x
   Mentions (transformed f t) x = FunctionMentions f x ⊎ Mentions t x
   Mentions (switching w t p u) x = Mentions t x ⊎ (Mentions u x × BindsOthers p x)
-  Mentions (keeping w t q k p u) x = Mentions t x ⊎ (Mentions q x ⊎ (Mentions u x × BindsOthers p x × k ≢ x))
+  Mentions (continuing w t q k p u) x = Mentions t x ⊎ (Mentions q x ⊎ (Mentions u x × BindsOthers p x × k ≢ x))
   Mentions (gathered i) x = CollectionMentions i x
   Mentions (releasing w i q k p u) x = CollectionMentions i x ⊎ (Mentions q x ⊎ (Mentions u x × BindsOthers p x × k ≢ x))
   Mentions (editing w i k p u) x = CollectionMentions i x ⊎ (CollectionMentions u x × BindsOthers p x × k ≢ x)

@@ -21,13 +21,13 @@ take_whole [] = refl
 take_whole (x ∷ xs) = ap (λ ys. x ∷ ys) (take_whole xs)
 
 -- what the loop over digits that may be too many keeps, of the number before them, the number so far and the bytes left
-pub record Keeps (before : ℕ) (bytes : List ℕ) (n : ℕ) (left : List ℕ) : Type 0 where
+pub record Extends (before : ℕ) (bytes : List ℕ) (n : ℕ) (left : List ℕ) : Type 0 where
   pub number : min (digits_value_after 10 n (digits_at left)) top ≡ min (digits_value_after 10 before (digits_at bytes)) top
   pub capped : n ≤ top
   pub rest : after_digits left ≡ after_digits bytes
 
 pub keeps_more : (before : ℕ) (bytes : List ℕ) (n : ℕ) (left : List ℕ) (m : ℕ) → 1 ≤ length left → is_ascii_digit (get_or left 0 0) ≡ true
-    → m ≡ min (min (n * 10) top + (get_or left 0 0 - 48)) top → Keeps before bytes n left → Keeps before bytes m (take (length left - 1) (drop 1 left))
+    → m ≡ min (min (n * 10) top + (get_or left 0 0 - 48)) top → Extends before bytes n left → Extends before bytes m (take (length left - 1) (drop 1 left))
 keeps_more before bytes n [] m h d e k = absurd (omega arith)
 keeps_more before bytes n (c ∷ rest) m h d e k =
     let len : suc (length rest) - 1 ≡ length rest = omega arith in

@@ -8,7 +8,7 @@ ghost use Rattle.sf_term.specs.declared.form.Timing.TheVariants.{After};
 ghost use Rattle.sf_mean.specs.Lives.{Life, step};
 ghost use Rattle.sf_mean.specs.Formulas.{timed_formula, span};
 ghost use Rattle.sf_delay.specs.Gifts.{gift};
-ghost use Rattle.sf_delay.specs.Lately.{waited as waited_for};
+ghost use Rattle.sf_delay.specs.Lately;
 
 use sf_operator::EvalFault;
 use sf_value::Value;
@@ -34,7 +34,7 @@ pub fn span_of(number: i64) -> u64
 
 /// The milliseconds since the sample before; none where there was none.
 pub(crate) fn waited(begun: bool, dt: u64) -> u64
-    ensures { result ≡ waited_for begun dt }
+    ensures { result ≡ Lately.waited begun dt }
 {
     if begun { dt } else { 0 }
 }
@@ -100,7 +100,7 @@ impl Timer {
         ensures told { Evaluates (gift result value.new) (answer (cond (is_up self.old dt) (event_of self.old.due) no_event)) }
         ensures due { OnOk result (self.new.due ≡ cond (is_up self.old dt) None self.old.due) }
         ensures begun { OnOk result (self.new.begun ≡ true) }
-        ensures left { OnOk result (self.new.left ≡ self.old.left - waited_for self.old.begun dt) }
+        ensures left { OnOk result (self.new.left ≡ self.old.left - Lately.waited self.old.begun dt) }
     {
         let waited = waited(self.begun, dt);
         let up = self.left <= waited;

@@ -11,9 +11,9 @@ use Rattle.sf_expr.specs.declared.exprs.ExprNode.{ExprNode}
 use Rattle.sf_expr.specs.declared.exprs.FunctionId.{FunctionId}
 use Rattle.sf_expr.specs.declared.exprs.Exprs.{Exprs}
 use Rattle.sf_expr.specs.Patterns.{PlacedPattern}
-use Rattle.sf_expr.specs.Arena.{spot_at, placed_at}
+use Rattle.sf_expr.specs.Arena.{spot_at, stored_pattern}
 use Rattle.sf_expr.specs.Typing.{Names, Fits}
-use Rattle.sf_expr.specs.Judging.{◌>>=◌, Judge, fitting_at, bound_judged, form_judged, judged, function_judged}
+use Rattle.sf_expr.specs.Judging.{◌>>=◌, Judge, judged_fitting, bound_judged, form_judged, judged, function_judged}
 use Rattle.sf_expr.specs.Refusals.{Refused, FunctionRefused}
 use Rattle.sf_expr.proofs.Judged.{judged_form, typed_judged, binds_binding, kind_answers}
 use Rattle.sf_differ.specs.declared.difference.Difference.{Difference}
@@ -29,11 +29,11 @@ none_made (Some t) none = absurd (none (record { made = t; is = refl }))
 pub none_stands : {can : Kind → Type 0} {s : Spot} {t : Kind} {d : Difference} → DiffersAt can s t d → can t → ⊥
 none_stands {t = t} h k = h.other (h.wants.only t k)
 
-unmade : (o : Option Kind) {s q : Spot} → (IsMade o → ⊥) → q ≡ s → fitting_at s o ≡ Err (breach_of Mismatch q)
-unmade o {s} none at = ap (fitting_at s) (none_made o none) ∙ ap (λ s. Err (breach_of Mismatch s)) (sym at)
+unmade : (o : Option Kind) {s q : Spot} → (IsMade o → ⊥) → q ≡ s → judged_fitting s o ≡ Err (breach_of Mismatch q)
+unmade o {s} none at = ap (judged_fitting s) (none_made o none) ∙ ap (λ s. Err (breach_of Mismatch s)) (sym at)
 
 -- a type that is found and fits
-fits_at : (s : Spot) (o : Option Kind) (a : Kind) → o ≡ Some a → Fits a → fitting_at s o ≡ Ok a
+fits_at : (s : Spot) (o : Option Kind) (a : Kind) → o ≡ Some a → Fits a → judged_fitting s o ≡ Ok a
 fits_at s o a e f = kind_answers o s (Ok a) (e, f)
 
 module _ (x : Exprs) (R : Names) (s : Spot) where
@@ -46,21 +46,21 @@ module _ (x : Exprs) (R : Names) (s : Spot) where
   node_refused (other_differs {i = i} {j = j} {k = k} {c = c} {t = t} {u = u} h l m w) =
       rw (typed_judged x R i c h, typed_judged x R j t l, typed_judged x R k u m) (unmade (conditional_kind c t u) (λ m. none_stands w m) w.at)
   node_refused (mapping_differs {n = n} {t = t} {d = d} h w) =
-      let none : fitting_at s (mapped_argument n.mapping t) ≡ Err (breach_of Mismatch d.spot) = unmade (mapped_argument n.mapping t) (λ m. none_stands w m) w.at in
+      let none : judged_fitting s (mapped_argument n.mapping t) ≡ Err (breach_of Mismatch d.spot) = unmade (mapped_argument n.mapping t) (λ m. none_stands w m) w.at in
       rw (typed_judged x R n.part t h, none) refl
   node_refused (mapped_pattern_differs {n = n} {t = t} {a = a} h e f w) =
       rw (typed_judged x R n.part t h, fits_at s (mapped_argument n.mapping t) a e f, w.refused.first R) refl
   node_refused (mapped_differs {n = n} {t = t} {a = a} {u = u} {S = S} h e f binds l w) =
-      rw (typed_judged x R n.part t h, fits_at s (mapped_argument n.mapping t) a e f, binds_binding s (placed_at x n.pattern) binds, typed_judged x S n.body u l) (unmade (mapped_kind n.mapping t u) (λ m. none_stands w m) w.at)
+      rw (typed_judged x R n.part t h, fits_at s (mapped_argument n.mapping t) a e f, binds_binding s (stored_pattern x n.pattern) binds, typed_judged x S n.body u l) (unmade (mapped_kind n.mapping t u) (λ m. none_stands w m) w.at)
   node_refused (folding_differs {n = n} {t = t} {u = u} {d = d} h l w) =
-      let none : fitting_at s (folded_argument n.folding t u) ≡ Err (breach_of Mismatch d.spot) = unmade (folded_argument n.folding t u) (λ m. none_stands w (u, m)) w.at in
+      let none : judged_fitting s (folded_argument n.folding t u) ≡ Err (breach_of Mismatch d.spot) = unmade (folded_argument n.folding t u) (λ m. none_stands w (u, m)) w.at in
       rw (typed_judged x R n.first t h, typed_judged x R n.second u l, none) refl
   node_refused (folded_pattern_differs {n = n} {t = t} {u = u} {a = a} h l e f w) =
       rw (typed_judged x R n.first t h, typed_judged x R n.second u l, fits_at s (folded_argument n.folding t u) a e f, w.refused.first R) refl
   node_refused (second_differs {n = n} {t = t} {u = u} {a = a} {v = v} {S = S} h l e f binds m w) =
-      rw (typed_judged x R n.first t h, typed_judged x R n.second u l, fits_at s (folded_argument n.folding t u) a e f, binds_binding s (placed_at x n.pattern) binds, typed_judged x S n.body v m) (unmade (folded_kind n.folding t u v) (λ m. none_stands w (v, m)) w.at)
+      rw (typed_judged x R n.first t h, typed_judged x R n.second u l, fits_at s (folded_argument n.folding t u) a e f, binds_binding s (stored_pattern x n.pattern) binds, typed_judged x S n.body v m) (unmade (folded_kind n.folding t u v) (λ m. none_stands w (v, m)) w.at)
   node_refused (folded_differs {n = n} {t = t} {u = u} {a = a} {v = v} {S = S} h l e f binds m w) =
-      rw (typed_judged x R n.first t h, typed_judged x R n.second u l, fits_at s (folded_argument n.folding t u) a e f, binds_binding s (placed_at x n.pattern) binds, typed_judged x S n.body v m) (unmade (folded_kind n.folding t u v) (λ m. none_stands w m) w.at)
+      rw (typed_judged x R n.first t h, typed_judged x R n.second u l, fits_at s (folded_argument n.folding t u) a e f, binds_binding s (stored_pattern x n.pattern) binds, typed_judged x S n.body v m) (unmade (folded_kind n.folding t u v) (λ m. none_stands w m) w.at)
   node_refused (called_differs {i = i} {fs = fs} {t = t} h named w) = rw (typed_judged x R i t h, named) (unmade (called_kind fs.from fs.to t) (λ m. none_stands w m) w.at)
 
   part_refused : {n : ExprNode} {S : Names} {j : ExprId} {b : Breach} → ReachesPart x R n S j → judged x j S ≡ Err b → form_judged x (judged x) s n R ≡ Err b
@@ -73,11 +73,11 @@ module _ (x : Exprs) (R : Names) (s : Spot) where
   part_refused (one_part {i = i} {c = c} h) e = rw (typed_judged x R i c h, e) refl
   part_refused (other_part {i = i} {j = j} {c = c} {t = t} h l) e = rw (typed_judged x R i c h, typed_judged x R j t l, e) refl
   part_refused mapped_part e = rw e refl
-  part_refused (mapped_body {n = n} {t = t} {a = a} h g f binds) e = rw (typed_judged x R n.part t h, fits_at s (mapped_argument n.mapping t) a g f, binds_binding s (placed_at x n.pattern) binds, e) refl
+  part_refused (mapped_body {n = n} {t = t} {a = a} h g f binds) e = rw (typed_judged x R n.part t h, fits_at s (mapped_argument n.mapping t) a g f, binds_binding s (stored_pattern x n.pattern) binds, e) refl
   part_refused folded_first e = rw e refl
   part_refused (folded_second {n = n} {t = t} h) e = rw (typed_judged x R n.first t h, e) refl
   part_refused (folded_body {n = n} {t = t} {u = u} {a = a} h l g f binds) e =
-      rw (typed_judged x R n.first t h, typed_judged x R n.second u l, fits_at s (folded_argument n.folding t u) a g f, binds_binding s (placed_at x n.pattern) binds, e) refl
+      rw (typed_judged x R n.first t h, typed_judged x R n.second u l, fits_at s (folded_argument n.folding t u) a g f, binds_binding s (stored_pattern x n.pattern) binds, e) refl
   part_refused called_part e = rw e refl
 
 module _ (x : Exprs) where

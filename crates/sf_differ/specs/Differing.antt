@@ -18,7 +18,7 @@ use Rattle.sf_expr.specs.declared.exprs.ExprNode.TheVariants as nodes
 use Rattle.sf_expr.specs.declared.exprs.Exprs.{Exprs}
 use Rattle.sf_expr.specs.Expressions.{Pattern, both}
 use Rattle.sf_expr.specs.Patterns.{PlacedPattern, pattern_of}
-use Rattle.sf_expr.specs.Arena.{expression, node_at, spot_at, name_at, placed_at, pattern_at, body_at}
+use Rattle.sf_expr.specs.Arena.{expression, node_at, spot_at, name_at, stored_pattern, argument_pattern, body_id}
 use Rattle.sf_expr.specs.Typing.{Names, Fits, functions_of, Binds, HasType}
 use Rattle.sf_expr.specs.Refusals.{PatternRefused}
 use Rattle.sf_differ.specs.declared.difference.Difference.{Difference}
@@ -55,20 +55,20 @@ pub data NodeDiffers (x : Exprs) (R : Names) (s : Spot) : ExprNode → Differenc
   mapping_differs : {n : Mapped} {t : Kind} {d : Difference}
       → HasType R (expression x n.part) t → DiffersAt (λ a. IsMade (mapped_argument n.mapping a)) s t d → NodeDiffers x R s (nodes.Mapped n) d
   mapped_pattern_differs : {n : Mapped} {t a : Kind} {d : Difference}
-      → HasType R (expression x n.part) t → mapped_argument n.mapping t ≡ Some a → Fits a → PatternDiffers (placed_at x n.pattern) a s d → NodeDiffers x R s (nodes.Mapped n) d
+      → HasType R (expression x n.part) t → mapped_argument n.mapping t ≡ Some a → Fits a → PatternDiffers (stored_pattern x n.pattern) a s d → NodeDiffers x R s (nodes.Mapped n) d
   mapped_differs : {n : Mapped} {t a u : Kind} {S : Names} {d : Difference}
-      → HasType R (expression x n.part) t → mapped_argument n.mapping t ≡ Some a → Fits a → Binds (pattern_of (placed_at x n.pattern)) a R S → HasType S (expression x n.body) u
+      → HasType R (expression x n.part) t → mapped_argument n.mapping t ≡ Some a → Fits a → Binds (pattern_of (stored_pattern x n.pattern)) a R S → HasType S (expression x n.body) u
       → DiffersAt (λ b. IsMade (mapped_kind n.mapping t b)) s u d → NodeDiffers x R s (nodes.Mapped n) d
   folding_differs : {n : Folded} {t u : Kind} {d : Difference}
       → HasType R (expression x n.first) t → HasType R (expression x n.second) u → DiffersAt (λ a. (b : Kind) × IsMade (folded_argument n.folding a b)) s t d → NodeDiffers x R s (nodes.Folded n) d
   folded_pattern_differs : {n : Folded} {t u a : Kind} {d : Difference}
-      → HasType R (expression x n.first) t → HasType R (expression x n.second) u → folded_argument n.folding t u ≡ Some a → Fits a → PatternDiffers (placed_at x n.pattern) a s d
+      → HasType R (expression x n.first) t → HasType R (expression x n.second) u → folded_argument n.folding t u ≡ Some a → Fits a → PatternDiffers (stored_pattern x n.pattern) a s d
       → NodeDiffers x R s (nodes.Folded n) d
   second_differs : {n : Folded} {t u a v : Kind} {S : Names} {d : Difference}
-      → HasType R (expression x n.first) t → HasType R (expression x n.second) u → folded_argument n.folding t u ≡ Some a → Fits a → Binds (pattern_of (placed_at x n.pattern)) a R S → HasType S (expression x n.body) v
+      → HasType R (expression x n.first) t → HasType R (expression x n.second) u → folded_argument n.folding t u ≡ Some a → Fits a → Binds (pattern_of (stored_pattern x n.pattern)) a R S → HasType S (expression x n.body) v
       → DiffersAt (λ b. (c : Kind) × IsMade (folded_kind n.folding t b c)) s u d → NodeDiffers x R s (nodes.Folded n) d
   folded_differs : {n : Folded} {t u a v : Kind} {S : Names} {d : Difference}
-      → HasType R (expression x n.first) t → HasType R (expression x n.second) u → folded_argument n.folding t u ≡ Some a → Fits a → Binds (pattern_of (placed_at x n.pattern)) a R S → HasType S (expression x n.body) v
+      → HasType R (expression x n.first) t → HasType R (expression x n.second) u → folded_argument n.folding t u ≡ Some a → Fits a → Binds (pattern_of (stored_pattern x n.pattern)) a R S → HasType S (expression x n.body) v
       → DiffersAt (λ c. IsMade (folded_kind n.folding t u c)) s v d → NodeDiffers x R s (nodes.Folded n) d
   called_differs : {g : NameId} {n : Spot} {i : ExprId} {fs : FunctionTypes} {t : Kind} {d : Difference}
       → HasType R (expression x i) t → types_named (name_at x g) (functions_of R) ≡ Some fs → DiffersAt (λ a. IsMade (called_kind fs.from fs.to a)) s t d → NodeDiffers x R s (nodes.Called g n i) d
@@ -85,11 +85,11 @@ pub data ReachesPart (x : Exprs) (R : Names) : ExprNode → Names → ExprId →
   other_part : {i j k : ExprId} {c t : Kind} → HasType R (expression x i) c → HasType R (expression x j) t → ReachesPart x R (nodes.Conditional i j k) R k
   mapped_part : {n : Mapped} → ReachesPart x R (nodes.Mapped n) R n.part
   mapped_body : {n : Mapped} {t a : Kind} {S : Names}
-      → HasType R (expression x n.part) t → mapped_argument n.mapping t ≡ Some a → Fits a → Binds (pattern_of (placed_at x n.pattern)) a R S → ReachesPart x R (nodes.Mapped n) S n.body
+      → HasType R (expression x n.part) t → mapped_argument n.mapping t ≡ Some a → Fits a → Binds (pattern_of (stored_pattern x n.pattern)) a R S → ReachesPart x R (nodes.Mapped n) S n.body
   folded_first : {n : Folded} → ReachesPart x R (nodes.Folded n) R n.first
   folded_second : {n : Folded} {t : Kind} → HasType R (expression x n.first) t → ReachesPart x R (nodes.Folded n) R n.second
   folded_body : {n : Folded} {t u a : Kind} {S : Names}
-      → HasType R (expression x n.first) t → HasType R (expression x n.second) u → folded_argument n.folding t u ≡ Some a → Fits a → Binds (pattern_of (placed_at x n.pattern)) a R S → ReachesPart x R (nodes.Folded n) S n.body
+      → HasType R (expression x n.first) t → HasType R (expression x n.second) u → folded_argument n.folding t u ≡ Some a → Fits a → Binds (pattern_of (stored_pattern x n.pattern)) a R S → ReachesPart x R (nodes.Folded n) S n.body
   called_part : {g : NameId} {n : Spot} {i : ExprId} → ReachesPart x R (nodes.Called g n i) R i
 
 -- In the expression at an id the first rule that is broken is that types fit, and these differ: in the form at the id itself,
@@ -105,4 +105,4 @@ pub data BoundDiffers (x : Exprs) (R : Names) (p : PlacedPattern) (i : ExprId) (
 
 -- the same of a function of values of a type
 abbrev pub FunctionDiffers : Exprs → Names → FunctionId → Kind → Spot → Difference → Type 0
-FunctionDiffers x R f a s d = BoundDiffers x R (pattern_at x f) (body_at x f) a s d
+FunctionDiffers x R f a s d = BoundDiffers x R (argument_pattern x f) (body_id x f) a s d

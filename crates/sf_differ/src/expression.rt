@@ -3,10 +3,10 @@ ghost use Rattle.std.specs.Prelude.{◌≡◌, IfOk, IfErr};
 ghost use Rattle.sf_expr.specs.declared.exprs.ExprNode.TheVariants.{Conditional};
 ghost use Rattle.sf_expr.specs.Arena.{expression, node_at, id_number, PartsBelow};
 ghost use Rattle.sf_expr.specs.Arena.{function_at};
-ghost use Rattle.sf_expr.specs.Expressions.{function as function_of};
+ghost use Rattle.sf_expr.specs.Expressions;
 ghost use Rattle.sf_expr.specs.Patterns.{pattern_of};
-ghost use Rattle.sf_expr.specs.Typing.{with_types, HasType, FunctionTakes};
-ghost use Rattle.sf_expr.specs.Scopes.{names_of};
+ghost use Rattle.sf_expr.specs.Typing.{names_and_functions, HasType, FunctionTakes};
+ghost use Rattle.sf_expr.specs.Scopes.{scope_names};
 ghost use Rattle.sf_expr.specs.Contexts.{exprs_in, types_around, types_within};
 ghost use Rattle.sf_func.specs.Signatures.{signatures_in};
 ghost use Rattle.sf_differ.specs.Differences.{Explains};
@@ -227,7 +227,7 @@ fn part_behind(
     from: &Ty,
     at: Spot,
 ) -> Result<Ty, Blame>
-    ensures ok { IfOk result (λ t. FunctionTakes (types_around context.now) (function_of (pattern_of pattern.now) (expression (exprs_in context.now) body)) from.now t) }
+    ensures ok { IfOk result (λ t. FunctionTakes (types_around context.now) (Expressions.function (pattern_of pattern.now) (expression (exprs_in context.now) body)) from.now t) }
     ensures err { IfErr result (λ b. Explains (BoundDiffers (exprs_in context.now) (types_around context.now) pattern.now body from.now at) b) }
 {
     match Frame::of_pattern(context.alloc, pattern, from, at) {
@@ -260,8 +260,8 @@ pub fn typed(
     names: &TypeScope,
     functions: &Signatures,
 ) -> Result<Ty, Blame>
-    ensures ok { IfOk result (λ t. HasType (with_types (signatures_in functions.now) (names_of names.now)) (expression exprs.now id) t) }
-    ensures err { IfErr result (λ b. Explains (ExpressionDiffers exprs.now (with_types (signatures_in functions.now) (names_of names.now)) id) b) }
+    ensures ok { IfOk result (λ t. HasType (names_and_functions (signatures_in functions.now) (scope_names names.now)) (expression exprs.now id) t) }
+    ensures err { IfErr result (λ b. Explains (ExpressionDiffers exprs.now (names_and_functions (signatures_in functions.now) (scope_names names.now)) id) b) }
 {
     let context = ExprContext {
         alloc,

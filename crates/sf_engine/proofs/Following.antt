@@ -14,7 +14,7 @@ use Rattle.sf_engine.specs.Running.{Runs}
 use Rattle.sf_engine.specs.Sampling.{Sampled, gave_value, had_fault, was_large, had_no_memory, answer_of, Starts, Advances, was_not_started, has_bad_wait, has_wrong_type, advances}
 use Rattle.std.specs.Result.{IsErrAnd}
 use Rattle.sf_engine.specs.declared.engine.embed.Embedded.{Embedded}
-use Rattle.sf_engine.specs.Embedding.{Embeds, embeds_nothing, IsSampleAt, Follows, followed, stopped_at, follows}
+use Rattle.sf_engine.specs.Embedding.{Embeds, embeds_nothing, IsLastSample, Follows, followed, stopped_at, follows}
 
 -- a list without items
 pub nothing_left : {X : Type 0} (xs : List X) → length xs ≡ 0 → xs ≡ []
@@ -30,7 +30,7 @@ answer_ok (Err f) is = absurd cc
 module _ {F : Type 0} {h : _} (n : Network) (m : Template) (S : Saves) where
   -- A sample was given, at the end of a history, and the engine goes on from there.
   pub record Gave (L : Life) (s : Sample) (e : Engine F h) : Type 0 where
-    pub sample : IsSampleAt n m L s
+    pub sample : IsLastSample n m L s
     pub runs : Runs e n m L S
 
   -- a step that gave a sample

@@ -10,9 +10,9 @@ use Rattle.sf_mean.specs.Lives.{Step, step, input_of, Life, time, closure, empty
 use Rattle.sf_mean.specs.Meaning.{Network, gave, faulted, Gives}
 use Rattle.sf_state.specs.declared.state.State.{State}
 use Rattle.sf_state.specs.Standing.{Stands}
-use Rattle.sf_parts.specs.declared.meter.Meter.{Meter}
+use Rattle.sf_meter.specs.declared.meter.Meter.{Meter}
 use Rattle.sf_probe.specs.declared.reading.Readings.{Readings}
-use Rattle.sf_probe.specs.Readings.{readings_of}
+use Rattle.sf_probe.specs.Readings.{probe_readings}
 use Rattle.sf_step.specs.Stepping.{Steps, stepped, faulted_so, too_large, no_memory}
 use Rattle.sf_engine.specs.declared.engine.Engine.{Engine}
 use Rattle.sf_engine.specs.declared.engine.Sample.{Sample}
@@ -20,7 +20,7 @@ use Rattle.sf_engine.specs.declared.engine.EngineError.{EngineError}
 use Rattle.sf_engine.specs.declared.engine.EngineError.TheVariants.{Fault as Faulted}
 use Rattle.sf_engine.specs.Histories.{newest_input, last_input, after_start, after_step, BeginsAtZero, IsHistory, CanWait, Saves}
 use Rattle.sf_engine.specs.Planned.{main_of_plan, IsRunFor}
-use Rattle.sf_engine.specs.Running.{AreSavesOf, Runs, IsStopped, time_of, input_kind, last_of, MayStart, MayStep}
+use Rattle.sf_engine.specs.Running.{AreSavesOf, Runs, IsStopped, engine_time, input_kind, last_of, MayStart, MayStep}
 use Rattle.sf_engine.specs.Sampling.{Sampled, gave_value, had_fault, was_large, had_no_memory, answer_of}
 
 time-step : (d : ℕ) (x : Data) (L : Life) → BeginsAtZero (step d x ∷ L) → time (step d x ∷ L) ≡ time L + d
@@ -65,10 +65,10 @@ pub sampled_value : {F : Type 0} {h : _} {φ : AnswersByName} {p : Plan} {n : Ne
     → (Stands φ p s (main_of_plan p) L → Runs e n m L S)
     → z.time ≡ e.time → z.value ≡ y → z.readings ≡ r → Sampled n m L S (Ok z) e
 sampled_value {n = n} {m = m} {L = L} {y = y} {r = r} {z = z} q (stepped {k = k} G entered high stands) f at value read =
-    let c = q.no_more L (gave y (readings_of r)) k G in
+    let c = q.no_more L (gave y (probe_readings r)) k G in
     gave_value
-    (subst (λ (r : Readings). Gives n (closure m.body empty) L (gave z.value (readings_of r)) c.0) (sym read)
-    (subst (λ v. Gives n (closure m.body empty) L (gave v (readings_of r)) c.0) (sym value) c.1))
+    (subst (λ (r : Readings). Gives n (closure m.body empty) L (gave z.value (probe_readings r)) c.0) (sym read)
+    (subst (λ v. Gives n (closure m.body empty) L (gave v (probe_readings r)) c.0) (sym value) c.1))
     (at ∙ (f stands).time)
     (f stands)
 
@@ -150,11 +150,11 @@ pub takes_none : (v : Option Data) {a k : Kind} (b : Bool) → a ≡ k → b ≡
 takes_none v b same h tested typed = absurd (let t : b ≡ true = tested.1 (subst (λ k. IfSome v (λ y. HasKind y k)) (sym same) typed) in cc)
 
 -- the time that an engine may wait at is its history's
-pub wait_at : {F : Type 0} {h : _} {e : Engine F h} {n : Network} {m : Template} {L : Life} {S : Saves} {d : ℕ} → Runs e n m L S → CanWait (time_of e) d → CanWait (time L) d
+pub wait_at : {F : Type 0} {h : _} {e : Engine F h} {n : Network} {m : Template} {L : Life} {S : Saves} {d : ℕ} → Runs e n m L S → CanWait (engine_time e) d → CanWait (time L) d
 wait_at {d = d} R wait = subst (λ t. CanWait t d) R.time wait
 
 -- a test of a wait, failed
-pub no_wait_at : {F : Type 0} {h : _} {e : Engine F h} {n : Network} {m : Template} {L : Life} {S : Saves} {d : ℕ} (b : Bool) → Runs e n m L S → b ≡ false → (IsTrue b ↔ CanWait (time_of e) d) → ¬ CanWait (time L) d
+pub no_wait_at : {F : Type 0} {h : _} {e : Engine F h} {n : Network} {m : Template} {L : Life} {S : Saves} {d : ℕ} (b : Bool) → Runs e n m L S → b ≡ false → (IsTrue b ↔ CanWait (engine_time e) d) → ¬ CanWait (time L) d
 no_wait_at {d = d} b R h tested wait = absurd (let t : b ≡ true = tested.1 (subst (λ t. CanWait t d) (sym R.time) wait) in cc)
 
 -- an engine that may step has a history

@@ -1,6 +1,6 @@
 pub mod Acting
 pub mod Going
-pub mod Keeping
+pub mod Saving
 pub mod Following
 pub mod Boxed
 pub mod Planned

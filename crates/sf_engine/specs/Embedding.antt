@@ -1,7 +1,7 @@
 -- What an engine answers that takes a list of steps, and what it leaves.
 use Rattle.std.specs.Prelude.{◌≡◌, ◌≢◌, ℕ, List, [], ◌∷◌, Option, Some, None, IfSome, Result, Ok, Err}
 use Rattle.sf_value.specs.Values.{Data, HasKind}
-use Rattle.sf_probe.specs.Readings.{readings_of}
+use Rattle.sf_probe.specs.Readings.{probe_readings}
 use Rattle.sf_term.specs.Trees.{Template}
 use Rattle.sf_mean.specs.Lives.{Life, time}
 use Rattle.sf_mean.specs.Meaning.{Network, gave, Cost}
@@ -15,9 +15,9 @@ use Rattle.sf_engine.specs.Running.{Runs}
 use Rattle.sf_engine.specs.Sampling.{GivesOutcome, Starts, Advances}
 
 -- a sample is that at the end of a history
-pub record IsSampleAt (n : Network) (m : Template) (L : Life) (s : Sample) : Type 0 where
+pub record IsLastSample (n : Network) (m : Template) (L : Life) (s : Sample) : Type 0 where
   pub cost : Cost
-  pub given : GivesOutcome n m L (gave s.value (readings_of s.readings)) cost
+  pub given : GivesOutcome n m L (gave s.value (probe_readings s.readings)) cost
   pub at : s.time ≡ time L
 
 -- Engines over functions that are held by name.
@@ -32,7 +32,7 @@ module _ {F : Type 0} {h : _} where
         → Advances n m L S d x (Err f) e
         → Follows n m S L ((d, x) ∷ steps) [] (Some f) e
     follows : {L : Life} {d : ℕ} {x : Option Data} {steps : List (ℕ × Option Data)} {s : Sample} {ss : List Sample} {end : Option EngineError} {e : Engine F h}
-        → L ≢ [] → CanWait (time L) d → IfSome x (λ v. HasKind v m.input) → IsSampleAt n m (after_step L d x) s
+        → L ≢ [] → CanWait (time L) d → IfSome x (λ v. HasKind v m.input) → IsLastSample n m (after_step L d x) s
         → Follows n m S (after_step L d x) steps ss end e
         → Follows n m S L ((d, x) ∷ steps) (s ∷ ss) end e
 
@@ -46,6 +46,6 @@ module _ {F : Type 0} {h : _} where
         → L ≡ [] → HasKind x m.input → Runs e n m L S
         → Embeds n m L S x steps (Err Memory) e
     embeds : {r : Embedded} {s : Sample} {ss : List Sample} {e : Engine F h}
-        → L ≡ [] → HasKind x m.input → IsSampleAt n m (after_start x) s → r.samples.items ≡ s ∷ ss
+        → L ≡ [] → HasKind x m.input → IsLastSample n m (after_start x) s → r.samples.items ≡ s ∷ ss
         → Follows n m S (after_start x) steps ss r.ended e
         → Embeds n m L S x steps (Ok r) e

@@ -49,9 +49,9 @@ abbrev pub saved_under : Name → Saves → Option Life
 saved_under name S = lookup (bytes_eq name) S
 
 -- with a history kept under a name: in its place where the name is there, else behind all
-abbrev pub keep_under : Name → Life → Saves → Saves
-keep_under name L [] = (name, L) ∷ []
-keep_under name L (s ∷ S) = if bytes_eq name s.0 then (s.0, L) ∷ S else s ∷ keep_under name L S
+abbrev pub save_kept : Name → Life → Saves → Saves
+save_kept name L [] = (name, L) ∷ []
+save_kept name L (s ∷ S) = if bytes_eq name s.0 then (s.0, L) ∷ S else s ∷ save_kept name L S
 
 -- a history may be kept under a name: the name is there, or there are fewer than 64
 abbrev pub MaySave : Name → Saves → Type 0

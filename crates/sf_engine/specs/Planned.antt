@@ -6,9 +6,9 @@ use Rattle.sf_mean.specs.Lives.{Life, Process, closure, empty}
 use Rattle.sf_mean.specs.Meaning.{Network, Outcome, Cost, count, height, Gives}
 use Rattle.sf_mean.specs.Networks.{network_of}
 use Rattle.sf_check.specs.declared.checked.Checked.{Checked}
-use Rattle.sf_check.specs.Accepting.{program_of, checked_main}
-use Rattle.sf_parts.specs.declared.meter.Meter.{Meter}
-use Rattle.sf_parts.specs.Meters.{entered_of, height_of}
+use Rattle.sf_check.specs.Accepting.{accepted_program, checked_main}
+use Rattle.sf_meter.specs.declared.meter.Meter.{Meter}
+use Rattle.sf_meter.specs.Meters.{entered_of, meter_height}
 use Rattle.sf_law.specs.declared.plan.Plan.{Plan}
 use Rattle.sf_law.specs.Arena.{plan_tree, plan_main, network_of_plan}
 
@@ -28,5 +28,5 @@ IsRunFor φ p n m = MeansTheSame n (closure m.body empty) (network_of_plan φ p)
 
 -- by its meter, a sample of a network took no more than the network's meaning counts, where that has an outcome
 pub record TakesNoMore (φ : AnswersByName) (c : Checked) (L : Life) (m : Meter) : Type 0 where
-  pub few : (o : Outcome) (k : Cost) → Gives (network_of φ (program_of c)) (closure (checked_main c).body empty) L o k → entered_of m ≤ count k
-  pub low : (o : Outcome) (k : Cost) → Gives (network_of φ (program_of c)) (closure (checked_main c).body empty) L o k → height_of m ≤ height k
+  pub few : (o : Outcome) (k : Cost) → Gives (network_of φ (accepted_program c)) (closure (checked_main c).body empty) L o k → entered_of m ≤ count k
+  pub low : (o : Outcome) (k : Cost) → Gives (network_of φ (accepted_program c)) (closure (checked_main c).body empty) L o k → meter_height m ≤ height k

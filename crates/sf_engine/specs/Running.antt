@@ -48,13 +48,13 @@ module _ {F : Type 0} {h : _} where
   IsStopped e f = e.stopped ≡ Some f
 
   -- a stopped engine answers its fault, and stays stopped
-  pub record StopsWith {A : Type 0} (f : Fault) (r : Result A EngineError) (e : Engine F h) : Type 0 where
+  pub record EngineStops {A : Type 0} (f : Fault) (r : Result A EngineError) (e : Engine F h) : Type 0 where
     pub answer : r ≡ Err (Stopped f)
     pub stays : IsStopped e f
 
   -- milliseconds since the start
-  abbrev pub time_of : Engine F h → ℕ
-  time_of e = e.time
+  abbrev pub engine_time : Engine F h → ℕ
+  engine_time e = e.time
 
   -- the type of the inputs
   abbrev pub input_kind : Engine F h → Kind
@@ -74,5 +74,5 @@ module _ {F : Type 0} {h : _} where
   pub record MayStep (e : Engine F h) (d : ℕ) (x : Option Data) : Type 0 where
     pub goes_on : e.stopped ≡ None
     pub begun : last_of e ≢ None
-    pub wait : CanWait (time_of e) d
+    pub wait : CanWait (engine_time e) d
     pub typed : IfSome x (λ v. HasKind v (input_kind e))

@@ -4,7 +4,7 @@ use Rattle.sf_value.specs.Values.{Data, HasKind}
 use Rattle.sf_value.specs.declared.fault.ValueFault.{ValueFault}
 use Rattle.sf_value.specs.declared.fault.Fault.{Fault}
 use Rattle.sf_value.specs.declared.fault.Fault.TheVariants.{Value, Large, Memory}
-use Rattle.sf_probe.specs.Readings.{readings_of}
+use Rattle.sf_probe.specs.Readings.{probe_readings}
 use Rattle.sf_term.specs.Trees.{Template}
 use Rattle.sf_mean.specs.Lives.{Life, closure, empty, time}
 use Rattle.sf_mean.specs.Meaning.{Network, Outcome, gave, faulted, Cost, count, height, Gives}
@@ -33,7 +33,7 @@ module _ {F : Type 0} {h : _} where
   -- The sample at the end of a history, with the engine after it, which keeps what it kept.
   pub data Sampled (n : Network) (m : Template) (L : Life) (S : Saves) : Result Sample Fault → Engine F h → Type 0 where
     gave_value : {s : Sample} {k : Cost} {e : Engine F h}
-        → GivesOutcome n m L (gave s.value (readings_of s.readings)) k → s.time ≡ time L → Runs e n m L S
+        → GivesOutcome n m L (gave s.value (probe_readings s.readings)) k → s.time ≡ time L → Runs e n m L S
         → Sampled n m L S (Ok s) e
     had_fault : {x : ValueFault} {k : Cost} {e : Engine F h}
         → GivesOutcome n m L (faulted x) k → IsStopped e (Value x)

@@ -7,7 +7,7 @@ use Rattle.sf_mean.specs.Meaning.{Network}
 use Rattle.sf_engine.specs.declared.engine.Engine.{Engine}
 use Rattle.sf_engine.specs.declared.engine.EngineError.{EngineError}
 use Rattle.sf_engine.specs.declared.engine.EngineError.TheVariants.{NotStarted, NoSave, TooManySaves, Memory}
-use Rattle.sf_engine.specs.Histories.{Saves, saved_under, keep_under, MaySave}
+use Rattle.sf_engine.specs.Histories.{Saves, saved_under, save_kept, MaySave}
 use Rattle.sf_engine.specs.Running.{Runs}
 
 -- Engines over functions that are held by name.
@@ -25,7 +25,7 @@ module _ {F : Type 0} {h : _} where
         → L ≢ [] → MaySave name S → Runs e n m L S
         → Saved n m L S name (Err Memory) e
     saves : {e : Engine F h}
-        → L ≢ [] → MaySave name S → Runs e n m L (keep_under name L S)
+        → L ≢ [] → MaySave name S → Runs e n m L (save_kept name L S)
         → Saved n m L S name (Ok tt) e
 
   -- A return to the history under a name: the refusals in their order, and want of memory, which leave the engine as it

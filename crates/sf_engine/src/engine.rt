@@ -2,7 +2,7 @@
 ghost use Rattle.std.specs.Prelude.{◌≡◌, ◌≤◌, IfOk, None, Some};
 ghost use Rattle.sf_func.specs.Registries.{AnswersByName};
 ghost use Rattle.sf_mean.specs.Networks.{network_of};
-ghost use Rattle.sf_check.specs.Accepting.{program_of, checked_main};
+ghost use Rattle.sf_check.specs.Accepting.{accepted_program, checked_main};
 ghost use Rattle.sf_engine.specs.Planned.{IsRunFor};
 
 mod embed;
@@ -125,10 +125,10 @@ impl<F: Holds> Engine<F> {
     ghost use Rattle.sf_mean.specs.Lives.{Life, step, time};
     ghost use Rattle.sf_mean.specs.Meaning.{Network};
     ghost use Rattle.sf_mean.specs.Networks.{network_of};
-    ghost use Rattle.sf_check.specs.Accepting.{program_of, checked_main};
+    ghost use Rattle.sf_check.specs.Accepting.{accepted_program, checked_main};
     ghost use Rattle.sf_engine.specs.declared.engine.EngineError.TheVariants.{Stopped};
     ghost use Rattle.sf_engine.specs.Histories.{IsHistory, CanWait, Saves, after_start, after_step};
-    ghost use Rattle.sf_engine.specs.Running.{Runs, IsStopped, StopsWith, time_of, input_kind, last_of, MayStart, MayStep};
+    ghost use Rattle.sf_engine.specs.Running.{Runs, IsStopped, EngineStops, engine_time, input_kind, last_of, MayStart, MayStep};
     ghost use Rattle.sf_engine.specs.Sampling.{Sampled, Starts, Advances};
 
     /// An engine before its start. Its network may have been accepted with other functions: each sample is what its meaning
@@ -139,7 +139,7 @@ impl<F: Holds> Engine<F> {
         functions: F,
         mode: Mode,
     ) -> Result<Engine<F>, (Checked, F)>
-        ensures runs { IfOk result (λ e. Runs e (network_of (F.answers functions) (program_of checked)) (checked_main checked) [] []) }
+        ensures runs { IfOk result (λ e. Runs e (network_of (F.answers functions) (accepted_program checked)) (checked_main checked) [] []) }
         ensures handed_back { IfErr result (λ back. (back.0 ≡ checked) × (back.1 ≡ functions)) }
     {
         let Ok(input) = checked.input().clone_in(alloc) else {
@@ -168,7 +168,7 @@ impl<F: Holds> Engine<F> {
     pub fn start(&mut self, value: Value) -> Result<Sample, EngineError>
         ensures running { (n : Network) (m : Template) (L : Life) (S : Saves) → Runs self.old n m L S →
             Starts n m L S value result self.new }
-        ensures stopped { (f : Fault) → IsStopped self.old f → StopsWith f result self.new }
+        ensures stopped { (f : Fault) → IsStopped self.old f → EngineStops f result self.new }
     {
         self.look_at_start(&value)?;
         self.first_sample(value).map_err(EngineError::Fault)
@@ -180,7 +180,7 @@ impl<F: Holds> Engine<F> {
     pub fn step(&mut self, dt: u64, value: Option<Value>) -> Result<Sample, EngineError>
         ensures running { (n : Network) (m : Template) (L : Life) (S : Saves) → Runs self.old n m L S →
             Advances n m L S dt value result self.new }
-        ensures stopped { (f : Fault) → IsStopped self.old f → StopsWith f result self.new }
+        ensures stopped { (f : Fault) → IsStopped self.old f → EngineStops f result self.new }
     {
         if let Some(fault) = self.stopped {
             return Err(EngineError::Stopped(fault));
@@ -206,6 +206,7 @@ impl<F: Holds> Engine<F> {
     }
 
     /// What `step` does where it refuses nothing, for a caller that has seen to that.
+    #[inline(always)]
     pub fn next_sample(&mut self, dt: u64, value: Option<Value>) -> Result<Sample, Fault>
         requires { MayStep self.old dt value }
         ensures { (n : Network) (m : Template) (L : Life) (S : Saves) → Runs self.old n m L S → Sampled n m (after_step L dt value) S result self.new }
@@ -262,7 +263,7 @@ impl<F: Holds> Engine<F> {
 
     /// Whether a step may be so long.
     fn can_wait(&self, dt: u64) -> bool
-        ensures { IsTrue result ↔ CanWait (time_of self.now) dt }
+        ensures { IsTrue result ↔ CanWait (engine_time self.now) dt }
     {
         1 <= dt && dt <= LONGEST_STEP && self.time + dt <= LAST_TIME
     }
@@ -290,7 +291,7 @@ impl<F: Holds> Engine<F> {
 
     /// The sample at the next step of the history.
     fn sample(&mut self, dt: u64, input: Value) -> Result<Sample, Fault>
-        requires { time_of self.old + dt ≤ 4000000000000000 }
+        requires { engine_time self.old + dt ≤ 4000000000000000 }
         ensures { (n : Network) (m : Template) (L : Life) (S : Saves) → Runs self.old n m L S → IsHistory m.input (step dt input ∷ L) →
             Sampled n m (step dt input ∷ L) S result self.new }
     {
@@ -332,7 +333,7 @@ fn stop(stopped: &mut Option<Fault>, fault: Fault) -> Fault
 
 /// The plan of a network in a mode.
 fn planned(alloc: Global, checked: &Checked, mode: Mode) -> Result<Plan, AllocError>
-    ensures { IfOk result (λ p. (φ : AnswersByName) → IsRunFor φ p (network_of φ (program_of checked.now)) (checked_main checked.now)) }
+    ensures { IfOk result (λ p. (φ : AnswersByName) → IsRunFor φ p (network_of φ (accepted_program checked.now)) (checked_main checked.now)) }
 {
     match mode {
         Mode::Plain => plain(alloc, checked),

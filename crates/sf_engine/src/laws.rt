@@ -8,7 +8,7 @@ ghost use Rattle.sf_law.specs.declared.plan.Plan.{Plan};
 ghost use Rattle.sf_optimise.specs.Plans.{IsPlainPlan};
 ghost use Rattle.sf_mean.specs.Lives.{Life};
 ghost use Rattle.sf_optimise.specs.Optimised.{IsOptimisedPlan};
-ghost use Rattle.sf_parts.specs.declared.meter.Meter.{Meter};
+ghost use Rattle.sf_meter.specs.declared.meter.Meter.{Meter};
 ghost use Rattle.sf_probe.specs.declared.reading.Readings.{Readings};
 ghost use Rattle.sf_state.specs.declared.state.State.{State};
 ghost use Rattle.sf_step.specs.Stepping.{Steps};

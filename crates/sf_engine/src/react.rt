@@ -42,7 +42,7 @@ impl<F: Holds, A: Actuator> React<F, A> {
     ghost use Rattle.sf_engine.specs.declared.engine.Sample.{Sample};
     ghost use Rattle.sf_engine.specs.declared.engine.EngineError.{EngineError};
     ghost use Rattle.sf_engine.specs.Histories.{Saves};
-    ghost use Rattle.sf_engine.specs.Running.{Runs, IsStopped, StopsWith};
+    ghost use Rattle.sf_engine.specs.Running.{Runs, IsStopped, EngineStops};
     ghost use Rattle.sf_engine.specs.Sampling.{Starts, Advances};
     ghost use Rattle.sf_engine.specs.Acting.{Reacts};
     ghost use Rattle.sf_engine.specs.Reacting.{engine_of, actuator_of};
@@ -63,7 +63,7 @@ impl<F: Holds, A: Actuator> React<F, A> {
         ensures running { (n : Network) (m : Template) (L : Life) (S : Saves) → Runs (engine_of self.old) n m L S →
             (r : Result Sample EngineError) × Starts n m L S value r (engine_of self.new) × Reacts A.acts (actuator_of self.old) r result (actuator_of self.new) }
         ensures stopped { (f : Fault) → IsStopped (engine_of self.old) f →
-            StopsWith f result (engine_of self.new) × (actuator_of self.new ≡ actuator_of self.old) }
+            EngineStops f result (engine_of self.new) × (actuator_of self.new ≡ actuator_of self.old) }
     {
         let sample = self.engine.start(value)?;
         Ok(self.actuator.act(&sample))
@@ -77,7 +77,7 @@ impl<F: Holds, A: Actuator> React<F, A> {
         ensures running { (n : Network) (m : Template) (L : Life) (S : Saves) → Runs (engine_of self.old) n m L S →
             (r : Result Sample EngineError) × Advances n m L S dt value r (engine_of self.new) × Reacts A.acts (actuator_of self.old) r result (actuator_of self.new) }
         ensures stopped { (f : Fault) → IsStopped (engine_of self.old) f →
-            StopsWith f result (engine_of self.new) × (actuator_of self.new ≡ actuator_of self.old) }
+            EngineStops f result (engine_of self.new) × (actuator_of self.new ≡ actuator_of self.old) }
     {
         let sample = self.engine.step(dt, value)?;
         Ok(self.actuator.act(&sample))

@@ -11,12 +11,12 @@ use Rattle.sf_value.specs.Values.{Name}
 use Rattle.sf_refusal.specs.declared.rule.Rule.TheVariants.{DuplicateName}
 use Rattle.sf_refusal.specs.declared.refusal.Breach.{Breach}
 use Rattle.sf_refusal.specs.Refusals.{breach_of}
-use Rattle.sf_expr.specs.Expressions.{names_in}
+use Rattle.sf_expr.specs.Expressions.{names_of_pattern}
 use Rattle.sf_expr.specs.Patterns.{PlacedPattern, placed_unnamed, placed_name, placed_both, pattern_of}
 use Rattle.sf_expr.specs.Typing.{AllDifferent}
 use Rattle.sf_expr.specs.Inference.{is_among}
 use Rattle.sf_expr.specs.Meanings.{names_seen}
-use Rattle.sf_expr.specs.Judging.{◌>>=◌, seen_with}
+use Rattle.sf_expr.specs.Judging.{◌>>=◌, judged_seen}
 use Rattle.sf_expr.proofs.Inferred.{not_among}
 
 -- a name that was seen
@@ -53,8 +53,8 @@ among_contains n (y ∷ ys) h = each (bytes_eq n y) (bytes_eq-Decides n y) (amon
 
 -- The names of a pattern are put behind those that were seen where all are different, and where they are not one is refused.
 abbrev pub Apart : List Name → PlacedPattern → Type 0
-Apart seen p = ((seen_with seen p ≡ Ok (seen ++ names_in (pattern_of p))) × AllDifferent (seen ++ names_in (pattern_of p)))
-    ⊎ ((b : Breach) × (seen_with seen p ≡ Err b) × (AllDifferent (seen ++ names_in (pattern_of p)) → ⊥))
+Apart seen p = ((judged_seen seen p ≡ Ok (seen ++ names_of_pattern (pattern_of p))) × AllDifferent (seen ++ names_of_pattern (pattern_of p)))
+    ⊎ ((b : Breach) × (judged_seen seen p ≡ Err b) × (AllDifferent (seen ++ names_of_pattern (pattern_of p)) → ⊥))
 
 pub apart_seen : (seen : List Name) (p : PlacedPattern) → AllDifferent seen → Apart seen p
 apart_seen seen placed_unnamed h = inl (ap Ok (sym (append-nil seen)), subst (λ ns. AllDifferent ns) (sym (append-nil seen)) h)
@@ -64,9 +64,9 @@ apart_seen seen (placed_name n s) h = each (is_among n seen) refl
     each true e = inr (breach_of DuplicateName s, ap (λ b. cond b (Err (breach_of DuplicateName s)) (Ok (seen ++ n ∷ []))) e, λ d. apart_last seen n d (among_contains n seen e))
     each false e = inl (ap (λ b. cond b (Err (breach_of DuplicateName s)) (Ok (seen ++ n ∷ []))) e, apart_push seen n h (λ c. All-contains (λ y. n ≢ y) seen n (not_among n seen e) c refl))
 apart_seen seen (placed_both p q) h = elim (apart_seen seen p h) [
-  | inr r ↦ inr (r.0, ap (λ j. j >>= λ more. seen_with more q) r.1, λ d. r.2 (apart_front (seen ++ names_in (pattern_of p)) (names_in (pattern_of q)) (subst (λ ns. AllDifferent ns) (sym (append_assoc seen (names_in (pattern_of p)) (names_in (pattern_of q)))) d)))
-  | inl d ↦ elim (apart_seen (seen ++ names_in (pattern_of p)) q d.1) [
-    | inr r ↦ inr (r.0, ap (λ j. j >>= λ more. seen_with more q) d.0 ∙ r.1, λ e. r.2 (subst (λ ns. AllDifferent ns) (sym (append_assoc seen (names_in (pattern_of p)) (names_in (pattern_of q)))) e))
-    | inl k ↦ inl (ap (λ j. j >>= λ more. seen_with more q) d.0 ∙ k.0 ∙ ap Ok (append_assoc seen (names_in (pattern_of p)) (names_in (pattern_of q))), subst (λ ns. AllDifferent ns) (append_assoc seen (names_in (pattern_of p)) (names_in (pattern_of q))) k.1)
+  | inr r ↦ inr (r.0, ap (λ j. j >>= λ more. judged_seen more q) r.1, λ d. r.2 (apart_front (seen ++ names_of_pattern (pattern_of p)) (names_of_pattern (pattern_of q)) (subst (λ ns. AllDifferent ns) (sym (append_assoc seen (names_of_pattern (pattern_of p)) (names_of_pattern (pattern_of q)))) d)))
+  | inl d ↦ elim (apart_seen (seen ++ names_of_pattern (pattern_of p)) q d.1) [
+    | inr r ↦ inr (r.0, ap (λ j. j >>= λ more. judged_seen more q) d.0 ∙ r.1, λ e. r.2 (subst (λ ns. AllDifferent ns) (sym (append_assoc seen (names_of_pattern (pattern_of p)) (names_of_pattern (pattern_of q)))) e))
+    | inl k ↦ inl (ap (λ j. j >>= λ more. judged_seen more q) d.0 ∙ k.0 ∙ ap Ok (append_assoc seen (names_of_pattern (pattern_of p)) (names_of_pattern (pattern_of q))), subst (λ ns. AllDifferent ns) (append_assoc seen (names_of_pattern (pattern_of p)) (names_of_pattern (pattern_of q))) k.1)
   ]
 ]

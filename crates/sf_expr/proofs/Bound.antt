@@ -9,10 +9,10 @@ use Rattle.sf_expr.specs.Expressions.{Pattern, both}
 use Rattle.sf_expr.specs.Refusals.{BindRefused}
 use Rattle.sf_expr.specs.Patterns.{PlacedPattern, placed_both, pattern_of}
 use Rattle.sf_func.specs.Registries.{TypesByName}
-use Rattle.sf_expr.specs.Typing.{Names, only_functions, typed_name, untyped_name, type_of_name, functions_of, with_types, AddsNames, adds_nothing, adds_name, adds_both, Binds}
+use Rattle.sf_expr.specs.Typing.{Names, only_functions, typed_name, untyped_name, type_of_name, functions_of, names_and_functions, AddsNames, adds_nothing, adds_name, adds_both, Binds}
 use Rattle.std.specs.Prelude.{bytes_eq}
 use Rattle.sf_value.specs.Values.{Name}
-use Rattle.sf_expr.specs.Meanings.{Meant, of_value, of_process, of_collection, Entries, entry_before, names_from}
+use Rattle.sf_expr.specs.Meanings.{Meant, of_value, of_process, of_collection, Entries, entry_before, value_names}
 
 -- names in the place of the functions behind others
 abbrev pub over : Names → Names → Names
@@ -20,11 +20,11 @@ over Q (only_functions fs) = Q
 over Q (typed_name x t R) = typed_name x t (over Q R)
 over Q (untyped_name x R) = untyped_name x (over Q R)
 
-pub names_over : (es fs : Entries) → names_from (es ++ fs) ≡ over (names_from fs) (names_from es)
+pub names_over : (es fs : Entries) → value_names (es ++ fs) ≡ over (value_names fs) (value_names es)
 names_over [] fs = refl
 names_over (e ∷ es) fs = each e.1 (names_over es fs)
   where
-    each : (m : Meant) → names_from (es ++ fs) ≡ over (names_from fs) (names_from es) → entry_before e.0 m (names_from (es ++ fs)) ≡ over (names_from fs) (entry_before e.0 m (names_from es))
+    each : (m : Meant) → value_names (es ++ fs) ≡ over (value_names fs) (value_names es) → entry_before e.0 m (value_names (es ++ fs)) ≡ over (value_names fs) (entry_before e.0 m (value_names es))
     each (of_value t) rest = ap (typed_name e.0 t) rest
     each (of_process a b) rest = ap (untyped_name e.0) rest
     each (of_collection k a b) rest = ap (untyped_name e.0) rest
@@ -35,30 +35,30 @@ adds_over Q adds_name = adds_name
 adds_over Q (adds_both a b) = adds_both (adds_over Q a) (adds_over Q b)
 
 -- a pattern whose names are put around names is bound there
-pub bound_within : (es fs gs : Entries) {p : Pattern} {t : Kind} → gs ≡ es ++ fs → Binds p t (only_functions []) (names_from es) → Binds p t (names_from fs) (names_from gs)
+pub bound_within : (es fs gs : Entries) {p : Pattern} {t : Kind} → gs ≡ es ++ fs → Binds p t (only_functions []) (value_names es) → Binds p t (value_names fs) (value_names gs)
 bound_within es fs gs {p} {t} more b = record {
-  adds = subst (λ (S : Names). AddsNames p t (names_from fs) S) (sym (ap names_from more ∙ names_over es fs)) (adds_over (names_from fs) b.adds);
+  adds = subst (λ (S : Names). AddsNames p t (value_names fs) S) (sym (ap value_names more ∙ names_over es fs)) (adds_over (value_names fs) b.adds);
   apart = b.apart;
 }
 
 -- the functions are those that were given
-pub functions_with : (fs : TypesByName) (R : Names) → functions_of (with_types fs R) ≡ fs
+pub functions_with : (fs : TypesByName) (R : Names) → functions_of (names_and_functions fs R) ≡ fs
 functions_with fs (only_functions gs) = refl
 functions_with fs (typed_name y t R) = functions_with fs R
 functions_with fs (untyped_name y R) = functions_with fs R
 
 -- and has the same type
-pub type_with : (fs : TypesByName) (x : Name) (R : Names) → type_of_name x (with_types fs R) ≡ type_of_name x R
+pub type_with : (fs : TypesByName) (x : Name) (R : Names) → type_of_name x (names_and_functions fs R) ≡ type_of_name x R
 type_with fs x (only_functions gs) = refl
 type_with fs x (typed_name y t R) = ap (λ (o : Option Kind). cond (bytes_eq x y) (Some t) o) (type_with fs x R)
 type_with fs x (untyped_name y R) = ap (λ (o : Option Kind). cond (bytes_eq x y) None o) (type_with fs x R)
 
-pub adds_with_types : (fs : TypesByName) {p : Pattern} {t : Kind} {R S : Names} → AddsNames p t R S → AddsNames p t (with_types fs R) (with_types fs S)
+pub adds_with_types : (fs : TypesByName) {p : Pattern} {t : Kind} {R S : Names} → AddsNames p t R S → AddsNames p t (names_and_functions fs R) (names_and_functions fs S)
 adds_with_types fs adds_nothing = adds_nothing
 adds_with_types fs adds_name = adds_name
 adds_with_types fs (adds_both a b) = adds_both (adds_with_types fs a) (adds_with_types fs b)
 
-pub binds_with : (fs : TypesByName) {p : Pattern} {t : Kind} {R S : Names} → Binds p t R S → Binds p t (with_types fs R) (with_types fs S)
+pub binds_with : (fs : TypesByName) {p : Pattern} {t : Kind} {R S : Names} → Binds p t R S → Binds p t (names_and_functions fs R) (names_and_functions fs S)
 binds_with fs b = record { adds = adds_with_types fs b.adds; apart = b.apart }
 
 -- both parts of a pattern add their names

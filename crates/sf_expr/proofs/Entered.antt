@@ -10,7 +10,7 @@ use Rattle.sf_arena.specs.declared.arena.ArenaRefusal.{ArenaRefusal}
 use Rattle.sf_arena.specs.declared.arena.ArenaRefusal.TheVariants.{TooMany, TooDeep, Memory}
 use Rattle.sf_arena.specs.declared.entry.Entry.{Entry}
 use Rattle.sf_arena.specs.Arenas.{entries_of}
-use Rattle.sf_arena.specs.Folded.{trees, tree_at}
+use Rattle.sf_arena.specs.Folded.{trees, folded_tree}
 use Rattle.sf_arena.specs.Items.{Added}
 use Rattle.sf_arena.proofs.Grown.{added_counted, added_within, added_fresh, added_item, each_item, tree_kept, tree_added, each_tree, tree_made, trees-same, added_or_same, Grows, grows_same, grows_added, shallow_at, few_entries, shallow_entries}
 use Rattle.sf_expr.specs.declared.exprs.ExprNode.{ExprNode}
@@ -25,8 +25,8 @@ use Rattle.sf_expr.specs.declared.stored.StoredFunction.{StoredFunction}
 use Rattle.sf_expr.specs.Expressions.{Literal, Expression, variable, literal, paired, applied, operation, conditional, mapped, folded, called, function, depth, pattern_depth, function_depth}
 use Rattle.sf_expr.specs.Patterns.{PlacedPattern, placed_unnamed, pattern_of}
 use Rattle.sf_expr.specs.Inference.{is_valued}
-use Rattle.sf_expr.specs.Entries.{Beside, IsArena, AreValued, IsShallow, AreShallowPatterns, IsClosed, AreFunctions, zero_expression, among, name_among, none_of_unit, literal_among, placed_among, made_over, entry_made, needs, needs_names, needs_constants, needs_patterns, has_narrow, zero_entry, entry_at, expressions, expression_at, no_function, function_entry}
-use Rattle.sf_expr.specs.Arena.{count_of, function_count, name_count, constant_count, pattern_count, next_name, next_constant, next_pattern, Holds, HoldsFunction, HoldsName, HoldsConstant, HoldsPattern, beside, expression, entry_of, node_at, name_at, literal_at, placed_at, spot_at, pattern_at, body_at, function_at, expression_of, Builds, builds_unit, builds_truth, builds_constant, builds_int, builds_name, builds_pair, builds_applied, builds_operation, builds_conditional, builds_mapped, builds_folded, builds_called, PartsBelow, HoldsParts, Keeps, Adds, AddsName, AddsConstant, AddsPattern, AddsFunction, IsUnchanged, id_number}
+use Rattle.sf_expr.specs.Entries.{Beside, IsArena, AreValued, IsShallow, AreShallowPatterns, IsClosed, AreFunctions, zero_expression, among, name_among, none_of_unit, literal_among, placed_among, made_over, entry_made, needs, needs_names, needs_constants, needs_patterns, has_narrow, zero_entry, listed_entry, expressions, entry_expression, no_function, function_entry}
+use Rattle.sf_expr.specs.Arena.{arena_count, function_count, name_count, constant_count, pattern_count, next_name, next_constant, next_pattern, Holds, HoldsFunction, HoldsName, HoldsConstant, HoldsPattern, beside, expression, entry_of, node_at, name_at, literal_at, stored_pattern, spot_at, argument_pattern, body_id, function_at, node_expression, Builds, builds_unit, builds_truth, builds_constant, builds_int, builds_name, builds_pair, builds_applied, builds_operation, builds_conditional, builds_mapped, builds_folded, builds_called, PartsBelow, HoldsParts, Extends, Adds, AddsName, AddsConstant, AddsPattern, AddsFunction, IsUnchanged, id_number}
 
 -- what an expression is made over are its parts alone
 local : (b : Beside) (es more : List Expression) (entry : Entry ExprNode) → needs entry.node ≤ length es → entry_made b (es ++ more) entry ≡ entry_made b es entry
@@ -70,14 +70,14 @@ same_beside b c es (nodes.Mapped n) m h k l = ap (λ q. mapped (among es n.part.
 same_beside b c es (nodes.Folded n) m h k l = ap (λ q. folded (among es n.first.0) n.folding (among es n.second.0) (pattern_of q) (among es n.body.0)) (m.patterns.same n.pattern.0 placed_unnamed (omega arith))
 same_beside b c es (nodes.Called g s i) m h k l = ap (λ n. called n (among es i.0)) (m.names.same g.0 [] (omega arith))
 
-expressions_beside : (b c : Beside) (entries : List (Entry ExprNode)) → IsMore b c → IsArena b entries → (i : ℕ) → expression_at c entries i ≡ expression_at b entries i
-unfolding tree_at
+expressions_beside : (b c : Beside) (entries : List (Entry ExprNode)) → IsMore b c → IsArena b entries → (i : ℕ) → entry_expression c entries i ≡ entry_expression b entries i
+unfolding folded_tree
 expressions_beside b c entries m a i =
-    ap (λ es. among es i) (trees-same (entry_made c) (entry_made b) zero_entry entries (λ j es h. same_beside b c es (entry_at entries j).node m (a.named j) (a.constants j) (a.patterned j)))
+    ap (λ es. among es i) (trees-same (entry_made c) (entry_made b) zero_entry entries (λ j es h. same_beside b c es (listed_entry entries j).node m (a.named j) (a.constants j) (a.patterned j)))
 
 -- nothing is an arena
 pub arena_empty : (b : Beside) → IsArena b []
-unfolding tree_at trees
+unfolding folded_tree trees
 arena_empty b = record {
   in_order = λ i. omega arith;
   named = λ i. omega arith;
@@ -140,8 +140,8 @@ literals_put old new l true e a h = subst (λ ls. AreValued ls) (sym e) (All-pus
 literals_put old new l false e a h = subst (λ ls. AreValued ls) (sym e) a
 
 -- the expression of a node, as the entries make it
-made_expression : (x : Exprs) (n : ExprNode) → made_over (beside x) (expressions (beside x) (entries_of x.arena)) n ≡ expression_of x n
-unfolding expression name_at literal_at placed_at tree_at
+made_expression : (x : Exprs) (n : ExprNode) → made_over (beside x) (expressions (beside x) (entries_of x.arena)) n ≡ node_expression x n
+unfolding expression name_at literal_at stored_pattern folded_tree
 made_expression x nodes.Unit = refl
 made_expression x (nodes.Truth t) = refl
 made_expression x (nodes.Int z) = refl
@@ -179,7 +179,7 @@ needed x (nodes.Folded n) h = record { parts = omega (arith, h.0, h.1, h.3); nam
 needed x (nodes.Called g s a) h = record { parts = omega (arith, h.1); names = h.0; constants = omega arith; patterns = omega arith }
 
 -- the entries after a call that adds, whatever it answers
-pub arena_put : (x : Exprs) (new : List (Entry ExprNode)) (n : ExprNode) (d : ℕ) (s : Spot) (r : Result ℕ ArenaRefusal) → IfOk r (Added (entries_of x.arena) new (record { node = n; depth = d; spot = s })) → OnErr r (new ≡ entries_of x.arena) → HoldsParts x n → d ≡ depth (expression_of x n) → IsTrue (has_narrow n) → IsArena (beside x) new
+pub arena_put : (x : Exprs) (new : List (Entry ExprNode)) (n : ExprNode) (d : ℕ) (s : Spot) (r : Result ℕ ArenaRefusal) → IfOk r (Added (entries_of x.arena) new (record { node = n; depth = d; spot = s })) → OnErr r (new ≡ entries_of x.arena) → HoldsParts x n → d ≡ depth (node_expression x n) → IsTrue (has_narrow n) → IsArena (beside x) new
 arena_put x new n d s r ok err held measured narrow = ⊎_elim added same (added_or_same (entries_of x.arena) new (record { node = n; depth = d; spot = s }) r ok err)
   where
     added : Added (entries_of x.arena) new (record { node = n; depth = d; spot = s }) (length (entries_of x.arena)) → IsArena (beside x) new
@@ -203,8 +203,8 @@ functions_put n old new f true e a body shallow = subst (λ fs. AreFunctions n f
 functions_put n old new f false e a body shallow = subst (λ fs. AreFunctions n fs) (sym e) a
 
 -- an arena of which each list has grown keeps what it held, where the expressions stay
-keeps : (old new : Exprs) → Grows (entries_of old.arena) (entries_of new.arena) → Grows old.names.items new.names.items → Grows old.constants.items new.constants.items → Grows old.patterns.items new.patterns.items → Grows old.functions.items new.functions.items → ((i : ExprId) → Holds old i → expression new i ≡ expression old i) → Keeps old new
-unfolding Holds HoldsName HoldsConstant HoldsPattern HoldsFunction node_at spot_at name_at literal_at placed_at pattern_at body_at
+keeps : (old new : Exprs) → Grows (entries_of old.arena) (entries_of new.arena) → Grows old.names.items new.names.items → Grows old.constants.items new.constants.items → Grows old.patterns.items new.patterns.items → Grows old.functions.items new.functions.items → ((i : ExprId) → Holds old i → expression new i ≡ expression old i) → Extends old new
+unfolding Holds HoldsName HoldsConstant HoldsPattern HoldsFunction node_at spot_at name_at literal_at stored_pattern argument_pattern body_id
 keeps old new e n l p f trees = record {
   holds = λ i h. omega (arith, e.longer);
   nodes = λ i h. ap (λ (k : Entry ExprNode). k.node) (e.same i.0 zero_entry h);
@@ -229,16 +229,16 @@ pub same_sides : (ns ms : List Name) (ls ks : List Literal) (ps qs : List Placed
 same_sides ns ms ls ks ps qs n l p = ap₂ (λ (ns : List Name) (s : List Literal × List PlacedPattern). record { names = ns; literals = s.0; patterns = s.1 }) n (ap₂ (λ (ls : List Literal) (ps : List PlacedPattern). (ls, ps)) l p)
 
 -- an entry that is added adds its expression
-pub adds_added : (old new : Exprs) (id : ExprId) (n : ExprNode) (d : ℕ) (s : Spot) → Added (entries_of old.arena) (entries_of new.arena) (record { node = n; depth = d; spot = s }) id.0 → new.names.items ≡ old.names.items → new.constants.items ≡ old.constants.items → new.patterns.items ≡ old.patterns.items → new.functions.items ≡ old.functions.items → Adds old new id n (expression_of old n) s
-unfolding count_of function_count name_count constant_count pattern_count Holds expression node_at spot_at
+pub adds_added : (old new : Exprs) (id : ExprId) (n : ExprNode) (d : ℕ) (s : Spot) → Added (entries_of old.arena) (entries_of new.arena) (record { node = n; depth = d; spot = s }) id.0 → new.names.items ≡ old.names.items → new.constants.items ≡ old.constants.items → new.patterns.items ≡ old.patterns.items → new.functions.items ≡ old.functions.items → Adds old new id n (node_expression old n) s
+unfolding arena_count function_count name_count constant_count pattern_count Holds expression node_at spot_at
 adds_added old new id n d s added same_names same_constants same_patterns same_functions = record {
   within = added_within _ _ _ _ added;
   fresh = added_fresh _ _ _ _ added;
   node = ap (λ (k : Entry ExprNode). k.node) here;
-  is = ap (λ b. expression_at b (entries_of new.arena) id.0) same ∙ tree_added _ _ _ _ added (entry_made (beside old)) zero_expression ∙ made_expression old n;
+  is = ap (λ b. entry_expression b (entries_of new.arena) id.0) same ∙ tree_added _ _ _ _ added (entry_made (beside old)) zero_expression ∙ made_expression old n;
   spotted = ap (λ (k : Entry ExprNode). k.spot) here;
   kept = keeps old new (grows_added _ _ _ _ added) (grows_same _ _ same_names) (grows_same _ _ same_constants) (grows_same _ _ same_patterns) (grows_same _ _ same_functions)
-      (λ i h. ap (λ b. expression_at b (entries_of new.arena) i.0) same ∙ tree_kept _ _ _ _ added (entry_made (beside old)) zero_expression i.0 h);
+      (λ i h. ap (λ b. entry_expression b (entries_of new.arena) i.0) same ∙ tree_kept _ _ _ _ added (entry_made (beside old)) zero_expression i.0 h);
   count = added_counted _ _ _ _ added;
   functions = ap length same_functions;
   names = ap length same_names;
@@ -249,20 +249,20 @@ adds_added old new id n d s added same_names same_constants same_patterns same_f
     same : beside new ≡ beside old
     same = same_sides _ _ _ _ _ _ same_names same_constants same_patterns
 
-    here : entry_at (entries_of new.arena) id.0 ≡ record { node = n; depth = d; spot = s }
+    here : listed_entry (entries_of new.arena) id.0 ≡ record { node = n; depth = d; spot = s }
     here = added_item _ _ _ _ added zero_entry
 
 -- a name that is put behind is added
 pub adds_name_put : (old new : Exprs) (n : NameId) (x : Name) → Added old.names.items new.names.items x n.0 → entries_of new.arena ≡ entries_of old.arena → new.constants.items ≡ old.constants.items → new.patterns.items ≡ old.patterns.items → new.functions.items ≡ old.functions.items → AddsName old new n x
-unfolding count_of function_count name_count constant_count pattern_count next_name next_constant Holds HoldsName HoldsConstant expression node_at spot_at name_at literal_at pattern_at body_at
+unfolding arena_count function_count name_count constant_count pattern_count next_name next_constant Holds HoldsName HoldsConstant expression node_at spot_at name_at literal_at argument_pattern body_id
 adds_name_put old new n x added same_entries same_other same_patterns same_functions = record {
   next = ap (λ (i : ℕ). record { 0 = i }) added.next;
   within = added_within _ _ _ _ added;
   is = added_item _ _ _ _ added [];
   kept = keeps old new (grows_same _ _ same_entries) (grows_added _ _ _ _ added) (grows_same _ _ same_other) (grows_same _ _ same_patterns) (grows_same _ _ same_functions) (λ i h. trees i);
-  nodes = λ i. ap (λ es. (entry_at es i.0).node) same_entries;
+  nodes = λ i. ap (λ es. (listed_entry es i.0).node) same_entries;
   trees = trees;
-  spots = λ i. ap (λ es. (entry_at es i.0).spot) same_entries;
+  spots = λ i. ap (λ es. (listed_entry es i.0).spot) same_entries;
   patterns = λ f. ap (λ fs. (function_entry fs f.0).pattern) same_functions;
   bodies = λ f. ap (λ fs. (function_entry fs f.0).body) same_functions;
   count = ap length same_entries;
@@ -273,19 +273,19 @@ adds_name_put old new n x added same_entries same_other same_patterns same_funct
 }
   where
     trees : (i : ExprId) → expression new i ≡ expression old i
-    trees i = ap (λ es. expression_at (beside new) es i.0) same_entries ∙ expressions_beside (beside old) (beside new) (entries_of old.arena) (record { names = grows_added _ _ _ _ added; literals = grows_same _ _ same_other; patterns = grows_same _ _ same_patterns }) old.ordered i.0
+    trees i = ap (λ es. entry_expression (beside new) es i.0) same_entries ∙ expressions_beside (beside old) (beside new) (entries_of old.arena) (record { names = grows_added _ _ _ _ added; literals = grows_same _ _ same_other; patterns = grows_same _ _ same_patterns }) old.ordered i.0
 
 -- a constant that is put behind is added
 pub adds_constant_put : (old new : Exprs) (n : ConstantId) (x : Literal) → Added old.constants.items new.constants.items x n.0 → entries_of new.arena ≡ entries_of old.arena → new.names.items ≡ old.names.items → new.patterns.items ≡ old.patterns.items → new.functions.items ≡ old.functions.items → AddsConstant old new n x
-unfolding count_of function_count name_count constant_count pattern_count next_name next_constant Holds HoldsName HoldsConstant expression node_at spot_at name_at literal_at pattern_at body_at
+unfolding arena_count function_count name_count constant_count pattern_count next_name next_constant Holds HoldsName HoldsConstant expression node_at spot_at name_at literal_at argument_pattern body_id
 adds_constant_put old new n x added same_entries same_other same_patterns same_functions = record {
   next = ap (λ (i : ℕ). record { 0 = i }) added.next;
   within = added_within _ _ _ _ added;
   is = added_item _ _ _ _ added none_of_unit;
   kept = keeps old new (grows_same _ _ same_entries) (grows_same _ _ same_other) (grows_added _ _ _ _ added) (grows_same _ _ same_patterns) (grows_same _ _ same_functions) (λ i h. trees i);
-  nodes = λ i. ap (λ es. (entry_at es i.0).node) same_entries;
+  nodes = λ i. ap (λ es. (listed_entry es i.0).node) same_entries;
   trees = trees;
-  spots = λ i. ap (λ es. (entry_at es i.0).spot) same_entries;
+  spots = λ i. ap (λ es. (listed_entry es i.0).spot) same_entries;
   patterns = λ f. ap (λ fs. (function_entry fs f.0).pattern) same_functions;
   bodies = λ f. ap (λ fs. (function_entry fs f.0).body) same_functions;
   count = ap length same_entries;
@@ -296,19 +296,19 @@ adds_constant_put old new n x added same_entries same_other same_patterns same_f
 }
   where
     trees : (i : ExprId) → expression new i ≡ expression old i
-    trees i = ap (λ es. expression_at (beside new) es i.0) same_entries ∙ expressions_beside (beside old) (beside new) (entries_of old.arena) (record { names = grows_same _ _ same_other; literals = grows_added _ _ _ _ added; patterns = grows_same _ _ same_patterns }) old.ordered i.0
+    trees i = ap (λ es. entry_expression (beside new) es i.0) same_entries ∙ expressions_beside (beside old) (beside new) (entries_of old.arena) (record { names = grows_same _ _ same_other; literals = grows_added _ _ _ _ added; patterns = grows_same _ _ same_patterns }) old.ordered i.0
 
 -- a pattern that is put behind is added
 pub adds_pattern_put : (old new : Exprs) (p : PatternId) (x : PlacedPattern) → Added old.patterns.items new.patterns.items x p.0 → entries_of new.arena ≡ entries_of old.arena → new.names.items ≡ old.names.items → new.constants.items ≡ old.constants.items → new.functions.items ≡ old.functions.items → AddsPattern old new p x
-unfolding count_of function_count name_count constant_count pattern_count next_pattern Holds HoldsPattern expression node_at spot_at placed_at pattern_at body_at
+unfolding arena_count function_count name_count constant_count pattern_count next_pattern Holds HoldsPattern expression node_at spot_at stored_pattern argument_pattern body_id
 adds_pattern_put old new p x added same_entries same_names same_constants same_functions = record {
   next = ap (λ (i : ℕ). record { 0 = i }) added.next;
   within = added_within _ _ _ _ added;
   is = added_item _ _ _ _ added placed_unnamed;
   kept = keeps old new (grows_same _ _ same_entries) (grows_same _ _ same_names) (grows_same _ _ same_constants) (grows_added _ _ _ _ added) (grows_same _ _ same_functions) (λ i h. trees i);
-  nodes = λ i. ap (λ es. (entry_at es i.0).node) same_entries;
+  nodes = λ i. ap (λ es. (listed_entry es i.0).node) same_entries;
   trees = trees;
-  spots = λ i. ap (λ es. (entry_at es i.0).spot) same_entries;
+  spots = λ i. ap (λ es. (listed_entry es i.0).spot) same_entries;
   patterns = λ f. ap (λ fs. (function_entry fs f.0).pattern) same_functions;
   bodies = λ f. ap (λ fs. (function_entry fs f.0).body) same_functions;
   count = ap length same_entries;
@@ -319,11 +319,11 @@ adds_pattern_put old new p x added same_entries same_names same_constants same_f
 }
   where
     trees : (i : ExprId) → expression new i ≡ expression old i
-    trees i = ap (λ es. expression_at (beside new) es i.0) same_entries ∙ expressions_beside (beside old) (beside new) (entries_of old.arena) (record { names = grows_same _ _ same_names; literals = grows_same _ _ same_constants; patterns = grows_added _ _ _ _ added }) old.ordered i.0
+    trees i = ap (λ es. entry_expression (beside new) es i.0) same_entries ∙ expressions_beside (beside old) (beside new) (entries_of old.arena) (record { names = grows_same _ _ same_names; literals = grows_same _ _ same_constants; patterns = grows_added _ _ _ _ added }) old.ordered i.0
 
 -- a function that is put behind is added
 pub adds_function_put : (old new : Exprs) (f : StoredFunction) (id : FunctionId) → Added old.functions.items new.functions.items f id.0 → entries_of new.arena ≡ entries_of old.arena → new.names.items ≡ old.names.items → new.constants.items ≡ old.constants.items → new.patterns.items ≡ old.patterns.items → AddsFunction old new id f.pattern f.body
-unfolding count_of function_count name_count constant_count pattern_count Holds HoldsFunction expression pattern_at body_at
+unfolding arena_count function_count name_count constant_count pattern_count Holds HoldsFunction expression argument_pattern body_id
 adds_function_put old new f id added same_entries same_names same_constants same_patterns = record {
   within = added_within _ _ _ _ added;
   fresh = added_fresh _ _ _ _ added;
@@ -342,20 +342,20 @@ adds_function_put old new f id added same_entries same_names same_constants same
     here = added_item _ _ _ _ added no_function
 
     trees : (i : ExprId) → expression new i ≡ expression old i
-    trees i = ap₂ (λ b es. expression_at b es i.0) (same_sides _ _ _ _ _ _ same_names same_constants same_patterns) same_entries
+    trees i = ap₂ (λ b es. entry_expression b es i.0) (same_sides _ _ _ _ _ _ same_names same_constants same_patterns) same_entries
 
 -- the same entries, names, constants and functions show the same
 pub unchanged : (old new : Exprs) → entries_of new.arena ≡ entries_of old.arena → new.names.items ≡ old.names.items → new.constants.items ≡ old.constants.items → new.patterns.items ≡ old.patterns.items → new.functions.items ≡ old.functions.items → IsUnchanged old new
-unfolding count_of function_count name_count constant_count pattern_count expression node_at spot_at name_at literal_at placed_at pattern_at body_at
+unfolding arena_count function_count name_count constant_count pattern_count expression node_at spot_at name_at literal_at stored_pattern argument_pattern body_id
 unchanged old new e n l p f = record {
   count = ap length e;
   functions = ap length f;
   name_counted = ap length n;
   constant_counted = ap length l;
   pattern_counted = ap length p;
-  nodes = λ i. ap (λ es. (entry_at es i.0).node) e;
-  trees = λ i. ap₂ (λ b es. expression_at b es i.0) (same_sides _ _ _ _ _ _ n l p) e;
-  spots = λ i. ap (λ es. (entry_at es i.0).spot) e;
+  nodes = λ i. ap (λ es. (listed_entry es i.0).node) e;
+  trees = λ i. ap₂ (λ b es. entry_expression b es i.0) (same_sides _ _ _ _ _ _ n l p) e;
+  spots = λ i. ap (λ es. (listed_entry es i.0).spot) e;
   patterns = λ i. ap (λ fs. (function_entry fs i.0).pattern) f;
   bodies = λ i. ap (λ fs. (function_entry fs i.0).body) f;
   names = λ i. ap (λ names. name_among names i.0) n;
@@ -371,18 +371,18 @@ arena_same x b entries fs s e f = (
 )
 
 -- the expression at an id is that of its node
-pub expression_node : (x : Exprs) (id : ExprId) → expression x id ≡ expression_of x (node_at x id)
+pub expression_node : (x : Exprs) (id : ExprId) → expression x id ≡ node_expression x (node_at x id)
 unfolding expression node_at
 expression_node x id =
     tree_made (entry_made (beside x)) (λ n. needs n.node) zero_entry (local (beside x)) (entries_of x.arena) zero_expression (λ ts. refl) x.ordered.in_order id.0
-    ∙ made_expression x (entry_at (entries_of x.arena) id.0).node
+    ∙ made_expression x (listed_entry (entries_of x.arena) id.0).node
 
 -- a node stands for the expression at its id
 pub builds : (x : Exprs) (id : ExprId) → Builds x (entry_of x id).node (expression x id)
 unfolding entry_of node_at
 builds x id = subst (λ e. Builds x (entry_of x id).node e) (sym (expression_node x id)) (of_node (entry_of x id).node)
   where
-    of_node : (n : ExprNode) → Builds x n (expression_of x n)
+    of_node : (n : ExprNode) → Builds x n (node_expression x n)
     of_node nodes.Unit = builds_unit
     of_node (nodes.Truth t) = builds_truth
     of_node (nodes.Int z) = builds_int
@@ -416,7 +416,7 @@ past_builds x id h = subst (λ (n : Entry ExprNode). Builds x n.node (expression
 -- the parts of a node stand before it
 pub parts_below : (x : Exprs) (id : ExprId) → PartsBelow (entry_of x id).node (id_number id)
 unfolding entry_of
-parts_below x id = of_node (entry_at (entries_of x.arena) id.0).node (x.ordered.in_order id.0)
+parts_below x id = of_node (listed_entry (entries_of x.arena) id.0).node (x.ordered.in_order id.0)
   where
     of_node : (n : ExprNode) → needs n ≤ id.0 → PartsBelow n id.0
     of_node nodes.Unit h = tt
@@ -435,9 +435,9 @@ parts_below x id = of_node (entry_at (entries_of x.arena) id.0).node (x.ordered.
 -- the parts of a node are held
 pub parts_held : (x : Exprs) (id : ExprId) → HoldsParts x (entry_of x id).node
 unfolding entry_of Holds HoldsName HoldsConstant HoldsPattern
-parts_held x id = of_node (entry_at (entries_of x.arena) id.0).node (x.ordered.in_order id.0) (x.ordered.named id.0) (x.ordered.constants id.0) (x.ordered.patterned id.0) within
+parts_held x id = of_node (listed_entry (entries_of x.arena) id.0).node (x.ordered.in_order id.0) (x.ordered.named id.0) (x.ordered.constants id.0) (x.ordered.patterned id.0) within
   where
-    within : (needs (entry_at (entries_of x.arena) id.0).node ≡ 0) ⊎ (id.0 < length (entries_of x.arena))
+    within : (needs (listed_entry (entries_of x.arena) id.0).node ≡ 0) ⊎ (id.0 < length (entries_of x.arena))
     within = elim (cases_lt id.0 (length (entries_of x.arena))) [ inl h ↦ inr h | inr h ↦ inl (ap (λ (n : Entry ExprNode). needs n.node) (get_or_past (entries_of x.arena) id.0 zero_entry h)) ]
 
     of_node : (n : ExprNode) → needs n ≤ id.0 → needs_names n ≤ length x.names.items → needs_constants n ≤ length x.constants.items → needs_patterns n ≤ length x.patterns.items → (needs n ≡ 0) ⊎ (id.0 < length (entries_of x.arena)) → HoldsParts x n
@@ -475,17 +475,17 @@ unfolding entry_of
 narrow_node x id = x.ordered.narrow id.0
 
 -- the body of a function that is held is held
-pub body_held : (x : Exprs) (f : FunctionId) → HoldsFunction x f → Holds x (body_at x f)
-unfolding HoldsFunction Holds body_at
+pub body_held : (x : Exprs) (f : FunctionId) → HoldsFunction x f → Holds x (body_id x f)
+unfolding HoldsFunction Holds body_id
 body_held x f h = (All-get_or (IsClosed (length (entries_of x.arena))) x.functions.items f.0 no_function h x.closed).0
 
 -- an arena holds what stands below its count
-pub holds_below : (x : Exprs) (id : ExprId) → Holds x id → id_number id < count_of x
-unfolding Holds count_of
+pub holds_below : (x : Exprs) (id : ExprId) → Holds x id → id_number id < arena_count x
+unfolding Holds arena_count
 holds_below x id h = h
 
-pub below_holds : (x : Exprs) (id : ExprId) → id_number id < count_of x → Holds x id
-unfolding Holds count_of
+pub below_holds : (x : Exprs) (id : ExprId) → id_number id < arena_count x → Holds x id
+unfolding Holds arena_count
 below_holds x id h = h
 
 pub function_below : (x : Exprs) (f : FunctionId) → HoldsFunction x f → f.0 < function_count x
@@ -521,14 +521,14 @@ unfolding HoldsPattern pattern_count
 below_pattern x p h = h
 
 -- what adding keeps
-pub adds_keeps : (old new : Exprs) (id : ExprId) (n : ExprNode) (e : Expression) (s : Spot) → Adds old new id n e s → Keeps old new
+pub adds_keeps : (old new : Exprs) (id : ExprId) (n : ExprNode) (e : Expression) (s : Spot) → Adds old new id n e s → Extends old new
 adds_keeps old new id n e s a = a.kept
 
-pub adds_function_keeps : (old new : Exprs) (f : FunctionId) (p : PlacedPattern) (b : ExprId) → AddsFunction old new f p b → Keeps old new
+pub adds_function_keeps : (old new : Exprs) (f : FunctionId) (p : PlacedPattern) (b : ExprId) → AddsFunction old new f p b → Extends old new
 adds_function_keeps old new f p b a = a.kept
 
 -- an unchanged arena keeps what it held
-pub unchanged_keeps : (old new : Exprs) → IsUnchanged old new → Keeps old new
+pub unchanged_keeps : (old new : Exprs) → IsUnchanged old new → Extends old new
 unchanged_keeps old new u = record {
   holds = λ i h. below_holds new i (omega (arith, holds_below old i h, u.count));
   nodes = λ i h. u.nodes i;
@@ -537,7 +537,7 @@ unchanged_keeps old new u = record {
   functions = λ f h. below_function new f (omega (arith, function_below old f h, u.functions));
   patterns = λ f h. u.patterns f;
   bodies = λ f h. u.bodies f;
-  meanings = λ f h. rw (u.patterns f, u.bodies f, u.trees (body_at old f)) refl;
+  meanings = λ f h. rw (u.patterns f, u.bodies f, u.trees (body_id old f)) refl;
   holds_names = λ n h. below_name new n (omega (arith, name_below old n h, u.name_counted));
   names = λ n h. u.names n;
   holds_constants = λ n h. below_constant new n (omega (arith, constant_below old n h, u.constant_counted));
@@ -546,7 +546,7 @@ unchanged_keeps old new u = record {
   placed = λ p h. u.placed p;
 }
 
-pub keeps_trans : (a b c : Exprs) → Keeps a b → Keeps b c → Keeps a c
+pub keeps_trans : (a b c : Exprs) → Extends a b → Extends b c → Extends a c
 keeps_trans a b c f g = record {
   holds = λ i h. g.holds i (f.holds i h);
   nodes = λ i h. g.nodes i (f.holds i h) ∙ f.nodes i h;
@@ -565,8 +565,8 @@ keeps_trans a b c f g = record {
 }
 
 -- no arena holds more than 100,000 expressions
-pub few_expressions : (x : Exprs) → count_of x ≤ 100000
-unfolding count_of
+pub few_expressions : (x : Exprs) → arena_count x ≤ 100000
+unfolding arena_count
 few_expressions x = few_entries x.arena
 
 -- no more than 64 expressions stand one inside another
@@ -575,46 +575,46 @@ unfolding expression
 expression_shallow x id = omega (arith, x.ordered.measured id.0, shallow_at (entries_of x.arena) zero_entry id.0 (shallow_entries x.arena) (omega arith))
 
 -- no more than 64 patterns stand one inside another
-pub placed_shallow : (x : Exprs) (p : PatternId) → pattern_depth (pattern_of (placed_at x p)) ≤ 64
-unfolding placed_at
+pub placed_shallow : (x : Exprs) (p : PatternId) → pattern_depth (pattern_of (stored_pattern x p)) ≤ 64
+unfolding stored_pattern
 placed_shallow x p = ⊎_elim
     (λ h. All-get_or IsShallow x.patterns.items p.0 placed_unnamed h x.shallow)
     (λ h. subst (λ (q : PlacedPattern). pattern_depth (pattern_of q) ≤ 64) (sym (get_or_past x.patterns.items p.0 placed_unnamed h)) (omega arith))
     (cases_lt p.0 (length x.patterns.items))
 
 -- no more than 64 patterns or expressions stand one inside another in a function
-pub pattern_shallow : (x : Exprs) (f : FunctionId) → pattern_depth (pattern_of (pattern_at x f)) ≤ 64
-unfolding pattern_at
+pub pattern_shallow : (x : Exprs) (f : FunctionId) → pattern_depth (pattern_of (argument_pattern x f)) ≤ 64
+unfolding argument_pattern
 pattern_shallow x f = ⊎_elim
     (λ h. (All-get_or (IsClosed (length (entries_of x.arena))) x.functions.items f.0 no_function h x.closed).1)
     (λ h. subst (λ (g : StoredFunction). pattern_depth (pattern_of g.pattern) ≤ 64) (sym (get_or_past x.functions.items f.0 no_function h)) (omega arith))
     (cases_lt f.0 (length x.functions.items))
 
 pub function_shallow : (x : Exprs) (f : FunctionId) → function_depth (function_at x f) ≤ 64
-function_shallow x f = omega (arith, expression_shallow x (body_at x f), pattern_shallow x f)
+function_shallow x f = omega (arith, expression_shallow x (body_id x f), pattern_shallow x f)
 
 -- what a builder leaves keeps what was there, whatever it answers
-pub kept_by : (x y : Exprs) (r : Result ExprId ArenaRefusal) (n : ExprNode) (e : Expression) (s : Spot) → IfOk r (λ id. Adds x y id n e s) → OnErr r (IsUnchanged x y) → Keeps x y
+pub kept_by : (x y : Exprs) (r : Result ExprId ArenaRefusal) (n : ExprNode) (e : Expression) (s : Spot) → IfOk r (λ id. Adds x y id n e s) → OnErr r (IsUnchanged x y) → Extends x y
 kept_by x y (Ok id) n e s a u = a.kept
 kept_by x y (Err f) n e s a u = unchanged_keeps x y u
 
-pub more_by : (x y : Exprs) (r : Result ExprId ArenaRefusal) (n : ExprNode) (e : Expression) (s : Spot) → IfOk r (λ id. Adds x y id n e s) → OnErr r (IsUnchanged x y) → count_of x ≤ count_of y
+pub more_by : (x y : Exprs) (r : Result ExprId ArenaRefusal) (n : ExprNode) (e : Expression) (s : Spot) → IfOk r (λ id. Adds x y id n e s) → OnErr r (IsUnchanged x y) → arena_count x ≤ arena_count y
 more_by x y (Ok id) n e s a u = omega (arith, a.count)
 more_by x y (Err f) n e s a u = omega (arith, u.count)
 
-pub name_kept_by : {E : Type 0} (x y : Exprs) (r : Result NameId E) (n : Name) → IfOk r (λ id. AddsName x y id n) → OnErr r (IsUnchanged x y) → Keeps x y
+pub name_kept_by : {E : Type 0} (x y : Exprs) (r : Result NameId E) (n : Name) → IfOk r (λ id. AddsName x y id n) → OnErr r (IsUnchanged x y) → Extends x y
 name_kept_by x y (Ok id) n a u = a.kept
 name_kept_by x y (Err e) n a u = unchanged_keeps x y u
 
-pub constant_kept_by : {E : Type 0} (x y : Exprs) (r : Result ConstantId E) (l : Literal) → IfOk r (λ n. AddsConstant x y n l) → OnErr r (IsUnchanged x y) → Keeps x y
+pub constant_kept_by : {E : Type 0} (x y : Exprs) (r : Result ConstantId E) (l : Literal) → IfOk r (λ n. AddsConstant x y n l) → OnErr r (IsUnchanged x y) → Extends x y
 constant_kept_by x y (Ok n) l a u = a.kept
 constant_kept_by x y (Err e) l a u = unchanged_keeps x y u
 
-pub pattern_kept_by : (x y : Exprs) (r : Result PatternId ArenaRefusal) (p : PlacedPattern) → IfOk r (λ n. AddsPattern x y n p) → OnErr r (IsUnchanged x y) → Keeps x y
+pub pattern_kept_by : (x y : Exprs) (r : Result PatternId ArenaRefusal) (p : PlacedPattern) → IfOk r (λ n. AddsPattern x y n p) → OnErr r (IsUnchanged x y) → Extends x y
 pattern_kept_by x y (Ok n) p a u = a.kept
 pattern_kept_by x y (Err e) p a u = unchanged_keeps x y u
 
-pub function_kept_by : (x y : Exprs) (r : Result FunctionId ArenaRefusal) (p : PlacedPattern) (b : ExprId) → IfOk r (λ f. AddsFunction x y f p b) → OnErr r (IsUnchanged x y) → Keeps x y
+pub function_kept_by : (x y : Exprs) (r : Result FunctionId ArenaRefusal) (p : PlacedPattern) (b : ExprId) → IfOk r (λ f. AddsFunction x y f p b) → OnErr r (IsUnchanged x y) → Extends x y
 function_kept_by x y (Ok f) p b a u = a.kept
 function_kept_by x y (Err e) p b a u = unchanged_keeps x y u
 

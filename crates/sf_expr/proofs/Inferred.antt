@@ -8,12 +8,12 @@ use Rattle.std.proofs.lemmas.Bool.Decides.{nat_tests}
 use Rattle.sf_value.specs.Values.{Name, Kind, unit_kind, bool_kind, int_kind, text_kind, pair_kind, event_kind, table_kind, nodes}
 use Rattle.sf_operator.specs.Kinds.{unary_kind, binary_kind, conditional_kind, mapped_argument, mapped_kind, folded_argument, folded_kind}
 use Rattle.sf_func.specs.Registries.{types_named}
-use Rattle.sf_expr.specs.Expressions.{Pattern, unnamed, named, both, names_in, Literal, Expression, variable, literal, paired, applied, operation, conditional, mapped, folded, called, Function, function}
+use Rattle.sf_expr.specs.Expressions.{Pattern, unnamed, named, both, names_of_pattern, Literal, Expression, variable, literal, paired, applied, operation, conditional, mapped, folded, called, Function, function}
 use Rattle.sf_operator.specs.declared.operator.Operator.{Operator}
 use Rattle.sf_operator.specs.declared.operator.Unary.{Unary}
 use Rattle.sf_operator.proofs.SameKinds.{found_is}
 use Rattle.sf_expr.specs.Typing.{Names, typed_name, type_of_name, functions_of, call_kind, literal_kind, Fits, AllDifferent, AddsNames, adds_nothing, adds_name, adds_both, Binds, HasType, variable_has, literal_has, pair_has, applied_has, operation_has, conditional_has, mapped_has, folded_has, called_has, FunctionTakes, function_takes}
-use Rattle.sf_expr.specs.Inference.{found_then, fitting, is_valued, literal_type, pair_type, applied_type, operation_type, conditional_type, expression_type, names_with, names_bound, is_among, are_different, function_output}
+use Rattle.sf_expr.specs.Inference.{found_then, fitting, is_valued, literal_type, pair_type, applied_type, operation_type, conditional_type, expression_type, names_matched, names_bound, is_among, are_different, function_output}
 use Rattle.sf_expr.proofs.Literals.{valued_has, has_valued}
 
 -- ## Types that fit
@@ -41,7 +41,7 @@ fitting_found t u = each (nat_le (nodes t) 256) refl
 
 -- ## Patterns
 
-pub with_adds : (p : Pattern) (t : Kind) (R S : Names) → names_with p t R ≡ Some S → AddsNames p t R S
+pub with_adds : (p : Pattern) (t : Kind) (R S : Names) → names_matched p t R ≡ Some S → AddsNames p t R S
 with_adds unnamed t R S h = let is : R ≡ S = cc in subst (λ (S : Names). AddsNames unnamed t R S) is adds_nothing
 with_adds (named x) t R S h = let is : typed_name x t R ≡ S = cc in subst (λ (S : Names). AddsNames (named x) t R S) is adds_name
 with_adds (both p q) unit_kind R S h = absurd cc
@@ -50,16 +50,16 @@ with_adds (both p q) int_kind R S h = absurd cc
 with_adds (both p q) text_kind R S h = absurd cc
 with_adds (both p q) (event_kind t) R S h = absurd cc
 with_adds (both p q) (table_kind k t) R S h = absurd cc
-with_adds (both p q) (pair_kind t u) R S h = each (names_with p t R) (with_adds p t R) (λ T. with_adds q u T S) h
+with_adds (both p q) (pair_kind t u) R S h = each (names_matched p t R) (with_adds p t R) (λ T. with_adds q u T S) h
   where
-    each : (o : Option Names) → ((T : Names) → o ≡ Some T → AddsNames p t R T) → ((T : Names) → names_with q u T ≡ Some S → AddsNames q u T S) → found_then o (names_with q u) ≡ Some S → AddsNames (both p q) (pair_kind t u) R S
+    each : (o : Option Names) → ((T : Names) → o ≡ Some T → AddsNames p t R T) → ((T : Names) → names_matched q u T ≡ Some S → AddsNames q u T S) → found_then o (names_matched q u) ≡ Some S → AddsNames (both p q) (pair_kind t u) R S
     each (Some T) a b e = adds_both (a T refl) (b T e)
     each None a b e = absurd cc
 
-pub adds_with : {p : Pattern} {t : Kind} {R S : Names} → AddsNames p t R S → names_with p t R ≡ Some S
+pub adds_with : {p : Pattern} {t : Kind} {R S : Names} → AddsNames p t R S → names_matched p t R ≡ Some S
 adds_with adds_nothing = refl
 adds_with adds_name = refl
-adds_with (adds_both {q = q} {u = u} a b) = ap (λ o. found_then o (names_with q u)) (adds_with a) ∙ adds_with b
+adds_with (adds_both {q = q} {u = u} a b) = ap (λ o. found_then o (names_matched q u)) (adds_with a) ∙ adds_with b
 
 pub not_among : (x : Name) (ys : List Name) → is_among x ys ≡ false → All (λ y. x ≢ y) ys
 not_among x [] h = All-nil (λ y. x ≢ y)
@@ -95,15 +95,15 @@ pub record Bounded (p : Pattern) (t : Kind) (R S : Names) : Type 0 where
   pub binds : Binds p t R S
 
 pub bound_found : (p : Pattern) (t : Kind) (R S : Names) → names_bound p t R ≡ Some S → Bounded p t R S
-bound_found p t R S = each (nat_le (nodes t) 256) (are_different (names_in p)) refl refl
+bound_found p t R S = each (nat_le (nodes t) 256) (are_different (names_of_pattern p)) refl refl
   where
-    each : (b d : Bool) → nat_le (nodes t) 256 ≡ b → are_different (names_in p) ≡ d → cond (b && d) (names_with p t R) None ≡ Some S → Bounded p t R S
-    each true true h k e = record { fits = fits_test t h; binds = record { adds = with_adds p t R S e; apart = different (names_in p) k } }
+    each : (b d : Bool) → nat_le (nodes t) 256 ≡ b → are_different (names_of_pattern p) ≡ d → cond (b && d) (names_matched p t R) None ≡ Some S → Bounded p t R S
+    each true true h k e = record { fits = fits_test t h; binds = record { adds = with_adds p t R S e; apart = different (names_of_pattern p) k } }
     each true false h k e = absurd cc
     each false d h k e = absurd cc
 
 pub found_bound : {p : Pattern} {t : Kind} {R S : Names} → Fits t → Binds p t R S → names_bound p t R ≡ Some S
-found_bound {p} {t} fits binds = rw (test_fits t fits, different_test (names_in p) binds.apart) (adds_with binds.adds)
+found_bound {p} {t} fits binds = rw (test_fits t fits, different_test (names_of_pattern p) binds.apart) (adds_with binds.adds)
 
 -- ## Expressions
 
@@ -211,18 +211,18 @@ typed_found (called_has {u = u} h e f) = rw (typed_found h) (ap (λ o. found_the
 
 -- ## Functions
 
-body_found : (R : Names) (p : Pattern) (i : Expression) (t u : Kind) → Fits t → AllDifferent (names_in p) → (o : Option Names) → ((S : Names) → o ≡ Some S → AddsNames p t R S) → found_then o (λ S. expression_type S i) ≡ Some u → FunctionTakes R (function p i) t u
+body_found : (R : Names) (p : Pattern) (i : Expression) (t u : Kind) → Fits t → AllDifferent (names_of_pattern p) → (o : Option Names) → ((S : Names) → o ≡ Some S → AddsNames p t R S) → found_then o (λ S. expression_type S i) ≡ Some u → FunctionTakes R (function p i) t u
 body_found R p i t u f d (Some S) a e = function_takes f (record { adds = a S refl; apart = d }) (found_typed S i u e)
 body_found R p i t u f d None a e = absurd cc
 
 pub output_takes : (R : Names) (f : Function) (t u : Kind) → function_output R f t ≡ Some u → FunctionTakes R f t u
-output_takes R (function p i) t u = each (nat_le (nodes t) 256) (are_different (names_in p)) refl refl
+output_takes R (function p i) t u = each (nat_le (nodes t) 256) (are_different (names_of_pattern p)) refl refl
   where
-    each : (b d : Bool) → nat_le (nodes t) 256 ≡ b → are_different (names_in p) ≡ d → cond (b && d) (found_then (names_with p t R) (λ S. expression_type S i)) None ≡ Some u → FunctionTakes R (function p i) t u
-    each true true h k e = body_found R p i t u (fits_test t h) (different (names_in p) k) (names_with p t R) (with_adds p t R) e
+    each : (b d : Bool) → nat_le (nodes t) 256 ≡ b → are_different (names_of_pattern p) ≡ d → cond (b && d) (found_then (names_matched p t R) (λ S. expression_type S i)) None ≡ Some u → FunctionTakes R (function p i) t u
+    each true true h k e = body_found R p i t u (fits_test t h) (different (names_of_pattern p) k) (names_matched p t R) (with_adds p t R) e
     each true false h k e = absurd cc
     each false d h k e = absurd cc
 
 pub takes_output : {R : Names} {f : Function} {t u : Kind} → FunctionTakes R f t u → function_output R f t ≡ Some u
 takes_output (function_takes {S = S} {p = p} {i = i} {t = t} fits binds h) =
-    rw (test_fits t fits, different_test (names_in p) binds.apart, adds_with binds.adds) (typed_found h)
+    rw (test_fits t fits, different_test (names_of_pattern p) binds.apart, adds_with binds.adds) (typed_found h)

@@ -8,7 +8,7 @@ use Rattle.sf_expr.specs.Expressions.{Literal, unit_literal, truth_literal, int_
 use Rattle.sf_expr.specs.Evaluation.{literal_value}
 use Rattle.sf_expr.specs.Typing.{literal_kind}
 use Rattle.sf_expr.specs.Inference.{is_valued}
-use Rattle.sf_expr.specs.Constants.{text_in, constant_of, is_text_value, is_constant}
+use Rattle.sf_expr.specs.Constants.{text_bytes, constant_literal, is_text_value, is_constant}
 use Rattle.sf_expr.specs.declared.constant.ConstantForm.{ConstantForm}
 use Rattle.sf_expr.specs.declared.constant.ConstantForm.TheVariants.{Text, NoEvent}
 
@@ -28,7 +28,7 @@ has_valued (text_literal s) (has_text h) = is_utf8-from_IsUtf8 s h
 has_valued (none_literal t) h = refl
 
 -- a text in UTF-8 is the text of its bytes
-pub text_worth : (d : Data) → IsTrue (is_text_value d) → text (text_in d) ≡ d
+pub text_worth : (d : Data) → IsTrue (is_text_value d) → text (text_bytes d) ≡ d
 text_worth (text s) h = refl
 text_worth unit h = absurd cc
 text_worth (truth b) h = absurd cc
@@ -38,7 +38,7 @@ text_worth no_event h = absurd cc
 text_worth (event x) h = absurd cc
 text_worth (table rs) h = absurd cc
 
-text_valued : (d : Data) → IsTrue (is_text_value d) → IsTrue (is_utf8 (text_in d))
+text_valued : (d : Data) → IsTrue (is_text_value d) → IsTrue (is_utf8 (text_bytes d))
 text_valued (text s) h = h
 text_valued unit h = absurd cc
 text_valued (truth b) h = absurd cc
@@ -48,7 +48,7 @@ text_valued no_event h = absurd cc
 text_valued (event x) h = absurd cc
 text_valued (table rs) h = absurd cc
 
-pub constant_valued : (f : ConstantForm) → IsTrue (is_constant f) → IsTrue (is_valued (constant_of f))
+pub constant_valued : (f : ConstantForm) → IsTrue (is_constant f) → IsTrue (is_valued (constant_literal f))
 constant_valued (Text d) h = text_valued d h
 constant_valued (NoEvent t) h = refl
 

@@ -13,22 +13,22 @@ use Rattle.sf_value.specs.Values.{Name}
 use Rattle.sf_expr.specs.declared.exprs.numbers.NumberedPattern.{NumberedPattern}
 use Rattle.sf_expr.specs.declared.exprs.numbers.NumberedPattern.TheVariants.{Unnamed, Name as Numbered, Both'}
 use Rattle.sf_expr.specs.Expressions.{Pattern, unnamed, named, both}
-use Rattle.sf_expr.specs.Numbered.{TellsName, IsNumber, KeepsNumbers, IsNumbered}
+use Rattle.sf_expr.specs.Numbered.{TellsName, IsNumber, ExtendsNumbers, IsNumbered}
 
 abbrev test : Name → Bor (List ℕ) → Bool
 test x k = bytes_eq x k.now
 
 -- a text behind others leaves their numbers
-push_keeps : (ks : List (Bor (List ℕ))) (k : Bor (List ℕ)) → KeepsNumbers ks (ks ++ k ∷ [])
+push_keeps : (ks : List (Bor (List ℕ))) (k : Bor (List ℕ)) → ExtendsNumbers ks (ks ++ k ∷ [])
 push_keeps ks k x i h = (position_or_len_push (test x) ks k ∙ by (eqb (position_or_len (test x) ks) (length ks)) refl, let l = length-append ks (k ∷ []) in omega (arith, h.1, l))
   where
     by : (b : Bool) → eqb (position_or_len (test x) ks) (length ks) ≡ b → cond b (length ks + cond (test x k) 0 1) (position_or_len (test x) ks) ≡ i
     by true e = absurd (let same = eqb-true _ _ e in let is = h.0 in omega (arith, same, is, h.1))
     by false e = h.0
 
-pub put_keeps : (ks new : List (Bor (List ℕ))) (k : Bor (List ℕ)) (b : Bool) → new ≡ (if b then ks else ks ++ k ∷ []) → KeepsNumbers ks new
-put_keeps ks new k true e = subst (λ js. KeepsNumbers ks js) (sym e) (λ x i h. h)
-put_keeps ks new k false e = subst (λ js. KeepsNumbers ks js) (sym e) (push_keeps ks k)
+pub put_keeps : (ks new : List (Bor (List ℕ))) (k : Bor (List ℕ)) (b : Bool) → new ≡ (if b then ks else ks ++ k ∷ []) → ExtendsNumbers ks new
+put_keeps ks new k true e = subst (λ js. ExtendsNumbers ks js) (sym e) (λ x i h. h)
+put_keeps ks new k false e = subst (λ js. ExtendsNumbers ks js) (sym e) (push_keeps ks k)
 
 -- the place that a text has once it is put among others is its number
 pub put_number : (ks new : List (Bor (List ℕ))) (k : Bor (List ℕ)) (b : Bool) (i : ℕ) → new ≡ (if b then ks else ks ++ k ∷ []) → i ≡ position_or_len (test k.now) ks → i < length new → IsNumber new k.now i
@@ -74,7 +74,7 @@ pattern_told ks x i h (both p q) (Numbered m) k = absurd k
 pattern_told ks x i h (both p q) (Both' a s b t) k = (pattern_told ks x i h p s k.0, pattern_told ks x i h q t k.1)
 
 -- patterns keep their numbers
-pub spelled_still : (ks js : List (Bor (List ℕ))) → KeepsNumbers ks js → (p : Pattern) (s : NumberedPattern) → IsNumbered ks p s → IsNumbered js p s
+pub spelled_still : (ks js : List (Bor (List ℕ))) → ExtendsNumbers ks js → (p : Pattern) (s : NumberedPattern) → IsNumbered ks p s → IsNumbered js p s
 spelled_still ks js h unnamed Unnamed k = tt
 spelled_still ks js h unnamed (Numbered m) k = absurd k
 spelled_still ks js h unnamed (Both' a s b t) k = absurd k

@@ -13,8 +13,8 @@ use Rattle.sf_expr.specs.declared.meaning.Named.{Named}
 use Rattle.sf_expr.specs.declared.frame.Frame as framed
 use Rattle.sf_expr.specs.declared.scope.TypeScope as scoped
 use Rattle.sf_expr.specs.Typing.{named_in}
-use Rattle.sf_expr.specs.Meanings.{Meant, of_value, of_process, of_collection, meant, Entries, found_in, names_from, with_entry, place_behind, last_place}
-use Rattle.sf_expr.specs.Scopes.{entries_in, with_frame, entries_along, entries_around}
+use Rattle.sf_expr.specs.Meanings.{Meant, of_value, of_process, of_collection, meant, Entries, found_in, value_names, entry_added, place_behind, last_place}
+use Rattle.sf_expr.specs.Scopes.{frame_entries, with_frame, entries_along, entries_around}
 
 -- ## The places of names
 
@@ -46,11 +46,11 @@ placed_more x ns ms n place before after more end was is =
 
 -- what the name at the last place of a name stands for
 module _ (x : Name) where
-  found_past : (ns : List Named) (es : Entries) → last_place x ns ≡ None → found_in x (fold with_entry es ns) ≡ found_in x es
+  found_past : (ns : List Named) (es : Entries) → last_place x ns ≡ None → found_in x (fold entry_added es ns) ≡ found_in x es
   found_past [] es e = refl
-  found_past (n ∷ ns) es e = each (bytes_eq x n.name.now) (last_place x ns) e (found_past ns (with_entry es n))
+  found_past (n ∷ ns) es e = each (bytes_eq x n.name.now) (last_place x ns) e (found_past ns (entry_added es n))
     where
-      each : (b : Bool) (o : Option ℕ) → place_behind b o ≡ None → (o ≡ None → found_in x (fold with_entry (with_entry es n) ns) ≡ cond b (Some (meant n.meaning)) (found_in x es)) → found_in x (fold with_entry (with_entry es n) ns) ≡ found_in x es
+      each : (b : Bool) (o : Option ℕ) → place_behind b o ≡ None → (o ≡ None → found_in x (fold entry_added (entry_added es n) ns) ≡ cond b (Some (meant n.meaning)) (found_in x es)) → found_in x (fold entry_added (entry_added es n) ns) ≡ found_in x es
       each true None e rest = absurd cc
       each false None e rest = rest refl
       each b (Some i) e rest = absurd cc
@@ -64,40 +64,40 @@ module _ (x : Name) where
       each false None e rest = absurd cc
       each b (Some j) e rest = let z : suc j ≡ i = cc in let below = rest j refl in omega arith
 
-  found_last : (ns : List Named) (es : Entries) (i : ℕ) (d : Named) → last_place x ns ≡ Some i → found_in x (fold with_entry es ns) ≡ Some (meant (get_or ns i d).meaning)
+  found_last : (ns : List Named) (es : Entries) (i : ℕ) (d : Named) → last_place x ns ≡ Some i → found_in x (fold entry_added es ns) ≡ Some (meant (get_or ns i d).meaning)
   found_last [] es i d e = absurd cc
-  found_last (n ∷ ns) es i d e = each (bytes_eq x n.name.now) (last_place x ns) e (found_past ns (with_entry es n)) (λ j. found_last ns (with_entry es n) j d)
+  found_last (n ∷ ns) es i d e = each (bytes_eq x n.name.now) (last_place x ns) e (found_past ns (entry_added es n)) (λ j. found_last ns (entry_added es n) j d)
     where
-      each : (b : Bool) (o : Option ℕ) → place_behind b o ≡ Some i → (o ≡ None → found_in x (fold with_entry (with_entry es n) ns) ≡ cond b (Some (meant n.meaning)) (found_in x es))
-          → ((j : ℕ) → o ≡ Some j → found_in x (fold with_entry (with_entry es n) ns) ≡ Some (meant (get_or ns j d).meaning)) → found_in x (fold with_entry (with_entry es n) ns) ≡ Some (meant (get_or (n ∷ ns) i d).meaning)
+      each : (b : Bool) (o : Option ℕ) → place_behind b o ≡ Some i → (o ≡ None → found_in x (fold entry_added (entry_added es n) ns) ≡ cond b (Some (meant n.meaning)) (found_in x es))
+          → ((j : ℕ) → o ≡ Some j → found_in x (fold entry_added (entry_added es n) ns) ≡ Some (meant (get_or ns j d).meaning)) → found_in x (fold entry_added (entry_added es n) ns) ≡ Some (meant (get_or (n ∷ ns) i d).meaning)
       each true None e past last = let z : 0 ≡ i = cc in past refl ∙ ap (λ k. Some (meant (get_or (n ∷ ns) k d).meaning)) z
       each false None e past last = absurd cc
       each b (Some j) e past last = let z : suc j ≡ i = cc in last j refl ∙ ap (λ k. Some (meant (get_or (n ∷ ns) k d).meaning)) z
 
 -- ## Frames
 
-pub frame_empty : (f : framed.Frame) → f.names.items ≡ [] → entries_in f ≡ []
-unfolding entries_in
-frame_empty f e = ap (fold with_entry []) e
+pub frame_empty : (f : framed.Frame) → f.names.items ≡ [] → frame_entries f ≡ []
+unfolding frame_entries
+frame_empty f e = ap (fold entry_added []) e
 
-pub frame_put : (old new : framed.Frame) (n : Named) → new.names.items ≡ old.names.items ++ n ∷ [] → entries_in new ≡ with_entry (entries_in old) n
-unfolding entries_in
-frame_put old new n e = ap (fold with_entry []) e ∙ fold-append with_entry [] old.names.items (n ∷ [])
+pub frame_put : (old new : framed.Frame) (n : Named) → new.names.items ≡ old.names.items ++ n ∷ [] → frame_entries new ≡ entry_added (frame_entries old) n
+unfolding frame_entries
+frame_put old new n e = ap (fold entry_added []) e ∙ fold-append entry_added [] old.names.items (n ∷ [])
 
-pub frame_found : (f : framed.Frame) (x : Name) (i : ℕ) (d : Named) → last_place x f.names.items ≡ Some i → found_in x (entries_in f) ≡ Some (meant (get_or f.names.items i d).meaning)
-unfolding entries_in
+pub frame_found : (f : framed.Frame) (x : Name) (i : ℕ) (d : Named) → last_place x f.names.items ≡ Some i → found_in x (frame_entries f) ≡ Some (meant (get_or f.names.items i d).meaning)
+unfolding frame_entries
 frame_found f x i d e = found_last x f.names.items [] i d e
 
-pub frame_absent : (f : framed.Frame) (x : Name) → last_place x f.names.items ≡ None → found_in x (entries_in f) ≡ None
-unfolding entries_in
+pub frame_absent : (f : framed.Frame) (x : Name) → last_place x f.names.items ≡ None → found_in x (frame_entries f) ≡ None
+unfolding frame_entries
 frame_absent f x e = found_past x f.names.items [] e
 
 -- ## Scopes
 
 -- those of one frame
-pub entries_one : (s : scoped.TypeScope) (f : Bor framed.Frame) → s.frames.items ≡ Some f ∷ [] → entries_around s ≡ entries_in f.now
+pub entries_one : (s : scoped.TypeScope) (f : Bor framed.Frame) → s.frames.items ≡ Some f ∷ [] → entries_around s ≡ frame_entries f.now
 unfolding entries_around
-entries_one s f e = ap entries_along e ∙ append-nil (entries_in f.now)
+entries_one s f e = ap entries_along e ∙ append-nil (frame_entries f.now)
 
 pub entries_same : (s t : scoped.TypeScope) → s.frames.items ≡ t.frames.items → entries_around s ≡ entries_around t
 unfolding entries_around
@@ -145,25 +145,25 @@ abbrev pub kind_found : Option Meant → Option (Option Kind)
 kind_found None = None
 kind_found (Some m) = Some (value_meant m)
 
-pub named_from : (x : Name) (es : Entries) → named_in x (names_from es) ≡ kind_found (found_in x es)
+pub named_from : (x : Name) (es : Entries) → named_in x (value_names es) ≡ kind_found (found_in x es)
 named_from x [] = refl
 named_from x (e ∷ es) = before e.1 (named_from x es)
   where
-    each : (b : Bool) (m : Meant) → named_in x (names_from es) ≡ kind_found (found_in x es) → cond b (Some (value_meant m)) (named_in x (names_from es)) ≡ kind_found (cond b (Some m) (found_in x es))
+    each : (b : Bool) (m : Meant) → named_in x (value_names es) ≡ kind_found (found_in x es) → cond b (Some (value_meant m)) (named_in x (value_names es)) ≡ kind_found (cond b (Some m) (found_in x es))
     each true m rest = refl
     each false m rest = rest
 
-    before : (m : Meant) → named_in x (names_from es) ≡ kind_found (found_in x es) → named_in x (names_from ((e.0, m) ∷ es)) ≡ kind_found (cond (bytes_eq x e.0) (Some m) (found_in x es))
+    before : (m : Meant) → named_in x (value_names es) ≡ kind_found (found_in x es) → named_in x (value_names ((e.0, m) ∷ es)) ≡ kind_found (cond (bytes_eq x e.0) (Some m) (found_in x es))
     before (of_value t) rest = each (bytes_eq x e.0) (of_value t) rest
     before (of_process a b) rest = each (bytes_eq x e.0) (of_process a b) rest
     before (of_collection k a b) rest = each (bytes_eq x e.0) (of_collection k a b) rest
 
 -- a frame before other names
 module _ (x : Name) (frame : Option (Bor framed.Frame)) (f : Bor framed.Frame) (is : frame ≡ Some f) where
-  pub frame_hides : (r : Option Meaning) → IfSome r (λ m. found_in x (entries_in f.now) ≡ Some (meant m)) → IfSome r (λ m. (es : Entries) → found_in x (with_frame es frame) ≡ Some (meant m))
+  pub frame_hides : (r : Option Meaning) → IfSome r (λ m. found_in x (frame_entries f.now) ≡ Some (meant m)) → IfSome r (λ m. (es : Entries) → found_in x (with_frame es frame) ≡ Some (meant m))
   frame_hides None h = tt
-  frame_hides (Some m) h = λ es. ap (λ g. found_in x (with_frame es g)) is ∙ found_within x (entries_in f.now) es h
+  frame_hides (Some m) h = λ es. ap (λ g. found_in x (with_frame es g)) is ∙ found_within x (frame_entries f.now) es h
 
-  pub frame_shows : (r : Option Meaning) → IfNone r (found_in x (entries_in f.now) ≡ None) → IfNone r ((es : Entries) → found_in x (with_frame es frame) ≡ found_in x es)
-  frame_shows None h = λ es. ap (λ g. found_in x (with_frame es g)) is ∙ found_around x (entries_in f.now) es h
+  pub frame_shows : (r : Option Meaning) → IfNone r (found_in x (frame_entries f.now) ≡ None) → IfNone r ((es : Entries) → found_in x (with_frame es frame) ≡ found_in x es)
+  frame_shows None h = λ es. ap (λ g. found_in x (with_frame es g)) is ∙ found_around x (frame_entries f.now) es h
   frame_shows (Some m) h = tt

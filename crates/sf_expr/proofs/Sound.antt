@@ -4,13 +4,13 @@ use Rattle.std.specs.Prelude.{Option, bytes_eq}
 use Rattle.std.proofs.lemmas.Option.{same_Some}
 use Rattle.sf_value.specs.Values.{Name, Kind, bool_kind, Data, HasKind, has_bool, has_pair}
 use Rattle.sf_func.specs.Registries.{FunctionTypes, types_named}
-use Rattle.sf_operator.specs.Operations.{truth_in, decided}
+use Rattle.sf_operator.specs.Operations.{truth_held, decided}
 use Rattle.sf_operator.specs.Kinds.{called_kind}
 use Rattle.sf_operator.proofs.SameKinds.{only_is, found_is, conditional_is}
 use Rattle.sf_operator.proofs.Yielding.{unary_yields, operator_yields, decision_yields}
 use Rattle.sf_operator.proofs.Forming.{and_yields, mapping_yields, folding_yields}
 use Rattle.sf_expr.specs.Expressions.{Pattern, Expression, Function}
-use Rattle.sf_expr.specs.Evaluation.{Evaluated, nonsense, known, Scope, functions_in, value_of, bound_in, unless_decided, granted, eval, apply}
+use Rattle.sf_expr.specs.Evaluation.{Evaluated, nonsense, known, Scope, scope_functions, value_of, bound_in, unless_decided, granted, eval, apply}
 use Rattle.sf_expr.specs.Typing.{Names, type_of_name, functions_of, AddsNames, adds_nothing, adds_name, adds_both, HasType, variable_has, literal_has, pair_has, applied_has, operation_has, conditional_has, mapped_has, folded_has, called_has, FunctionTakes, function_takes}
 use Rattle.sf_expr.specs.Soundness.{Yields, yields, fails, ScopeHas, has_no_names, has_name, has_other}
 
@@ -20,7 +20,7 @@ unless_yields (Some d) h k = yields (h d refl)
 unless_yields None h k = k
 
 -- one of two by a truth
-chosen_yields : {t : Kind} {c : Data} {o q : Evaluated Data} → HasKind c bool_kind → Yields t o → Yields t q → Yields t (known (truth_in c) (λ b. cond b o q))
+chosen_yields : {t : Kind} {c : Data} {o q : Evaluated Data} → HasKind c bool_kind → Yields t o → Yields t q → Yields t (known (truth_held c) (λ b. cond b o q))
 chosen_yields (has_bool {b = true}) h k = h
 chosen_yields (has_bool {b = false}) h k = k
 
@@ -49,7 +49,7 @@ granted_yields : {t : Kind} (o : Option Data) → ((d : Data) → o ≡ Some d �
 granted_yields (Some d) h = yields (h d refl)
 granted_yields None h = fails
 
-call_yields : {s : Scope} {R : Names} (g : Name) {fs : FunctionTypes} {d : Data} → ScopeHas s R → types_named g (functions_of R) ≡ Some fs → HasKind d fs.from → Yields fs.to (granted (functions_in s g d))
+call_yields : {s : Scope} {R : Names} (g : Name) {fs : FunctionTypes} {d : Data} → ScopeHas s R → types_named g (functions_of R) ≡ Some fs → HasKind d fs.from → Yields fs.to (granted (scope_functions s g d))
 call_yields g {fs} {d} (has_no_names {f = f} keeps) e h = granted_yields (f g d) (λ a q. keeps g fs e d a h q)
 call_yields g (has_name p k) e h = call_yields g k e h
 call_yields g (has_other k) e h = call_yields g k e h
@@ -78,7 +78,7 @@ expression_yields {R = R} {s = s} (called_has {g = g} {t = t} {u = u} h e f) k =
     let found = found_is (types_named g (functions_of R)) (λ fs. called_kind fs.from fs.to t) e in
     let same = only_is t found.0.from (Some found.0.to) found.2 in
     let made : found.0.to ≡ u = same_Some _ _ same.1 in
-    and_yields (expression_yields h k) (λ d q. subst (λ (u : Kind). Yields u (granted (functions_in s g d))) made (call_yields g k found.1 (subst (λ (t : Kind). HasKind d t) same.0 q)))
+    and_yields (expression_yields h k) (λ d q. subst (λ (u : Kind). Yields u (granted (scope_functions s g d))) made (call_yields g k found.1 (subst (λ (t : Kind). HasKind d t) same.0 q)))
 
 -- a function yields the type that it takes its argument's to
 pub function_yields : {R : Names} {s : Scope} {f : Function} {a b : Kind} {d : Data} → FunctionTakes R f a b → ScopeHas s R → HasKind d a → Yields b (apply f d s)

@@ -11,7 +11,7 @@ use Rattle.sf_refusal.specs.declared.spot.Spot.{Spot}
 use Rattle.sf_operator.specs.declared.operator.Operator.{Operator}
 use Rattle.sf_operator.specs.declared.operator.Unary.{Unary}
 use Rattle.sf_expr.specs.Expressions.{Expression, variable, literal, unit_literal, truth_literal, int_literal, paired, applied, operation, conditional, mapped, folded, called}
-use Rattle.sf_expr.specs.Arena.{expression, name_at, literal_at, placed_at, Builds, builds_unit, builds_truth, builds_constant, builds_int, builds_name, builds_pair, builds_applied, builds_operation, builds_conditional, builds_mapped, builds_folded, builds_called}
+use Rattle.sf_expr.specs.Arena.{expression, name_at, literal_at, stored_pattern, Builds, builds_unit, builds_truth, builds_constant, builds_int, builds_name, builds_pair, builds_applied, builds_operation, builds_conditional, builds_mapped, builds_folded, builds_called}
 use Rattle.sf_expr.specs.Patterns.{pattern_of}
 
 pub is_int : {x : Exprs} {z : _} {e : Expression} → Builds x (nodes.Int z) e → e ≡ literal (int_literal z)
@@ -41,10 +41,10 @@ is_operation builds_operation = refl
 pub is_conditional : {x : Exprs} {a b c : ExprId} {e : Expression} → Builds x (nodes.Conditional a b c) e → e ≡ conditional (expression x a) (expression x b) (expression x c)
 is_conditional builds_conditional = refl
 
-pub is_mapped : {x : Exprs} {n : Mapped} {e : Expression} → Builds x (nodes.Mapped n) e → e ≡ mapped (expression x n.part) n.mapping (pattern_of (placed_at x n.pattern)) (expression x n.body)
+pub is_mapped : {x : Exprs} {n : Mapped} {e : Expression} → Builds x (nodes.Mapped n) e → e ≡ mapped (expression x n.part) n.mapping (pattern_of (stored_pattern x n.pattern)) (expression x n.body)
 is_mapped builds_mapped = refl
 
-pub is_folded : {x : Exprs} {n : Folded} {e : Expression} → Builds x (nodes.Folded n) e → e ≡ folded (expression x n.first) n.folding (expression x n.second) (pattern_of (placed_at x n.pattern)) (expression x n.body)
+pub is_folded : {x : Exprs} {n : Folded} {e : Expression} → Builds x (nodes.Folded n) e → e ≡ folded (expression x n.first) n.folding (expression x n.second) (pattern_of (stored_pattern x n.pattern)) (expression x n.body)
 is_folded builds_folded = refl
 
 pub is_called : {x : Exprs} {g : NameId} {s : Spot} {a : ExprId} {e : Expression} → Builds x (nodes.Called g s a) e → e ≡ called (name_at x g) (expression x a)

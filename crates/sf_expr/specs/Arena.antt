@@ -18,15 +18,15 @@ use Rattle.sf_expr.specs.declared.exprs.ExprNode.TheVariants as nodes
 use Rattle.sf_expr.specs.declared.exprs.Exprs.{Exprs}
 use Rattle.sf_expr.specs.Expressions.{Literal, unit_literal, truth_literal, int_literal, Expression, variable, literal, paired, applied, operation, conditional, mapped, folded, called, Function, function}
 use Rattle.sf_expr.specs.Patterns.{PlacedPattern, pattern_of}
-use Rattle.sf_expr.specs.Entries.{name_among, literal_among, placed_among, Beside, entry_at, expression_at, function_entry}
+use Rattle.sf_expr.specs.Entries.{name_among, literal_among, placed_among, Beside, listed_entry, entry_expression, function_entry}
 
 -- the number of an id
 abbrev pub id_number : ExprId → ℕ
 id_number id = id.0
 
 -- how many expressions an arena holds
-unfoldable pub count_of : Exprs → ℕ
-count_of x = length (entries_of x.arena)
+unfoldable pub arena_count : Exprs → ℕ
+arena_count x = length (entries_of x.arena)
 
 -- how many functions an arena holds
 unfoldable pub function_count : Exprs → ℕ
@@ -82,15 +82,15 @@ beside x = record { names = x.names.items; literals = x.constants.items; pattern
 
 -- the expression at an id; the number 0 where the arena holds none
 unfoldable pub expression : Exprs → ExprId → Expression
-expression x id = expression_at (beside x) (entries_of x.arena) id.0
+expression x id = entry_expression (beside x) (entries_of x.arena) id.0
 
 -- the entry at an id
 unfoldable pub entry_of : Exprs → ExprId → Entry ExprNode
-entry_of x id = entry_at (entries_of x.arena) id.0
+entry_of x id = listed_entry (entries_of x.arena) id.0
 
 -- the node at an id, with the ids of its parts; the number 0 where the arena holds none
 unfoldable pub node_at : Exprs → ExprId → ExprNode
-node_at x id = (entry_at (entries_of x.arena) id.0).node
+node_at x id = (listed_entry (entries_of x.arena) id.0).node
 
 -- the name at an id of names; the empty one where the arena holds none
 unfoldable pub name_at : Exprs → NameId → Name
@@ -101,43 +101,43 @@ unfoldable pub literal_at : Exprs → ConstantId → Literal
 literal_at x n = literal_among x.constants.items n.0
 
 -- the pattern at an id of patterns; the one that binds nothing where the arena holds none
-unfoldable pub placed_at : Exprs → PatternId → PlacedPattern
-placed_at x p = placed_among x.patterns.items p.0
+unfoldable pub stored_pattern : Exprs → PatternId → PlacedPattern
+stored_pattern x p = placed_among x.patterns.items p.0
 
 -- where the expression at an id stands in the text
 unfoldable pub spot_at : Exprs → ExprId → Spot
-spot_at x id = (entry_at (entries_of x.arena) id.0).spot
+spot_at x id = (listed_entry (entries_of x.arena) id.0).spot
 
 -- the pattern of the function at an id; the one that binds nothing where the arena holds none
-unfoldable pub pattern_at : Exprs → FunctionId → PlacedPattern
-pattern_at x f = (function_entry x.functions.items f.0).pattern
+unfoldable pub argument_pattern : Exprs → FunctionId → PlacedPattern
+argument_pattern x f = (function_entry x.functions.items f.0).pattern
 
 -- the id of the body of the function at an id
-unfoldable pub body_at : Exprs → FunctionId → ExprId
-body_at x f = (function_entry x.functions.items f.0).body
+unfoldable pub body_id : Exprs → FunctionId → ExprId
+body_id x f = (function_entry x.functions.items f.0).body
 
 -- the function at an id
 abbrev pub function_at : Exprs → FunctionId → Function
-function_at x f = function (pattern_of (pattern_at x f)) (expression x (body_at x f))
+function_at x f = function (pattern_of (argument_pattern x f)) (expression x (body_id x f))
 
 -- the function of the pattern at an id and an expression
-abbrev pub function_under : Exprs → PatternId → ExprId → Function
-function_under x p i = function (pattern_of (placed_at x p)) (expression x i)
+abbrev pub pattern_function : Exprs → PatternId → ExprId → Function
+pattern_function x p i = function (pattern_of (stored_pattern x p)) (expression x i)
 
 -- the expression that a node stands for in an arena
-abbrev pub expression_of : Exprs → ExprNode → Expression
-expression_of x nodes.Unit = literal unit_literal
-expression_of x (nodes.Truth t) = literal (truth_literal t)
-expression_of x (nodes.Int z) = literal (int_literal z)
-expression_of x (nodes.Constant n) = literal (literal_at x n)
-expression_of x (nodes.Name n) = variable (name_at x n)
-expression_of x (nodes.Pair a b) = paired (expression x a) (expression x b)
-expression_of x (nodes.Applied o a) = applied o (expression x a)
-expression_of x (nodes.Operation a op b) = operation (expression x a) op (expression x b)
-expression_of x (nodes.Conditional a b c) = conditional (expression x a) (expression x b) (expression x c)
-expression_of x (nodes.Mapped n) = mapped (expression x n.part) n.mapping (pattern_of (placed_at x n.pattern)) (expression x n.body)
-expression_of x (nodes.Folded n) = folded (expression x n.first) n.folding (expression x n.second) (pattern_of (placed_at x n.pattern)) (expression x n.body)
-expression_of x (nodes.Called g s a) = called (name_at x g) (expression x a)
+abbrev pub node_expression : Exprs → ExprNode → Expression
+node_expression x nodes.Unit = literal unit_literal
+node_expression x (nodes.Truth t) = literal (truth_literal t)
+node_expression x (nodes.Int z) = literal (int_literal z)
+node_expression x (nodes.Constant n) = literal (literal_at x n)
+node_expression x (nodes.Name n) = variable (name_at x n)
+node_expression x (nodes.Pair a b) = paired (expression x a) (expression x b)
+node_expression x (nodes.Applied o a) = applied o (expression x a)
+node_expression x (nodes.Operation a op b) = operation (expression x a) op (expression x b)
+node_expression x (nodes.Conditional a b c) = conditional (expression x a) (expression x b) (expression x c)
+node_expression x (nodes.Mapped n) = mapped (expression x n.part) n.mapping (pattern_of (stored_pattern x n.pattern)) (expression x n.body)
+node_expression x (nodes.Folded n) = folded (expression x n.first) n.folding (expression x n.second) (pattern_of (stored_pattern x n.pattern)) (expression x n.body)
+node_expression x (nodes.Called g s a) = called (name_at x g) (expression x a)
 
 -- A node with the ids of its parts stands for an expression with their trees.
 pub data Builds (x : Exprs) : ExprNode → Expression → Type 0 where
@@ -150,8 +150,8 @@ pub data Builds (x : Exprs) : ExprNode → Expression → Type 0 where
   builds_applied : {o : Unary} {a : ExprId} → Builds x (nodes.Applied o a) (applied o (expression x a))
   builds_operation : {op : Operator} {a b : ExprId} → Builds x (nodes.Operation a op b) (operation (expression x a) op (expression x b))
   builds_conditional : {a b c : ExprId} → Builds x (nodes.Conditional a b c) (conditional (expression x a) (expression x b) (expression x c))
-  builds_mapped : {n : Mapped} → Builds x (nodes.Mapped n) (mapped (expression x n.part) n.mapping (pattern_of (placed_at x n.pattern)) (expression x n.body))
-  builds_folded : {n : Folded} → Builds x (nodes.Folded n) (folded (expression x n.first) n.folding (expression x n.second) (pattern_of (placed_at x n.pattern)) (expression x n.body))
+  builds_mapped : {n : Mapped} → Builds x (nodes.Mapped n) (mapped (expression x n.part) n.mapping (pattern_of (stored_pattern x n.pattern)) (expression x n.body))
+  builds_folded : {n : Folded} → Builds x (nodes.Folded n) (folded (expression x n.first) n.folding (expression x n.second) (pattern_of (stored_pattern x n.pattern)) (expression x n.body))
   builds_called : {g : NameId} {s : Spot} {a : ExprId} → Builds x (nodes.Called g s a) (called (name_at x g) (expression x a))
 
 -- the ids of a node's parts, as numbers, are below a number
@@ -179,21 +179,21 @@ HoldsParts x (nodes.Called g s a) = HoldsName x g × Holds x a
 HoldsParts x n = Unit {0}
 
 -- What an arena held is there as it was.
-pub record Keeps (old new : Exprs) : Type 0 where
+pub record Extends (old new : Exprs) : Type 0 where
   pub holds : (i : ExprId) → Holds old i → Holds new i
   pub nodes : (i : ExprId) → Holds old i → node_at new i ≡ node_at old i
   pub trees : (i : ExprId) → Holds old i → expression new i ≡ expression old i
   pub spots : (i : ExprId) → Holds old i → spot_at new i ≡ spot_at old i
   pub functions : (f : FunctionId) → HoldsFunction old f → HoldsFunction new f
-  pub patterns : (f : FunctionId) → HoldsFunction old f → pattern_at new f ≡ pattern_at old f
-  pub bodies : (f : FunctionId) → HoldsFunction old f → body_at new f ≡ body_at old f
+  pub patterns : (f : FunctionId) → HoldsFunction old f → argument_pattern new f ≡ argument_pattern old f
+  pub bodies : (f : FunctionId) → HoldsFunction old f → body_id new f ≡ body_id old f
   pub meanings : (f : FunctionId) → HoldsFunction old f → function_at new f ≡ function_at old f
   pub holds_names : (n : NameId) → HoldsName old n → HoldsName new n
   pub names : (n : NameId) → HoldsName old n → name_at new n ≡ name_at old n
   pub holds_constants : (n : ConstantId) → HoldsConstant old n → HoldsConstant new n
   pub constants : (n : ConstantId) → HoldsConstant old n → literal_at new n ≡ literal_at old n
   pub holds_patterns : (p : PatternId) → HoldsPattern old p → HoldsPattern new p
-  pub placed : (p : PatternId) → HoldsPattern old p → placed_at new p ≡ placed_at old p
+  pub placed : (p : PatternId) → HoldsPattern old p → stored_pattern new p ≡ stored_pattern old p
 
 -- an expression was added under a new id, with the parts that its node names, and what was there stands
 pub record Adds (old new : Exprs) (id : ExprId) (n : ExprNode) (e : Expression) (s : Spot) : Type 0 where
@@ -202,8 +202,8 @@ pub record Adds (old new : Exprs) (id : ExprId) (n : ExprNode) (e : Expression) 
   pub node : node_at new id ≡ n
   pub is : expression new id ≡ e
   pub spotted : spot_at new id ≡ s
-  pub kept : Keeps old new
-  pub count : count_of new ≡ count_of old + 1
+  pub kept : Extends old new
+  pub count : arena_count new ≡ arena_count old + 1
   pub functions : function_count new ≡ function_count old
   pub names : name_count new ≡ name_count old
   pub constants : constant_count new ≡ constant_count old
@@ -214,13 +214,13 @@ pub record AddsName (old new : Exprs) (n : NameId) (x : Name) : Type 0 where
   pub next : n ≡ next_name old
   pub within : HoldsName new n
   pub is : name_at new n ≡ x
-  pub kept : Keeps old new
+  pub kept : Extends old new
   pub nodes : (i : ExprId) → node_at new i ≡ node_at old i
   pub trees : (i : ExprId) → expression new i ≡ expression old i
   pub spots : (i : ExprId) → spot_at new i ≡ spot_at old i
-  pub patterns : (f : FunctionId) → pattern_at new f ≡ pattern_at old f
-  pub bodies : (f : FunctionId) → body_at new f ≡ body_at old f
-  pub count : count_of new ≡ count_of old
+  pub patterns : (f : FunctionId) → argument_pattern new f ≡ argument_pattern old f
+  pub bodies : (f : FunctionId) → body_id new f ≡ body_id old f
+  pub count : arena_count new ≡ arena_count old
   pub functions : function_count new ≡ function_count old
   pub names : name_count new ≡ name_count old + 1
   pub constants : constant_count new ≡ constant_count old
@@ -231,13 +231,13 @@ pub record AddsConstant (old new : Exprs) (n : ConstantId) (l : Literal) : Type 
   pub next : n ≡ next_constant old
   pub within : HoldsConstant new n
   pub is : literal_at new n ≡ l
-  pub kept : Keeps old new
+  pub kept : Extends old new
   pub nodes : (i : ExprId) → node_at new i ≡ node_at old i
   pub trees : (i : ExprId) → expression new i ≡ expression old i
   pub spots : (i : ExprId) → spot_at new i ≡ spot_at old i
-  pub patterns : (f : FunctionId) → pattern_at new f ≡ pattern_at old f
-  pub bodies : (f : FunctionId) → body_at new f ≡ body_at old f
-  pub count : count_of new ≡ count_of old
+  pub patterns : (f : FunctionId) → argument_pattern new f ≡ argument_pattern old f
+  pub bodies : (f : FunctionId) → body_id new f ≡ body_id old f
+  pub count : arena_count new ≡ arena_count old
   pub functions : function_count new ≡ function_count old
   pub names : name_count new ≡ name_count old
   pub constants : constant_count new ≡ constant_count old + 1
@@ -247,14 +247,14 @@ pub record AddsConstant (old new : Exprs) (n : ConstantId) (l : Literal) : Type 
 pub record AddsPattern (old new : Exprs) (p : PatternId) (q : PlacedPattern) : Type 0 where
   pub next : p ≡ next_pattern old
   pub within : HoldsPattern new p
-  pub is : placed_at new p ≡ q
-  pub kept : Keeps old new
+  pub is : stored_pattern new p ≡ q
+  pub kept : Extends old new
   pub nodes : (i : ExprId) → node_at new i ≡ node_at old i
   pub trees : (i : ExprId) → expression new i ≡ expression old i
   pub spots : (i : ExprId) → spot_at new i ≡ spot_at old i
-  pub patterns : (f : FunctionId) → pattern_at new f ≡ pattern_at old f
-  pub bodies : (f : FunctionId) → body_at new f ≡ body_at old f
-  pub count : count_of new ≡ count_of old
+  pub patterns : (f : FunctionId) → argument_pattern new f ≡ argument_pattern old f
+  pub bodies : (f : FunctionId) → body_id new f ≡ body_id old f
+  pub count : arena_count new ≡ arena_count old
   pub functions : function_count new ≡ function_count old
   pub names : name_count new ≡ name_count old
   pub constants : constant_count new ≡ constant_count old
@@ -264,11 +264,11 @@ pub record AddsPattern (old new : Exprs) (p : PatternId) (q : PlacedPattern) : T
 pub record AddsFunction (old new : Exprs) (f : FunctionId) (p : PlacedPattern) (b : ExprId) : Type 0 where
   pub within : HoldsFunction new f
   pub fresh : ¬ HoldsFunction old f
-  pub pattern : pattern_at new f ≡ p
-  pub body : body_at new f ≡ b
+  pub pattern : argument_pattern new f ≡ p
+  pub body : body_id new f ≡ b
   pub is : function_at new f ≡ function (pattern_of p) (expression old b)
-  pub kept : Keeps old new
-  pub count : count_of new ≡ count_of old
+  pub kept : Extends old new
+  pub count : arena_count new ≡ arena_count old
   pub functions : function_count new ≡ function_count old + 1
   pub names : name_count new ≡ name_count old
   pub constants : constant_count new ≡ constant_count old
@@ -276,7 +276,7 @@ pub record AddsFunction (old new : Exprs) (f : FunctionId) (p : PlacedPattern) (
 
 -- two arenas show the same at each id
 pub record IsUnchanged (old new : Exprs) : Type 0 where
-  pub count : count_of new ≡ count_of old
+  pub count : arena_count new ≡ arena_count old
   pub functions : function_count new ≡ function_count old
   pub name_counted : name_count new ≡ name_count old
   pub constant_counted : constant_count new ≡ constant_count old
@@ -284,11 +284,11 @@ pub record IsUnchanged (old new : Exprs) : Type 0 where
   pub nodes : (i : ExprId) → node_at new i ≡ node_at old i
   pub trees : (i : ExprId) → expression new i ≡ expression old i
   pub spots : (i : ExprId) → spot_at new i ≡ spot_at old i
-  pub patterns : (f : FunctionId) → pattern_at new f ≡ pattern_at old f
-  pub bodies : (f : FunctionId) → body_at new f ≡ body_at old f
+  pub patterns : (f : FunctionId) → argument_pattern new f ≡ argument_pattern old f
+  pub bodies : (f : FunctionId) → body_id new f ≡ body_id old f
   pub names : (n : NameId) → name_at new n ≡ name_at old n
   pub constants : (n : ConstantId) → literal_at new n ≡ literal_at old n
-  pub placed : (p : PatternId) → placed_at new p ≡ placed_at old p
+  pub placed : (p : PatternId) → stored_pattern new p ≡ stored_pattern old p
 
 -- an arena is a copy of another: it shows the same at each id
 abbrev pub IsCopy : Exprs → Exprs → Type 0

@@ -7,14 +7,14 @@ use Rattle.sf_expr.specs.declared.constant.ConstantForm.{ConstantForm}
 use Rattle.sf_expr.specs.declared.constant.ConstantForm.TheVariants.{Text, NoEvent}
 
 -- the bytes of a text
-abbrev pub text_in : Data → List ℕ
-text_in (text s) = s
-text_in d = []
+abbrev pub text_bytes : Data → List ℕ
+text_bytes (text s) = s
+text_bytes d = []
 
 -- what a form means
-abbrev pub constant_of : ConstantForm → Literal
-constant_of (Text d) = text_literal (text_in d)
-constant_of (NoEvent t) = none_literal t
+abbrev pub constant_literal : ConstantForm → Literal
+constant_literal (Text d) = text_literal (text_bytes d)
+constant_literal (NoEvent t) = none_literal t
 
 -- whether a value is a text in UTF-8
 abbrev pub is_text_value : Data → Bool

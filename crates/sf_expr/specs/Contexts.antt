@@ -4,9 +4,9 @@ use Rattle.sf_func.specs.Signatures.{signatures_in}
 use Rattle.sf_expr.specs.declared.exprs.Exprs.{Exprs}
 use Rattle.sf_expr.specs.declared.frame.Frame.{Frame}
 use Rattle.sf_expr.specs.declared.typing.ExprContext.{ExprContext}
-use Rattle.sf_expr.specs.Typing.{Names, with_types}
-use Rattle.sf_expr.specs.Meanings.{names_from}
-use Rattle.sf_expr.specs.Scopes.{names_of, entries_in, entries_around}
+use Rattle.sf_expr.specs.Typing.{Names, names_and_functions}
+use Rattle.sf_expr.specs.Meanings.{value_names}
+use Rattle.sf_expr.specs.Scopes.{scope_names, frame_entries, entries_around}
 
 -- the arena that they stand in
 abbrev pub exprs_in : ExprContext → Exprs
@@ -14,8 +14,8 @@ exprs_in c = c.exprs.now
 
 -- the types of the names around them, and those of stored functions
 abbrev pub types_around : ExprContext → Names
-types_around c = with_types (signatures_in c.functions.now) (names_of c.names.now)
+types_around c = names_and_functions (signatures_in c.functions.now) (scope_names c.names.now)
 
 -- the same with the names of a frame inside
 abbrev pub types_within : Frame → ExprContext → Names
-types_within f c = with_types (signatures_in c.functions.now) (names_from (entries_in f ++ entries_around c.names.now))
+types_within f c = names_and_functions (signatures_in c.functions.now) (value_names (frame_entries f ++ entries_around c.names.now))

@@ -2,7 +2,7 @@
 use Rattle.std.specs.Prelude.{◌≡◌, ℕ, suc, ◌≤◌, ◌<◌, max, pos, List, [], length, slice_index_or, Bool, true, IsTrue, All}
 use Rattle.sf_value.specs.Values.{Name, unit_kind, is_narrow}
 use Rattle.sf_arena.specs.declared.entry.Entry.{Entry}
-use Rattle.sf_arena.specs.Folded.{trees, tree_at}
+use Rattle.sf_arena.specs.Folded.{trees, folded_tree}
 use Rattle.sf_expr.specs.declared.exprs.ExprNode.{ExprNode}
 use Rattle.sf_expr.specs.declared.exprs.ExprNode.TheVariants as nodes
 use Rattle.sf_expr.specs.declared.stored.StoredFunction.{StoredFunction}
@@ -97,8 +97,8 @@ abbrev pub zero_entry : Entry ExprNode
 zero_entry = record { node = nodes.Int (pos 0); depth = 1; spot = record { line = 0; column = 0 } }
 
 -- the entry at a place; the number 0 past the end
-abbrev pub entry_at : List (Entry ExprNode) → ℕ → Entry ExprNode
-entry_at entries i = slice_index_or entries i zero_entry
+abbrev pub listed_entry : List (Entry ExprNode) → ℕ → Entry ExprNode
+listed_entry entries i = slice_index_or entries i zero_entry
 
 -- the expression of an entry, over the expressions before it
 abbrev pub entry_made : Beside → List Expression → Entry ExprNode → Expression
@@ -109,8 +109,8 @@ abbrev pub expressions : Beside → List (Entry ExprNode) → List Expression
 expressions b entries = trees (entry_made b) entries
 
 -- the expression at a place; the number 0 past the end
-abbrev pub expression_at : Beside → List (Entry ExprNode) → ℕ → Expression
-expression_at b entries i = tree_at (entry_made b) zero_expression entries i
+abbrev pub entry_expression : Beside → List (Entry ExprNode) → ℕ → Expression
+entry_expression b entries i = folded_tree (entry_made b) zero_expression entries i
 
 -- all literals stand for values
 abbrev pub AreValued : List Literal → Type 0
@@ -125,12 +125,12 @@ AreShallowPatterns ps = All IsShallow ps
 
 -- What holds of the entries of an arena, with what stands beside them.
 pub record IsArena (b : Beside) (entries : List (Entry ExprNode)) : Type 0 where
-  pub in_order : (i : ℕ) → needs (entry_at entries i).node ≤ i
-  pub named : (i : ℕ) → needs_names (entry_at entries i).node ≤ length b.names
-  pub constants : (i : ℕ) → needs_constants (entry_at entries i).node ≤ length b.literals
-  pub patterned : (i : ℕ) → needs_patterns (entry_at entries i).node ≤ length b.patterns
-  pub measured : (i : ℕ) → (entry_at entries i).depth ≡ depth (expression_at b entries i)
-  pub narrow : (i : ℕ) → IsTrue (has_narrow (entry_at entries i).node)
+  pub in_order : (i : ℕ) → needs (listed_entry entries i).node ≤ i
+  pub named : (i : ℕ) → needs_names (listed_entry entries i).node ≤ length b.names
+  pub constants : (i : ℕ) → needs_constants (listed_entry entries i).node ≤ length b.literals
+  pub patterned : (i : ℕ) → needs_patterns (listed_entry entries i).node ≤ length b.patterns
+  pub measured : (i : ℕ) → (listed_entry entries i).depth ≡ depth (entry_expression b entries i)
+  pub narrow : (i : ℕ) → IsTrue (has_narrow (listed_entry entries i).node)
 
 -- a function that binds nothing, with a body that no arena holds
 abbrev pub no_function : StoredFunction

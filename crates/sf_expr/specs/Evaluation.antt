@@ -4,7 +4,7 @@ use Rattle.sf_value.specs.Values.{Name, Data, unit, truth, number, text, pair, n
 use Rattle.sf_value.specs.declared.fault.ValueFault.TheVariants as faults
 use Rattle.sf_func.specs.Registries.{AnswersByName}
 pub use Rattle.sf_operator.specs.Outcomes.{Evaluated, answer, failed, ◌>>=◌, nonsense, known}
-use Rattle.sf_operator.specs.Operations.{truth_in, unary_value, decided, operated}
+use Rattle.sf_operator.specs.Operations.{truth_held, unary_value, decided, operated}
 use Rattle.sf_operator.specs.FunctionForms.{mapped_value, folded_value}
 use Rattle.sf_expr.specs.Expressions.{Pattern, unnamed, named, both, Literal, unit_literal, truth_literal, int_literal, text_literal, none_literal, Expression, variable, literal, paired, applied, operation, conditional, mapped, folded, called, Function, function}
 
@@ -16,10 +16,10 @@ pub data Scope : Type 0 where
   other_name : Name → Scope → Scope
 
 -- the functions of a scope
-abbrev pub functions_in : Scope → AnswersByName
-functions_in (no_names f) = f
-functions_in (value_name x d scope) = functions_in scope
-functions_in (other_name x scope) = functions_in scope
+abbrev pub scope_functions : Scope → AnswersByName
+scope_functions (no_names f) = f
+scope_functions (value_name x d scope) = scope_functions scope
+scope_functions (other_name x scope) = scope_functions scope
 
 -- the value of a name
 abbrev pub value_of : Name → Scope → Data
@@ -59,10 +59,10 @@ eval (literal l) scope = answer (literal_value l)
 eval (paired i j) scope = eval i scope >>= λ a. eval j scope >>= λ b. answer (pair a b)
 eval (applied o i) scope = eval i scope >>= unary_value o
 eval (operation i op j) scope = eval i scope >>= λ a. unless_decided (decided op a) (eval j scope >>= operated op a)
-eval (conditional i j k) scope = eval i scope >>= λ c. known (truth_in c) (λ b. cond b (eval j scope) (eval k scope))
+eval (conditional i j k) scope = eval i scope >>= λ c. known (truth_held c) (λ b. cond b (eval j scope) (eval k scope))
 eval (mapped i m p j) scope = eval i scope >>= λ a. mapped_value m a (λ x. eval j (bound_in p x scope))
 eval (folded i o j p k) scope = eval i scope >>= λ a. folded_value o a (eval j scope) (λ x. eval k (bound_in p x scope))
-eval (called g i) scope = eval i scope >>= λ a. granted (functions_in scope g a)
+eval (called g i) scope = eval i scope >>= λ a. granted (scope_functions scope g a)
 
 -- what a function answers to a value
 abbrev pub apply : Function → Data → Scope → Evaluated Data

@@ -76,7 +76,7 @@ abbrev pub function_size : Function → ℕ
 function_size (function p i) = size i
 
 -- the names of a pattern, from left to right
-abbrev pub names_in : Pattern → List Name
-names_in unnamed = []
-names_in (named x) = x ∷ []
-names_in (both p q) = names_in p ++ names_in q
+abbrev pub names_of_pattern : Pattern → List Name
+names_of_pattern unnamed = []
+names_of_pattern (named x) = x ∷ []
+names_of_pattern (both p q) = names_of_pattern p ++ names_of_pattern q

@@ -7,7 +7,7 @@ use Rattle.sf_operator.specs.declared.operator.Unary.{Unary}
 use Rattle.sf_func.specs.Registries.{types_named}
 pub use Rattle.sf_operator.specs.Kinds.{found_then}
 use Rattle.sf_operator.specs.Kinds.{unary_kind, binary_kind, conditional_kind, mapped_argument, mapped_kind, folded_argument, folded_kind}
-use Rattle.sf_expr.specs.Expressions.{Pattern, unnamed, named, both, names_in, Literal, int_literal, text_literal, Expression, variable, literal, paired, applied, operation, conditional, mapped, folded, called, Function, function}
+use Rattle.sf_expr.specs.Expressions.{Pattern, unnamed, named, both, names_of_pattern, Literal, int_literal, text_literal, Expression, variable, literal, paired, applied, operation, conditional, mapped, folded, called, Function, function}
 use Rattle.sf_expr.specs.Typing.{Names, typed_name, type_of_name, functions_of, call_kind, literal_kind}
 
 -- a type, if it has at most 256 nodes
@@ -49,11 +49,11 @@ conditional_type (Some c) None u = None
 conditional_type None t u = None
 
 -- the names with a pattern's names before them, if the pattern fits the type
-abbrev pub names_with : Pattern → Kind → Names → Option Names
-names_with unnamed t R = Some R
-names_with (named x) t R = Some (typed_name x t R)
-names_with (both p q) (pair_kind t u) R = found_then (names_with p t R) (names_with q u)
-names_with (both p q) t R = None
+abbrev pub names_matched : Pattern → Kind → Names → Option Names
+names_matched unnamed t R = Some R
+names_matched (named x) t R = Some (typed_name x t R)
+names_matched (both p q) (pair_kind t u) R = found_then (names_matched p t R) (names_matched q u)
+names_matched (both p q) t R = None
 
 -- whether a name is one of these
 abbrev pub is_among : Name → List Name → Bool
@@ -67,7 +67,7 @@ are_different (x ∷ xs) = not (is_among x xs) && are_different xs
 
 -- the names that a pattern adds for a type of at most 256 nodes, if it fits the type and its names are different
 abbrev pub names_bound : Pattern → Kind → Names → Option Names
-names_bound p t R = cond (nat_le (nodes t) 256 && are_different (names_in p)) (names_with p t R) None
+names_bound p t R = cond (nat_le (nodes t) 256 && are_different (names_of_pattern p)) (names_matched p t R) None
 
 -- the type of an expression where the names have types, if it has one
 abbrev pub expression_type : Names → Expression → Option Kind
@@ -89,7 +89,7 @@ expression_type R (called g i) =
 -- the type that a function takes values of a type to, if it takes them
 abbrev pub function_output : Names → Function → Kind → Option Kind
 function_output R (function p i) t =
-    cond (nat_le (nodes t) 256 && are_different (names_in p)) (found_then (names_with p t R) (λ S. expression_type S i)) None
+    cond (nat_le (nodes t) 256 && are_different (names_of_pattern p)) (found_then (names_matched p t R) (λ S. expression_type S i)) None
 
 -- each type that names have has at most 256 nodes
 abbrev pub NamesFit : Names → Type 0

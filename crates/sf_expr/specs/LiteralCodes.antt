@@ -15,18 +15,18 @@ literal_code (int_literal z) = (3, (z, ([], unit_kind)))
 literal_code (text_literal s) = (4, (pos 0, (s, unit_kind)))
 literal_code (none_literal t) = (5, (pos 0, ([], t)))
 
-abbrev pub literal_from : LiteralCode → Literal
-literal_from (zero, c) = unit_literal
-literal_from (suc zero, c) = truth_literal false
-literal_from (suc (suc zero), c) = truth_literal true
-literal_from (suc (suc (suc zero)), (z, c)) = int_literal z
-literal_from (suc (suc (suc (suc zero))), (z, (s, t))) = text_literal s
-literal_from (suc (suc (suc (suc (suc n)))), (z, (s, t))) = none_literal t
+abbrev pub decoded_literal : LiteralCode → Literal
+decoded_literal (zero, c) = unit_literal
+decoded_literal (suc zero, c) = truth_literal false
+decoded_literal (suc (suc zero), c) = truth_literal true
+decoded_literal (suc (suc (suc zero)), (z, c)) = int_literal z
+decoded_literal (suc (suc (suc (suc zero))), (z, (s, t))) = text_literal s
+decoded_literal (suc (suc (suc (suc (suc n)))), (z, (s, t))) = none_literal t
 
-pub literal_from-code : (l : Literal) → literal_from (literal_code l) ≡ l
-literal_from-code unit_literal = refl
-literal_from-code (truth_literal false) = refl
-literal_from-code (truth_literal true) = refl
-literal_from-code (int_literal z) = refl
-literal_from-code (text_literal s) = refl
-literal_from-code (none_literal t) = refl
+pub decoded_literal-code : (l : Literal) → decoded_literal (literal_code l) ≡ l
+decoded_literal-code unit_literal = refl
+decoded_literal-code (truth_literal false) = refl
+decoded_literal-code (truth_literal true) = refl
+decoded_literal-code (int_literal z) = refl
+decoded_literal-code (text_literal s) = refl
+decoded_literal-code (none_literal t) = refl

@@ -35,17 +35,17 @@ entry_before x (of_process a b) R = untyped_name x R
 entry_before x (of_collection k a b) R = untyped_name x R
 
 -- the names with the types of those that stand for values, without functions
-abbrev pub names_from : Entries → Names
-names_from [] = only_functions []
-names_from (e ∷ es) = entry_before e.0 e.1 (names_from es)
+abbrev pub value_names : Entries → Names
+value_names [] = only_functions []
+value_names (e ∷ es) = entry_before e.0 e.1 (value_names es)
 
 -- the names with one more
-abbrev pub with_entry : Entries → Named → Entries
-with_entry es n = (n.name.now, meant n.meaning) ∷ es
+abbrev pub entry_added : Entries → Named → Entries
+entry_added es n = (n.name.now, meant n.meaning) ∷ es
 
 -- names, of which the innermost stands last, the innermost first
-abbrev pub entries_from : List Named → Entries
-entries_from ns = fold with_entry [] ns
+abbrev pub named_entries : List Named → Entries
+named_entries ns = fold entry_added [] ns
 
 -- the place of the last of a name behind one more, which is of the name or not
 abbrev pub place_behind : Bool → Option ℕ → Option ℕ

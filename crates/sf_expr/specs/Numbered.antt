@@ -11,15 +11,15 @@ use Rattle.sf_expr.specs.declared.exprs.numbers.NumberedPattern.{NumberedPattern
 use Rattle.sf_expr.specs.declared.exprs.numbers.NumberedPattern.TheVariants.{Unnamed, Name as Numbered, Both'}
 use Rattle.sf_expr.specs.Expressions.{Pattern, unnamed, named, both}
 use Rattle.sf_expr.specs.Patterns.{pattern_of}
-use Rattle.sf_expr.specs.Arena.{name_at, placed_at}
+use Rattle.sf_expr.specs.Arena.{name_at, stored_pattern}
 
 -- the number of a name
 unfoldable pub number_at : Numbers → NameId → ℕ
 number_at n k = slice_index_or n.names.items k.0 n.empty
 
 -- a pattern, of which each name is a number
-unfoldable pub numbered_at : Numbers → PatternId → NumberedPattern
-numbered_at n q = slice_index_or n.patterns.items q.0 n.unnamed
+unfoldable pub numbered_pattern : Numbers → PatternId → NumberedPattern
+numbered_pattern n q = slice_index_or n.patterns.items q.0 n.unnamed
 
 -- The number of a name tells where a pattern binds it.
 abbrev pub TellsName : ℕ → Name → NumberedPattern → Pattern → Type 0
@@ -36,15 +36,15 @@ TellsName m x (Both' a s b t) (both p q) = TellsName m x s p × TellsName m x t 
 -- Numbers tell names apart, also those that patterns bind.
 pub record AreNumbers (e : Exprs) (n : Numbers) : Type 0 where
   pub names : (j k : NameId) → nat_eq (number_at n j) (number_at n k) ≡ bytes_eq (name_at e j) (name_at e k)
-  pub patterns : (k : NameId) (q : PatternId) → TellsName (number_at n k) (name_at e k) (numbered_at n q) (pattern_of (placed_at e q))
+  pub patterns : (k : NameId) (q : PatternId) → TellsName (number_at n k) (name_at e k) (numbered_pattern n q) (pattern_of (stored_pattern e q))
 
 -- a number is the first place of a text among texts
 abbrev pub IsNumber : List (Bor (List ℕ)) → Name → ℕ → Type 0
 IsNumber ks x i = (position_or_len (λ (k : Bor (List ℕ)). bytes_eq x k.now) ks ≡ i) × (i < length ks)
 
 -- numbers go on being so
-abbrev pub KeepsNumbers : List (Bor (List ℕ)) → List (Bor (List ℕ)) → Type 0
-KeepsNumbers old new = (x : Name) (i : ℕ) → IsNumber old x i → IsNumber new x i
+abbrev pub ExtendsNumbers : List (Bor (List ℕ)) → List (Bor (List ℕ)) → Type 0
+ExtendsNumbers old new = (x : Name) (i : ℕ) → IsNumber old x i → IsNumber new x i
 
 -- the numbers of a pattern are those of its names
 abbrev pub IsNumbered : List (Bor (List ℕ)) → Pattern → NumberedPattern → Type 0

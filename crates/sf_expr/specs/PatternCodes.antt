@@ -8,10 +8,10 @@ pub data PatternMark : Type 0 where
   is_name : List ℕ → ℕ → ℕ → PatternMark
   is_both : PatternMark
 
-abbrev pub pattern_marks : PlacedPattern → List PatternMark → List PatternMark
-pattern_marks placed_unnamed more = is_unnamed ∷ more
-pattern_marks (placed_name x s) more = is_name x s.line s.column ∷ more
-pattern_marks (placed_both p q) more = is_both ∷ pattern_marks p (pattern_marks q more)
+abbrev pub marked_pattern : PlacedPattern → List PatternMark → List PatternMark
+marked_pattern placed_unnamed more = is_unnamed ∷ more
+marked_pattern (placed_name x s) more = is_name x s.line s.column ∷ more
+marked_pattern (placed_both p q) more = is_both ∷ marked_pattern p (marked_pattern q more)
 
 -- the patterns of the marks after this one, and this one's
 abbrev pub put_pattern : PatternMark → List PlacedPattern → List PlacedPattern
@@ -29,15 +29,15 @@ first_pattern [] = placed_unnamed
 first_pattern (p ∷ ps) = p
 
 abbrev pub pattern_marks_of : PlacedPattern → List PatternMark
-pattern_marks_of p = pattern_marks p []
+pattern_marks_of p = marked_pattern p []
 
-abbrev pub pattern_from : List PatternMark → PlacedPattern
-pattern_from ms = first_pattern (patterns ms)
+abbrev pub decoded_pattern : List PatternMark → PlacedPattern
+decoded_pattern ms = first_pattern (patterns ms)
 
-patterns-marks : (p : PlacedPattern) (more : List PatternMark) → patterns (pattern_marks p more) ≡ p ∷ patterns more
+patterns-marks : (p : PlacedPattern) (more : List PatternMark) → patterns (marked_pattern p more) ≡ p ∷ patterns more
 patterns-marks placed_unnamed more = refl
 patterns-marks (placed_name x s) more = refl
-patterns-marks (placed_both p q) more = ap (put_pattern is_both) (patterns-marks p (pattern_marks q more) ∙ ap (λ ps. p ∷ ps) (patterns-marks q more))
+patterns-marks (placed_both p q) more = ap (put_pattern is_both) (patterns-marks p (marked_pattern q more) ∙ ap (λ ps. p ∷ ps) (patterns-marks q more))
 
-pub pattern_from-marks_of : (p : PlacedPattern) → pattern_from (pattern_marks_of p) ≡ p
-pattern_from-marks_of p = ap first_pattern (patterns-marks p [])
+pub decoded_pattern-marks_of : (p : PlacedPattern) → decoded_pattern (pattern_marks_of p) ≡ p
+decoded_pattern-marks_of p = ap first_pattern (patterns-marks p [])

@@ -5,7 +5,7 @@ use Rattle.sf_expr.specs.declared.pat.PatForm.{PatForm}
 use Rattle.sf_expr.specs.declared.pat.PatForm.TheVariants.{Unnamed, Name, Both}
 
 -- what a form means
-abbrev pub placed_of : PatForm → PlacedPattern
-placed_of Unnamed = placed_unnamed
-placed_of (Name x s) = placed_name (string_bytes x) s
-placed_of (Both p q) = placed_both p.value q.value
+abbrev pub pattern_placed : PatForm → PlacedPattern
+pattern_placed Unnamed = placed_unnamed
+pattern_placed (Name x s) = placed_name (string_bytes x) s
+pattern_placed (Both p q) = placed_both p.value q.value

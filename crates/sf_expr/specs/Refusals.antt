@@ -1,6 +1,6 @@
 -- Why expressions and functions have no type.
 use Rattle.std.specs.Prelude.{◌≡◌, ◌<◌, Result, Ok, Err}
-use Rattle.sf_value.specs.Values.{Kind, pair_kind, nodes as nodes_of}
+use Rattle.sf_value.specs.Values.{Kind, pair_kind, nodes}
 use Rattle.sf_refusal.specs.declared.spot.Spot.{Spot}
 use Rattle.sf_refusal.specs.declared.rule.Rule.TheVariants.{Mismatch, TypeTooLarge}
 use Rattle.sf_refusal.specs.declared.refusal.Breach.{Breach}
@@ -13,7 +13,7 @@ use Rattle.sf_expr.specs.Expressions.{Pattern, Expression, Function}
 use Rattle.sf_expr.specs.Patterns.{PlacedPattern}
 use Rattle.sf_expr.specs.Arena.{expression, function_at}
 use Rattle.sf_expr.specs.Typing.{Names, Fits, AddsNames, HasType, FunctionTakes}
-use Rattle.sf_expr.specs.Judging.{binding_at, judged, function_judged}
+use Rattle.sf_expr.specs.Judging.{judged_binding, judged, function_judged}
 
 -- The answer for an expression: its type, or a refusal, where it has none. Want of memory says nothing of it.
 abbrev pub Types : Names → Expression → Result Kind Refusal → Type 0
@@ -31,7 +31,7 @@ BindRefused p t at b = (b ≡ breach_of Mismatch at) × ((R S : Names) → AddsN
 
 -- The first rule that a pattern for a type breaks, and where, whatever names stand around.
 pub record PatternRefused (p : PlacedPattern) (t : Kind) (at : Spot) (b : Breach) : Type 0 where
-  pub first : (R : Names) → binding_at at p t R ≡ Err b
+  pub first : (R : Names) → judged_binding at p t R ≡ Err b
 
 -- The first rule that an expression breaks, and where.
 pub record Refused (x : Exprs) (R : Names) (i : ExprId) (b : Breach) : Type 0 where
@@ -44,7 +44,7 @@ Judges x R i (Err r) = OrMemory (Refused x R i) r
 
 -- why there is no type of pairs of two types, at a place
 abbrev pub PairRefused : Kind → Kind → Spot → Breach → Type 0
-PairRefused t u at b = (b ≡ breach_of TypeTooLarge at) × (256 < nodes_of (pair_kind t u))
+PairRefused t u at b = (b ≡ breach_of TypeTooLarge at) × (256 < nodes (pair_kind t u))
 
 -- the answer for the type of pairs of two types, at a place
 abbrev pub AnswersPair : Kind → Kind → Spot → Result Kind Refusal → Type 0

@@ -8,7 +8,7 @@ use Rattle.sf_operator.specs.declared.operator.Folding.{Folding}
 use Rattle.sf_func.specs.Registries.{FunctionTypes, TypesByName, types_named}
 pub use Rattle.sf_operator.specs.Kinds.{Fits}
 use Rattle.sf_operator.specs.Kinds.{found_then, unary_kind, binary_kind, conditional_kind, mapped_argument, mapped_kind, called_kind, folded_argument, folded_kind}
-use Rattle.sf_expr.specs.Expressions.{Pattern, unnamed, named, both, names_in, Literal, unit_literal, truth_literal, int_literal, text_literal, none_literal, Expression, variable, literal, paired, applied, operation, conditional, mapped, folded, called, Function, function}
+use Rattle.sf_expr.specs.Expressions.{Pattern, unnamed, named, both, names_of_pattern, Literal, unit_literal, truth_literal, int_literal, text_literal, none_literal, Expression, variable, literal, paired, applied, operation, conditional, mapped, folded, called, Function, function}
 use Rattle.sf_expr.specs.Evaluation.{literal_value}
 
 -- The names around an expression, the innermost first: those that it may use with their types, and others, which stand for
@@ -37,10 +37,10 @@ functions_of (typed_name x t R) = functions_of R
 functions_of (untyped_name x R) = functions_of R
 
 -- the names with their types, with functions of these types
-abbrev pub with_types : TypesByName → Names → Names
-with_types fs (only_functions gs) = only_functions fs
-with_types fs (typed_name x t R) = typed_name x t (with_types fs R)
-with_types fs (untyped_name x R) = untyped_name x (with_types fs R)
+abbrev pub names_and_functions : TypesByName → Names → Names
+names_and_functions fs (only_functions gs) = only_functions fs
+names_and_functions fs (typed_name x t R) = typed_name x t (names_and_functions fs R)
+names_and_functions fs (untyped_name x R) = untyped_name x (names_and_functions fs R)
 
 -- the type of what a function makes of a value of a type, if it is there and takes such values
 abbrev pub call_kind : Option FunctionTypes → Kind → Option Kind
@@ -68,7 +68,7 @@ pub data AddsNames : Pattern → Kind → Names → Names → Type 0 where
 -- A pattern is bound: it adds its names, which are different.
 pub record Binds (p : Pattern) (t : Kind) (R S : Names) : Type 0 where
   pub adds : AddsNames p t R S
-  pub apart : AllDifferent (names_in p)
+  pub apart : AllDifferent (names_of_pattern p)
 
 -- An expression has a type, where the names have types. Each type has at most 256 nodes.
 pub data HasType : Names → Expression → Kind → Type 0 where

@@ -3,7 +3,7 @@ ghost use Rattle.std.specs.Prelude.{◌≡◌, IfOk, IsTrue, string_bytes};
 ghost use Rattle.sf_expr.specs.Expressions.{text_literal, none_literal};
 ghost use Rattle.sf_expr.specs.Evaluation.{literal_value};
 ghost use Rattle.sf_expr.specs.Inference.{is_valued};
-ghost use Rattle.sf_expr.specs.Constants.{constant_of};
+ghost use Rattle.sf_expr.specs.Constants.{constant_literal};
 
 use sf_value::{Ty, Value};
 use std::alloc::{AllocError, Global};
@@ -35,15 +35,15 @@ impl Model for Constant {
     ghost use Rattle.std.specs.Coded.{code_by, codes};
     ghost use Rattle.sf_value.specs.contracts.ty.Ty as ty;
     ghost use Rattle.sf_expr.specs.Expressions.{Literal};
-    ghost use Rattle.sf_expr.specs.LiteralCodes.{LiteralCode, literal_code, literal_from, literal_from-code};
+    ghost use Rattle.sf_expr.specs.LiteralCodes.{LiteralCode, literal_code, decoded_literal, decoded_literal-code};
 
     ghost Value = { Literal };
 
-    ghost coded = { code_by LiteralCode (Prim.hlevel (codes, ty.the_row.coded)) literal_code literal_from literal_from-code };
+    ghost coded = { code_by LiteralCode (Prim.hlevel (codes, ty.the_row.coded)) literal_code decoded_literal decoded_literal-code };
 
-    ghost use Rattle.sf_expr.specs.Constants.{constant_of, is_constant};
+    ghost use Rattle.sf_expr.specs.Constants.{constant_literal, is_constant};
 
-    ghost view = { λ a. constant_of a.form };
+    ghost view = { λ a. constant_literal a.form };
 
     ghost invariant = { λ a. IsTrue (is_constant a.form) };
 }
@@ -72,7 +72,7 @@ impl Constant {
     /// What it is.
     #[tactic(auto, using(crate::proofs::Literals::constant_valued))]
     pub fn form(&self) -> &ConstantForm
-        ensures form { constant_of result.now ≡ self.now }
+        ensures form { constant_literal result.now ≡ self.now }
         ensures valued { IsTrue (is_valued self.now) }
     {
         &self.form

@@ -1,7 +1,7 @@
 //! An arena of expressions.
 ghost use Rattle.std.specs.Prelude.{◌≡◌, ◌<◌, ◌≤◌, ◌↔◌, IfOk, OnErr, IsTrue, length, string_bytes};
-ghost use Rattle.sf_expr.specs.Expressions.{function as function_of};
-ghost use Rattle.sf_expr.specs.Expressions.{depth as depth_of, pattern_depth, function_depth as function_depth_of};
+ghost use Rattle.sf_expr.specs.Expressions as expression_trees;
+ghost use Rattle.sf_expr.specs.Expressions.{pattern_depth};
 ghost use Rattle.sf_expr.specs.Patterns.{placed_unnamed, pattern_of};
 ghost use Rattle.sf_arena.specs.Arenas.{entries_of};
 ghost use Rattle.sf_expr.specs.Entries.{IsArena, AreFunctions, AreValued, AreShallowPatterns, none_of_unit, has_narrow};
@@ -137,14 +137,14 @@ impl Drop for Exprs {
 }
 
 impl Exprs {
-    ghost use Rattle.sf_expr.specs.Arena.{count_of, function_count, name_count, constant_count, pattern_count, Holds, HoldsFunction, expression, name_at, literal_at, placed_at, spot_at};
-    ghost use Rattle.sf_expr.specs.Arena.{pattern_at, body_at, function_at, id_number, entry_of, node_at, expression_of};
+    ghost use Rattle.sf_expr.specs.Arena.{arena_count, function_count, name_count, constant_count, pattern_count, Holds, HoldsFunction, expression, name_at, literal_at, stored_pattern, spot_at};
+    ghost use Rattle.sf_expr.specs.Arena.{argument_pattern, body_id, function_at, id_number, entry_of, node_at, node_expression};
     ghost use Rattle.sf_expr.specs.Arena.{Builds, PartsBelow, HoldsParts, Adds, AddsName, AddsConstant, AddsPattern, AddsFunction, IsUnchanged, IsCopy};
 
     /// No expression, no name, no constant, no pattern and no function.
-    #[tactic(auto, unfolding(crate::specs::Arena::count_of, crate::specs::Arena::function_count, crate::specs::Arena::name_count, crate::specs::Arena::constant_count, crate::specs::Arena::pattern_count))]
+    #[tactic(auto, unfolding(crate::specs::Arena::arena_count, crate::specs::Arena::function_count, crate::specs::Arena::name_count, crate::specs::Arena::constant_count, crate::specs::Arena::pattern_count))]
     pub fn new(alloc: Global) -> Exprs
-        ensures expressions { count_of result ≡ 0 }
+        ensures expressions { arena_count result ≡ 0 }
         ensures functions { function_count result ≡ 0 }
         ensures names { name_count result ≡ 0 }
         ensures constants { constant_count result ≡ 0 }
@@ -162,9 +162,9 @@ impl Exprs {
     }
 
     /// How many expressions there are.
-    #[tactic(auto, unfolding(crate::specs::Arena::count_of))]
+    #[tactic(auto, unfolding(crate::specs::Arena::arena_count))]
     pub fn len(&self) -> usize
-        ensures { result ≡ count_of self.now }
+        ensures { result ≡ arena_count self.now }
     {
         self.arena.len()
     }
@@ -172,7 +172,7 @@ impl Exprs {
     /// The id of the expression of a number.
     #[tactic(auto, using(crate::proofs::Entered::few_expressions))]
     pub fn at(&self, number: usize) -> ExprId
-        requires { number < count_of self.now }
+        requires { number < arena_count self.now }
         ensures { id_number result ≡ number }
     {
         ExprId(number as u32)
@@ -181,7 +181,7 @@ impl Exprs {
     /// How many expressions stand one inside another in the one at an id.
     #[tactic(auto, using(crate::proofs::Entered::expression_shallow), unfolding(crate::specs::Arena::expression))]
     pub fn depth(&self, id: ExprId) -> u32
-        ensures value { result ≡ depth_of (expression self.now id) }
+        ensures value { result ≡ expression_trees.depth (expression self.now id) }
         ensures bound { result ≤ 64 }
     {
         match self.arena.get(id.0 as usize) {
@@ -193,7 +193,7 @@ impl Exprs {
     /// How many patterns or expressions stand one inside another in the function at an id.
     #[tactic(auto, using(crate::proofs::Entered::function_shallow, crate::proofs::Entered::expression_shallow, crate::proofs::Entered::pattern_shallow))]
     pub fn function_depth(&self, id: FunctionId) -> u32
-        ensures value { result ≡ function_depth_of (function_at self.now id) }
+        ensures value { result ≡ expression_trees.function_depth (function_at self.now id) }
         ensures bound { result ≤ 64 }
     {
         let body = self.body(id);
@@ -203,7 +203,7 @@ impl Exprs {
     /// How many patterns stand one inside another in the pattern at an id of patterns.
     #[tactic(auto, using(crate::proofs::Entered::placed_shallow))]
     pub fn pattern_depth(&self, pattern: PatternId) -> u32
-        ensures value { result ≡ pattern_depth (pattern_of (placed_at self.now pattern)) }
+        ensures value { result ≡ pattern_depth (pattern_of (stored_pattern self.now pattern)) }
         ensures bound { result ≤ 64 }
     {
         self.placed(pattern).depth()
@@ -212,7 +212,7 @@ impl Exprs {
     // How many patterns or expressions stand one inside another in a pattern and the expression that it binds names for.
     #[tactic(auto, using(crate::proofs::Entered::placed_shallow, crate::proofs::Entered::expression_shallow))]
     fn depth_under(&self, pattern: PatternId, body: ExprId) -> u32
-        ensures value { result ≡ function_depth_of (function_of (pattern_of (placed_at self.now pattern)) (expression self.now body)) }
+        ensures value { result ≡ expression_trees.function_depth (expression_trees.function (pattern_of (stored_pattern self.now pattern)) (expression self.now body)) }
         ensures bound { result ≤ 64 }
     {
         self.placed(pattern).depth().max(self.depth(body))
@@ -220,7 +220,7 @@ impl Exprs {
 
     // How many expressions would stand one inside another in that of a node.
     fn depth_with(&self, node: ExprNode) -> u32
-        ensures value { result ≡ depth_of (expression_of self.now node) }
+        ensures value { result ≡ expression_trees.depth (node_expression self.now node) }
         ensures bound { result ≤ 65 }
         ensures narrow { IsTrue (has_narrow node) }
     {
@@ -252,10 +252,10 @@ impl Exprs {
     /// nothing.
     pub fn add(&mut self, node: ExprNode, spot: Spot) -> Result<ExprId, ArenaRefusal>
         requires { HoldsParts self.old node }
-        ensures ok { IfOk result (λ id. Adds self.old self.new id node (expression_of self.old node) spot) }
-        ensures many { result ≡ Err ArenaRefusal.TooMany ↔ 100000 ≤ count_of self.old }
-        ensures deep { let whole = expression_of self.old node in
-            result ≡ Err ArenaRefusal.TooDeep ↔ (count_of self.old < 100000) × (64 < depth_of whole) }
+        ensures ok { IfOk result (λ id. Adds self.old self.new id node (node_expression self.old node) spot) }
+        ensures many { result ≡ Err ArenaRefusal.TooMany ↔ 100000 ≤ arena_count self.old }
+        ensures deep { let whole = node_expression self.old node in
+            result ≡ Err ArenaRefusal.TooDeep ↔ (arena_count self.old < 100000) × (64 < expression_trees.depth whole) }
         ensures err { OnErr result (IsUnchanged self.old self.new) }
     {
         let depth = self.depth_with(node);
@@ -309,8 +309,8 @@ impl Exprs {
         requires { Holds self.old body }
         ensures ok { IfOk result (λ f. AddsFunction self.old self.new f pattern body) }
         ensures not_many { ¬ (result ≡ Err ArenaRefusal.TooMany) }
-        ensures deep { let whole = function_of (pattern_of pattern) (expression self.old body) in
-            result ≡ Err ArenaRefusal.TooDeep ↔ 64 < function_depth_of whole }
+        ensures deep { let whole = expression_trees.function (pattern_of pattern) (expression self.old body) in
+            result ≡ Err ArenaRefusal.TooDeep ↔ 64 < expression_trees.function_depth whole }
         ensures err { OnErr result (IsUnchanged self.old self.new) }
     {
         if 64 < pattern.depth() {
@@ -359,9 +359,9 @@ impl Exprs {
     }
 
     /// The pattern at an id of patterns; the one that binds nothing at an id that the arena does not hold.
-    #[tactic(auto, unfolding(crate::specs::Arena::placed_at))]
+    #[tactic(auto, unfolding(crate::specs::Arena::stored_pattern))]
     pub fn placed(&self, pattern: PatternId) -> &Pat
-        ensures { result.now ≡ placed_at self.now pattern }
+        ensures { result.now ≡ stored_pattern self.now pattern }
     {
         match self.patterns.get(pattern.0) {
             Some(pattern) => pattern,
@@ -381,9 +381,9 @@ impl Exprs {
     }
 
     /// The pattern of the function at an id; the one that binds nothing at an id that the arena does not hold.
-    #[tactic(auto, unfolding(crate::specs::Arena::pattern_at))]
+    #[tactic(auto, unfolding(crate::specs::Arena::argument_pattern))]
     pub fn pattern(&self, function: FunctionId) -> &Pat
-        ensures { result.now ≡ pattern_at self.now function }
+        ensures { result.now ≡ argument_pattern self.now function }
     {
         match self.functions.get(function.0) {
             Some(function) => &function.pattern,
@@ -392,9 +392,9 @@ impl Exprs {
     }
 
     /// The body of the function at an id; an id that the arena does not hold at an id that it does not hold.
-    #[tactic(auto, using(crate::proofs::Entered::body_held), unfolding(crate::specs::Arena::body_at))]
+    #[tactic(auto, using(crate::proofs::Entered::body_held), unfolding(crate::specs::Arena::body_id))]
     pub fn body(&self, function: FunctionId) -> ExprId
-        ensures value { result ≡ body_at self.now function }
+        ensures value { result ≡ body_id self.now function }
         ensures held { HoldsFunction self.now function → Holds self.now result }
     {
         match self.functions.get(function.0) {

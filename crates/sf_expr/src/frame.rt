@@ -7,9 +7,9 @@ ghost use Rattle.sf_refusal.specs.Refusals.{OrMemory};
 ghost use Rattle.sf_expr.specs.Patterns.{pattern_of};
 ghost use Rattle.sf_expr.specs.Typing.{Fits, AddsNames, Binds, only_functions};
 ghost use Rattle.sf_expr.specs.Inference.{is_among};
-ghost use Rattle.sf_expr.specs.Judging.{seen_with, Stops};
+ghost use Rattle.sf_expr.specs.Judging.{judged_seen, Stops};
 ghost use Rattle.sf_expr.specs.Refusals.{BindRefused, PatternRefused};
-ghost use Rattle.sf_expr.specs.Meanings.{of_value, of_process, of_collection, meant, found_in, names_from, names_seen, last_place};
+ghost use Rattle.sf_expr.specs.Meanings.{of_value, of_process, of_collection, meant, found_in, value_names, names_seen, last_place};
 
 use crate::meaning::{Meaning, Named};
 use crate::pat::{Pat, PatForm};
@@ -36,11 +36,11 @@ impl<'a> Drop for Frame<'a> {
 }
 
 impl<'a> Frame<'a> {
-    ghost use Rattle.sf_expr.specs.Scopes.{entries_in};
+    ghost use Rattle.sf_expr.specs.Scopes.{frame_entries};
 
     /// No name.
     pub fn new(alloc: Global) -> Frame<'a>
-        ensures { entries_in result ≡ [] }
+        ensures { frame_entries result ≡ [] }
     {
         Frame {
             names: Vec::new(alloc),
@@ -50,7 +50,7 @@ impl<'a> Frame<'a> {
 
     /// Puts a name behind the names that are there, with what it stands for.
     fn add(&mut self, name: &'a str, meaning: Meaning<'a>) -> Result<(), AllocError>
-        ensures { OnOk result (entries_in self.new ≡ (name.now, meant meaning.entry) ∷ entries_in self.old) }
+        ensures { OnOk result (frame_entries self.new ≡ (name.now, meant meaning.entry) ∷ frame_entries self.old) }
     {
         let place = self.names.len();
         self.names.push(Named { name, meaning })?;
@@ -65,14 +65,14 @@ impl<'a> Frame<'a> {
 
     /// Puts a name behind the names that are there that stands for a value of a type.
     pub fn add_value(&mut self, name: &'a str, ty: &'a Ty) -> Result<(), AllocError>
-        ensures { OnOk result (entries_in self.new ≡ (name.now, of_value ty.now) ∷ entries_in self.old) }
+        ensures { OnOk result (frame_entries self.new ≡ (name.now, of_value ty.now) ∷ frame_entries self.old) }
     {
         self.add(name, Meaning::Value(ty))
     }
 
     /// Puts a name behind the names that are there that stands for a process from a type to a type.
     pub fn add_process(&mut self, name: &'a str, from: &'a Ty, to: &'a Ty) -> Result<(), AllocError>
-        ensures { OnOk result (entries_in self.new ≡ (name.now, of_process from.now to.now) ∷ entries_in self.old) }
+        ensures { OnOk result (frame_entries self.new ≡ (name.now, of_process from.now to.now) ∷ frame_entries self.old) }
     {
         self.add(name, Meaning::Process(from, to))
     }
@@ -86,15 +86,15 @@ impl<'a> Frame<'a> {
         from: &'a Ty,
         to: &'a Ty,
     ) -> Result<(), AllocError>
-        ensures { OnOk result (entries_in self.new ≡ (name.now, of_collection (key_kind_of keys) from.now to.now) ∷ entries_in self.old) }
+        ensures { OnOk result (frame_entries self.new ≡ (name.now, of_collection (key_kind_of keys) from.now to.now) ∷ frame_entries self.old) }
     {
         self.add(name, Meaning::Collection(keys, from, to))
     }
 
     /// What the last of a name stands for; none where it is not there.
     pub(crate) fn find(&self, name: &str) -> Option<Meaning<'a>>
-        ensures found { IfSome result (λ m. found_in name.now (entries_in self.now) ≡ Some (meant m)) }
-        ensures absent { IfNone result (found_in name.now (entries_in self.now) ≡ None) }
+        ensures found { IfSome result (λ m. found_in name.now (frame_entries self.now) ≡ Some (meant m)) }
+        ensures absent { IfNone result (found_in name.now (frame_entries self.now) ≡ None) }
     {
         let place = *self.places.get(name)?;
         Some(self.names[place].meaning)
@@ -104,7 +104,7 @@ impl<'a> Frame<'a> {
     /// `Mismatch` at `at` where the pattern does not fit the type, and with `Memory`; only some of the names may be
     /// there then.
     fn bind(&mut self, pattern: &'a Pat, ty: &'a Ty, at: Spot) -> Result<(), Refusal>
-        ensures ok { OnOk result (AddsNames (pattern_of pattern.now) ty.now (names_from (entries_in self.old)) (names_from (entries_in self.new))) }
+        ensures ok { OnOk result (AddsNames (pattern_of pattern.now) ty.now (value_names (frame_entries self.old)) (value_names (frame_entries self.new))) }
         ensures err { IfErr result (OrMemory (BindRefused (pattern_of pattern.now) ty.now at)) }
         ensures fits { Fits ty.now }
     {
@@ -130,7 +130,7 @@ impl<'a> Frame<'a> {
         ty: &'a Ty,
         at: Spot,
     ) -> Result<Frame<'a>, Refusal>
-        ensures bound { IfOk result (λ frame. Binds (pattern_of pattern.now) ty.now (only_functions []) (names_from (entries_in frame))) }
+        ensures bound { IfOk result (λ frame. Binds (pattern_of pattern.now) ty.now (only_functions []) (value_names (frame_entries frame))) }
         ensures fits { OnOk result (Fits ty.now) }
         ensures err { IfErr result (OrMemory (PatternRefused pattern.now ty.now at)) }
     {
@@ -152,8 +152,8 @@ fn note<'a>(seen: &mut IndexSet<&'a str>, name: &'a str) -> Result<bool, AllocEr
 /// Puts the names of a pattern behind those that were seen. Refused with `DuplicateName` at the first name that was seen
 /// before, and with `Memory`; only some of the names may be there then.
 fn see<'a>(pattern: &'a Pat, seen: &mut IndexSet<&'a str>) -> Result<(), Refusal>
-    ensures ok { OnOk result (seen_with (names_seen seen.old.keys) pattern.now ≡ Ok (names_seen seen.new.keys)) }
-    ensures err { IfErr result (λ r. Stops r (seen_with (names_seen seen.old.keys) pattern.now)) }
+    ensures ok { OnOk result (judged_seen (names_seen seen.old.keys) pattern.now ≡ Ok (names_seen seen.new.keys)) }
+    ensures err { IfErr result (λ r. Stops r (judged_seen (names_seen seen.old.keys) pattern.now)) }
 {
     match pattern.form() {
         PatForm::Unnamed => Ok(()),

@@ -2,7 +2,7 @@
 ghost use Rattle.std.specs.Prelude.{◌≡◌, min, ◌^◌, ◌-◌, IfOk, string_bytes};
 ghost use Rattle.sf_expr.specs.Expressions.{pattern_depth};
 ghost use Rattle.sf_expr.specs.Patterns.{placed_unnamed, placed_name, placed_both, pattern_of};
-ghost use Rattle.sf_expr.specs.PatternView.{placed_of};
+ghost use Rattle.sf_expr.specs.PatternView.{pattern_placed};
 
 use sf_refusal::Spot;
 use std::alloc::{AllocError, Global};
@@ -38,15 +38,15 @@ impl Model for Pat {
     ghost use Rattle.std.specs.Prelude.{List};
     ghost use Rattle.std.specs.Coded.{code_by, codes};
     ghost use Rattle.sf_expr.specs.Patterns.{PlacedPattern, pattern_size};
-    ghost use Rattle.sf_expr.specs.PatternCodes.{PatternMark, pattern_marks_of, pattern_from, pattern_from-marks_of};
+    ghost use Rattle.sf_expr.specs.PatternCodes.{PatternMark, pattern_marks_of, decoded_pattern, decoded_pattern-marks_of};
 
     ghost Value = { PlacedPattern };
 
-    ghost coded = { code_by (List PatternMark) (Prim.hlevel codes) pattern_marks_of pattern_from pattern_from-marks_of };
+    ghost coded = { code_by (List PatternMark) (Prim.hlevel codes) pattern_marks_of decoded_pattern decoded_pattern-marks_of };
 
-    ghost use Rattle.sf_expr.specs.PatternView.{placed_of};
+    ghost use Rattle.sf_expr.specs.PatternView.{pattern_placed};
 
-    ghost view = { λ a. placed_of a.form };
+    ghost view = { λ a. pattern_placed a.form };
 
     ghost size = { pattern_size };
 
@@ -87,7 +87,7 @@ impl Pat {
 
     /// What the pattern is made of.
     pub fn form(&self) -> &PatForm
-        ensures { placed_of result.now ≡ self.now }
+        ensures { pattern_placed result.now ≡ self.now }
     {
         &self.form
     }

@@ -1,7 +1,7 @@
 //! The names around an expression.
 ghost use Rattle.std.specs.Prelude.{◌≡◌, ◌++◌, Some, None, IfOk, IfSome, IfNone};
 ghost use Rattle.sf_expr.specs.Meanings.{Entries, meant, found_in};
-ghost use Rattle.sf_expr.specs.Scopes.{entries_in, entries_around, with_frame};
+ghost use Rattle.sf_expr.specs.Scopes.{frame_entries, entries_around, with_frame};
 
 use crate::frame::Frame;
 use crate::meaning::Meaning;
@@ -23,7 +23,7 @@ impl<'a> Drop for TypeScope<'a> {
 impl<'a> TypeScope<'a> {
     /// The names of a frame.
     pub fn of_frame(alloc: Global, frame: &'a Frame<'a>) -> Result<TypeScope<'a>, AllocError>
-        ensures { IfOk result (λ names. entries_around names ≡ entries_in frame.now) }
+        ensures { IfOk result (λ names. entries_around names ≡ frame_entries frame.now) }
     {
         let mut frames = SmallVec::new(alloc);
         frames.push(Some(frame))?;
@@ -46,7 +46,7 @@ impl<'a> TypeScope<'a> {
         alloc: Global,
         frame: &'b Frame<'b>,
     ) -> Result<TypeScope<'b>, AllocError>
-        ensures { IfOk result (λ names. entries_around names ≡ entries_in frame.now ++ entries_around self.now) }
+        ensures { IfOk result (λ names. entries_around names ≡ frame_entries frame.now ++ entries_around self.now) }
     {
         let mut names = self.shorter(alloc)?;
         names.frames.push(Some(frame))?;

@@ -1,11 +1,11 @@
 //! The types of expressions.
 ghost use Rattle.std.specs.Prelude.{OnOk, Some};
-ghost use Rattle.sf_expr.specs.Typing.{Fits, named_in, with_types, literal_kind};
+ghost use Rattle.sf_expr.specs.Typing.{Fits, named_in, names_and_functions, literal_kind};
 ghost use Rattle.sf_expr.specs.Arena.{expression, function_at, spot_at, id_number, PartsBelow};
 ghost use Rattle.sf_expr.specs.declared.exprs.ExprNode.TheVariants.{Conditional};
-ghost use Rattle.sf_expr.specs.Scopes.{names_of};
+ghost use Rattle.sf_expr.specs.Scopes.{scope_names};
 ghost use Rattle.sf_expr.specs.Contexts.{exprs_in, types_around, types_within};
-ghost use Rattle.sf_expr.specs.Judging.{fitting_at, naming_at, calling_at, bound_judged, form_judged, judged, function_judged, GivesFound};
+ghost use Rattle.sf_expr.specs.Judging.{judged_fitting, naming_at, calling_at, bound_judged, form_judged, judged, function_judged, GivesFound};
 ghost use Rattle.sf_expr.specs.Refusals.{Types, TypesFunction, Judges, JudgesFunction, AnswersPair};
 ghost use Rattle.sf_func.specs.Registries.{types_named};
 ghost use Rattle.sf_func.specs.Signatures.{signatures_in};
@@ -35,7 +35,7 @@ pub fn pair_type(alloc: Global, first: Ty, second: Ty, at: Spot) -> Result<Ty, R
 
 /// The type of a constant; refused with `TypeTooLarge` at `at` where it would be made of more than 256 types.
 fn constant_type(alloc: Global, constant: &Constant, at: Spot) -> Result<Ty, Refusal>
-    ensures { GivesFound result (fitting_at at (Some (literal_kind constant.now))) }
+    ensures { GivesFound result (judged_fitting at (Some (literal_kind constant.now))) }
 {
     match constant.form() {
         ConstantForm::Text(_) => Ok(Ty::text()),
@@ -64,7 +64,7 @@ fn call_type(
 /// The type of what a name stands for. Refused at `at` with `UnknownName` where it is not there and with `Mismatch` where
 /// it stands for no value, and with `Memory`.
 fn name_type(alloc: Global, names: &TypeScope, name: &str, at: Spot) -> Result<Ty, Refusal>
-    ensures { GivesFound result (naming_at at (named_in name.now (names_of names.now))) }
+    ensures { GivesFound result (naming_at at (named_in name.now (scope_names names.now))) }
 {
     match names.stands_for(name) {
         Some(Meaning::Value(ty)) => Ok(ty.clone_in(alloc)?),
@@ -256,9 +256,9 @@ pub fn type_of(
     names: &TypeScope,
     functions: &Signatures,
 ) -> Result<Ty, Refusal>
-    ensures typed { Types (with_types (signatures_in functions.now) (names_of names.now)) (expression exprs.now id) result }
-    ensures first { Judges exprs.now (with_types (signatures_in functions.now) (names_of names.now)) id result }
-    ensures judged { GivesFound result (judged exprs.now id (with_types (signatures_in functions.now) (names_of names.now))) }
+    ensures typed { Types (names_and_functions (signatures_in functions.now) (scope_names names.now)) (expression exprs.now id) result }
+    ensures first { Judges exprs.now (names_and_functions (signatures_in functions.now) (scope_names names.now)) id result }
+    ensures judged { GivesFound result (judged exprs.now id (names_and_functions (signatures_in functions.now) (scope_names names.now))) }
 {
     let context = ExprContext {
         alloc,

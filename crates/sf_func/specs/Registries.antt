@@ -44,8 +44,8 @@ module _ {A B C : Type 0} {F : A → Type 0} {G : B → Type 0} {H : C → Type 
   types_of e = types_shown e.from e.to
 
   -- the types of the functions of a registry
-  abbrev pub types_in : Registry A B C F G H → TypesByName
-  types_in r = map (λ e. (string_bytes e.0, types_of e.1)) r.entries.entries
+  abbrev pub registered_types : Registry A B C F G H → TypesByName
+  registered_types r = map (λ e. (string_bytes e.0, types_of e.1)) r.entries.entries
 
   -- what the functions of a registry answer, where this is what each stored one answers
   abbrev pub answers_in : (Stored A B C F G H → Data → Option Data) → Registry A B C F G H → AnswersByName

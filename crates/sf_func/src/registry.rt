@@ -6,7 +6,7 @@ ghost use Rattle.std.specs.Option.{option_map, option_and_then};
 ghost use Rattle.sf_value.specs.Values.{Name, Data, int_kind, pair_kind};
 ghost use Rattle.sf_func.specs.Meaning.{Applied};
 ghost use Rattle.sf_func.specs.Numbers.{on_number, on_numbers};
-ghost use Rattle.sf_func.specs.Registries.{FunctionTypes, TypesByName, AnswersByName, KeepsTypes, KeepTheirTypes, types_shown, types_of, types_in, answers_in, types_named, HasRoomFor, IsCause};
+ghost use Rattle.sf_func.specs.Registries.{FunctionTypes, TypesByName, AnswersByName, KeepsTypes, KeepTheirTypes, types_shown, types_of, registered_types, answers_in, types_named, HasRoomFor, IsCause};
 
 use crate::adapter::{OnNumber, OnNumbers};
 use crate::function::{Function, FunctionFault};
@@ -88,7 +88,7 @@ pub trait Holds {
 }
 
 impl Holds for Registry {
-    ghost types = { types_in };
+    ghost types = { registered_types };
 
     ghost answers = { answers_in (stored_answers (λ f. (Function-box f).answers f.value) (λ f. (OnNumber-box f).answer f.value) (λ f. (OnNumbers-box f).answer f.value)) };
 

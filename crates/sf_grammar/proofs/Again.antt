@@ -4,7 +4,8 @@ use Rattle.std.specs.List.{All}
 use Rattle.std.proofs.lemmas.List.{length-append, length-map}
 use Rattle.std.proofs.lemmas.List.Elements.{All-head, All-tail}
 use Rattle.sf_value.specs.Values.{Name, KeyKind, int_keys, text_keys, Kind, unit_kind, bool_kind, int_kind, text_kind, pair_kind, event_kind, table_kind, nodes}
-use Rattle.sf_expr.specs.Expressions.{Pattern, unnamed, named, both, pattern_depth, Literal, unit_literal, truth_literal, int_literal, text_literal, none_literal, Expression, variable, literal, paired, applied, operation, conditional, mapped, folded, called, depth as expression_depth, size, Function, function, function_depth, function_size}
+use Rattle.sf_expr.specs.Expressions.{Pattern, unnamed, named, both, pattern_depth, Literal, unit_literal, truth_literal, int_literal, text_literal, none_literal, Expression, variable, literal, paired, applied, operation, conditional, mapped, folded, called, size, Function, function, function_depth, function_size}
+use Rattle.sf_expr.specs.Expressions
 use Rattle.sf_operator.specs.declared.operator.Unary.{Unary}
 use Rattle.sf_operator.specs.declared.operator.Operator.{Operator}
 use Rattle.sf_operator.specs.declared.operator.Mapping.{Mapping}
@@ -16,8 +17,9 @@ use Rattle.sf_term.specs.declared.form.WithValue.TheVariants as values
 use Rattle.sf_term.specs.declared.form.Heading.TheVariants as headings
 use Rattle.sf_term.specs.declared.form.Naming.{Naming}
 use Rattle.sf_term.specs.declared.form.Naming.TheVariants as namings
-use Rattle.sf_term.specs.Parameters.{NameKind, value as value_kind, process as process_kind, collection as collection_kind, Bindings}
-use Rattle.sf_term.specs.Trees.{terms_with_value, bare, probe, never, with_value, timed, selected, arrow, accumulated, fused, Term, primitive, reference, joined, sided, headed, transformed, switching, keeping, gathered, releasing, editing, staged, Collection, without_members, used, added, dropped, kept, chosen, started, call, named_term, Arguments, no_arguments, value_argument, process_argument, collection_argument, closed_argument, Template, term_depth, collection_depth, arguments_depth, terms_in, terms_collected, terms_in_arguments, expressions_in, expressions_collected, expressions_in_arguments}
+use Rattle.sf_term.specs.Parameters.{NameKind, Bindings, process}
+use Rattle.sf_term.specs.Parameters
+use Rattle.sf_term.specs.Trees.{terms_with_value, bare, probe, never, with_value, timed, selected, arrow, accumulated, fused, Term, primitive, reference, joined, sided, headed, transformed, switching, continuing, gathered, releasing, editing, staged, Collection, without_members, used, added, dropped, kept, chosen, started, call, named_term, Arguments, no_arguments, value_argument, process_argument, collection_argument, closed_argument, Template, term_depth, collection_depth, arguments_depth, terms_in, terms_collected, terms_in_arguments, expressions_in, expressions_collected, expressions_in_arguments}
 use Rattle.sf_lex.specs.declared.word.Keyword.TheVariants as words
 use Rattle.sf_lex.specs.declared.symbol.Symbol.TheVariants as symbols
 use Rattle.sf_lex.specs.Tokens.{Tok, keyword, name, number, text, symbol}
@@ -27,8 +29,8 @@ use Rattle.sf_grammar.specs.declared.head.Head.TheVariants as heads
 use Rattle.sf_grammar.specs.declared.head.ExpressionHead.TheVariants as expression_heads
 use Rattle.sf_grammar.specs.declared.head.Link.{Link}
 use Rattle.sf_grammar.specs.declared.head.Link.TheVariants as links
-use Rattle.sf_grammar.specs.Spelling.{releasing_word, editing_word, spell_collection, spell_key_kind, WritesKeys, WritesCollection, IsWrittenType, stands_initially, head_makes, unary_word, takes_brackets, operator_token, stands_between, mapping_word, maps_in_brackets, folding_word, spell_operand, spell_operands, spell_choice, spell_mapped, spell_folded, spell_called, spell_mapping, spell_keys, spell_type, spell_pattern, spell_literal, spell_expression, spell_function, spell_further, spell_listed, spell_term, spell_arguments, spell_parameter, spell_heading, spell_signature, spell_template, bare_word, value_word, side_word, heading_token, timing_word, selection_word, accumulation_word, switching_word, keeping_word, naming_token, join_symbol, in_brackets, type_depth, WritesType, WritesExpression, WritesFunction, WritesTerm, WritesArguments, WritesNameKind, HasWrittenTypes}
-use Rattle.sf_grammar.specs.Reading.{parse_shallow, parse_collection, parse_gathered, parse_releasing, parse_editing, parse_edit, parse_empty, parse_used, parse_added, parse_dropped, parse_kept, parse_chosen, parse_collection_kind, parse_key_kind, counts_with_collection, actual_collection, parse_never, parse_timed, parse_selected, Read, got, ◌and_then◌, Counts, counts_with, counts_with_expression, counts_with_function, parse_symbol, parse_keys, parse_outer_type, parse_inner_type, parse_pair_type, parse_pattern, parse_pattern_pair, parse_link, linked, parse_linked, bracketed_from, parse_none, parse_prefixed, parse_one_in_brackets, parse_two_in_brackets, parse_conditional, parse_mapping, parse_let, parse_one_and_function, parse_two_and_function, parse_called, expression_head, parse_expression, expression_read, parse_function, parse_join, parse_term, term_read, parse_joined, parse_value, parse_arrow, parse_accumulated, parse_sided, parse_headed, parse_transformed, parse_body, parse_switching, head_at, parse_named, parse_keeping, Actual, actual_value, actual_process, with_actual, counts_with_actual, parse_argument, parse_arguments, parse_call, behind_leads, parse_further, parse_listed, parse_name_kind, parse_parameter, parse_parameters, parse_heading, parse_signature, parse_template}
+use Rattle.sf_grammar.specs.Spelling.{releasing_word, editing_word, spell_collection, spell_key_kind, WritesKeys, WritesCollection, IsWrittenType, stands_initially, head_makes, unary_word, takes_brackets, operator_token, stands_between, mapping_word, maps_in_brackets, folding_word, spell_operand, spell_operands, spell_choice, spell_mapped, spell_folded, spell_called, spell_mapping, spell_keys, spell_type, spell_pattern, spell_literal, spell_expression, spell_function, spell_further, spell_listed, spell_term, spell_arguments, spell_parameter, spell_heading, spell_signature, spell_template, bare_word, value_word, side_word, heading_token, timing_word, selection_word, accumulation_word, switching_word, continuing_word, naming_token, join_symbol, in_brackets, type_depth, WritesType, WritesExpression, WritesFunction, WritesTerm, WritesArguments, WritesNameKind, HasWrittenTypes}
+use Rattle.sf_grammar.specs.Reading.{parse_shallow, parse_collection, parse_gathered, parse_releasing, parse_editing, parse_edit, parse_empty, parse_used, parse_added, parse_dropped, parse_kept, parse_chosen, parse_collection_kind, parse_key_kind, counts_with_collection, actual_collection, parse_never, parse_timed, parse_selected, Read, got, ◌and_then◌, Counts, counted_term, counts_with_expression, counts_with_function, parse_symbol, parse_keys, parse_outer_type, parse_inner_type, parse_pair_type, parse_pattern, parse_pattern_pair, parse_link, linked, parse_linked, bracketed_from, parse_none, parse_prefixed, parse_one_in_brackets, parse_two_in_brackets, parse_conditional, parse_mapping, parse_let, parse_one_and_function, parse_two_and_function, parse_called, expression_head, parse_expression, expression_read, parse_function, parse_join, parse_term, term_read, parse_joined, parse_value, parse_arrow, parse_accumulated, parse_sided, parse_headed, parse_transformed, parse_body, parse_switching, tokens_head, parse_named, parse_continuing, Actual, actual_value, actual_process, leading_actual, counts_with_actual, parse_argument, parse_arguments, parse_call, behind_leads, parse_further, parse_listed, parse_name_kind, parse_parameter, parse_parameters, parse_heading, parse_signature, parse_template}
 use Rattle.sf_grammar.proofs.Words.{head_again, heading_begins, start_again, join_again, link_again, link_token, LinksBetween, unary_again, IsInFront, operator_again, folding_again, keys_again, no_close, no_argument_word, no_list}
 use Rattle.sf_grammar.proofs.Parts.{spell_actual, within, type_within, brackets_behind, three_behind, parts_again, no_leads, further_long}
 
@@ -231,7 +233,7 @@ literal_again v (none_literal t) d c rest few known =
     rw (inner_type_again v t d (spell_type v t ++ rest) 0 rest known.shallow (omega (arith, known.few)) known.known)
     (within (c.expressions + 1) (literal (none_literal t)) (keyword words.NoEvent ∷ (spell_type v t ++ rest)) rest few)
 
-pub expression_again : (v : Version) (e : Expression) (d : ℕ) (c : Counts) (rest : List Tok) → expression_depth e ≤ d → c.expressions + size e ≤ 100000 → WritesExpression v d e
+pub expression_again : (v : Version) (e : Expression) (d : ℕ) (c : Counts) (rest : List Tok) → Expressions.depth e ≤ d → c.expressions + size e ≤ 100000 → WritesExpression v d e
     → parse_expression d v c (spell_expression v e ++ rest) ≡ got e rest
 unfolding parse_expression
 expression_again v (variable n) zero c rest deep few known = absurd (omega arith)
@@ -284,7 +286,7 @@ edit_again v p i d c rest deep part =
     rw (append_assoc (spell_pattern p) (symbol symbols.MapsTo ∷ spell_collection v i) rest, pattern_again p d (symbol symbols.MapsTo ∷ (spell_collection v i ++ rest)) deep, part rest) refl
 
 -- an expression has a depth
-stands_deep : (e : Expression) → 1 ≤ expression_depth e
+stands_deep : (e : Expression) → 1 ≤ Expressions.depth e
 stands_deep (variable x) = omega arith
 stands_deep (literal l) = omega arith
 stands_deep (paired e f) = omega arith
@@ -322,7 +324,7 @@ initialized_again v e d c rest value deep few =
     ∙ within (c.terms + 2) (primitive (with_value values.InitializedPre e)) start rest few
 
 -- a form that is a name alone
-named_again : (v : Version) (w : Naming) (k : Name) (d : ℕ) (c : Counts) (rest : List Tok) → head_at v (naming_token w ∷ name k ∷ rest) ≡ Some (heads.Named w) → c.terms + terms_in (named_term w k) ≤ 100000
+named_again : (v : Version) (w : Naming) (k : Name) (d : ℕ) (c : Counts) (rest : List Tok) → tokens_head v (naming_token w ∷ name k ∷ rest) ≡ Some (heads.Named w) → c.terms + terms_in (named_term w k) ≤ 100000
     → parse_term (suc d) v c (naming_token w ∷ name k ∷ rest) ≡ got (named_term w k) rest
 unfolding parse_shallow parse_named
 named_again v w k d c rest head few = rw head (within (c.terms + terms_in (named_term w k)) (named_term w k) (naming_token w ∷ name k ∷ rest) rest few)
@@ -349,7 +351,7 @@ collection_argument_again v i d c rest part = rw part refl
 arguments_step : (v : Version) (a : Actual) (vs : Arguments) (d : ℕ) (c : Counts) (n : ℕ) (rest : List Tok)
     → parse_argument d v (parse_term d v) (parse_collection d v) c (spell_actual v a ++ (spell_further (spell_arguments v vs) ++ rest)) ≡ got a (spell_further (spell_arguments v vs) ++ rest)
     → parse_further no_arguments (parse_arguments n d v (parse_term d v) (parse_collection d v) (counts_with_actual c a)) (spell_further (spell_arguments v vs) ++ rest) ≡ got vs rest
-    → parse_arguments (suc n) d v (parse_term d v) (parse_collection d v) c ((spell_actual v a ++ spell_further (spell_arguments v vs)) ++ rest) ≡ got (with_actual a vs) rest
+    → parse_arguments (suc n) d v (parse_term d v) (parse_collection d v) c ((spell_actual v a ++ spell_further (spell_arguments v vs)) ++ rest) ≡ got (leading_actual a vs) rest
 unfolding parse_arguments
 arguments_step v a vs d c n rest one others = rw (append_assoc (spell_actual v a) (spell_further (spell_arguments v vs)) rest, one, others) refl
 
@@ -358,7 +360,7 @@ long_enough : (front : List Tok) (xs : List (List Tok)) (rest : List Tok) → le
 long_enough front xs rest = omega (arith, further_long xs, length-append (front ++ spell_further xs) rest, length-append front (spell_further xs))
 
 mutual
-  unfolding parse_shallow parse_joined parse_never parse_value parse_timed parse_selected parse_arrow parse_accumulated parse_sided parse_headed parse_transformed parse_switching parse_keeping parse_call parse_gathered parse_releasing parse_editing parse_empty parse_used parse_added parse_dropped parse_kept parse_chosen
+  unfolding parse_shallow parse_joined parse_never parse_value parse_timed parse_selected parse_arrow parse_accumulated parse_sided parse_headed parse_transformed parse_switching parse_continuing parse_call parse_gathered parse_releasing parse_editing parse_empty parse_used parse_added parse_dropped parse_kept parse_chosen
 
   pub term_again : (v : Version) (t : Term) (d : ℕ) (c : Counts) (rest : List Tok) → d ≤ 64 → term_depth t ≤ d → c.terms + terms_in t ≤ 100000 → c.expressions + expressions_in t ≤ 100000 → WritesTerm v d t
       → parse_term d v c (spell_term v t ++ rest) ≡ got t rest
@@ -381,7 +383,7 @@ mutual
   term_again v (transformed h f) zero c rest small deep few_terms few_expressions known = absurd (omega arith)
   term_again v (reference r) zero c rest small deep few_terms few_expressions known = absurd (omega arith)
   term_again v (switching w f p g) zero c rest small deep few_terms few_expressions known = absurd (omega arith)
-  term_again v (keeping w f g k p u) zero c rest small deep few_terms few_expressions known = absurd (omega arith)
+  term_again v (continuing w f g k p u) zero c rest small deep few_terms few_expressions known = absurd (omega arith)
   term_again v (primitive (bare b)) (suc d) c rest small deep few_terms few_expressions known =
       rw (head_again (heads.Bare b) tt) (within (c.terms + 1) (primitive (bare b)) (keyword (bare_word b) ∷ rest) rest few_terms)
   term_again v (primitive (probe k)) (suc d) c rest small deep few_terms few_expressions known = named_again v namings.Probe k d c rest refl few_terms
@@ -427,10 +429,10 @@ mutual
       let behind : List Tok = spell_term v g ++ (symbol symbols.Close ∷ rest) in
       let start : List Tok = symbol symbols.Open ∷ (spell_term v f ++ (symbol (join_symbol j) ∷ behind)) in
       ap (λ (r : List Tok). parse_term (suc d) v c (symbol symbols.Open ∷ r)) (brackets_behind (spell_term v f) (spell_term v g) rest (symbol (join_symbol j)))
-      ∙ parts_again (parse_term d v c) parse_join (λ f. parse_term d v (counts_with c f)) (λ f j g rest. term_read c (joined j f g) start rest) f j g
+      ∙ parts_again (parse_term d v c) parse_join (λ f. parse_term d v (counted_term c f)) (λ f j g rest. term_read c (joined j f g) start rest) f j g
       (spell_term v f ++ (symbol (join_symbol j) ∷ behind)) (symbol (join_symbol j) ∷ behind) behind rest
       (term_again v f d c (symbol (join_symbol j) ∷ behind) (omega arith) (omega arith) (omega arith) (omega arith) known.0) (rw (join_again j) refl)
-      (term_again v g d (counts_with c f) (symbol symbols.Close ∷ rest) (omega arith) (omega arith) (omega arith) (omega arith) known.1)
+      (term_again v g d (counted_term c f) (symbol symbols.Close ∷ rest) (omega arith) (omega arith) (omega arith) (omega arith) known.1)
       ∙ within (c.terms + terms_in (joined j f g)) (joined j f g) start rest few_terms
   term_again v (sided s f) (suc d) c rest small deep few_terms few_expressions known =
       rw (head_again (heads.Sided s) tt, term_again v f d c rest (omega arith) (omega arith) (omega arith) (omega arith) known)
@@ -459,16 +461,16 @@ mutual
       let behind : List Tok = body ++ (symbol symbols.Close ∷ rest) in
       let start : List Tok = keyword (switching_word w) ∷ symbol symbols.Open ∷ (spell_term v f ++ (symbol symbols.Comma ∷ behind)) in
       ap (λ (r : List Tok). parse_term (suc d) v c (keyword (switching_word w) ∷ symbol symbols.Open ∷ r)) (brackets_behind (spell_term v f) body rest (symbol symbols.Comma))
-      ∙ rw (head_again (heads.Switching w) tt) (parts_again (parse_term d v c) (parse_symbol symbols.Comma) (λ f. parse_body d (parse_term d v) (counts_with c f)) (λ f _ b rest. term_read c (switching w f b.0 b.1) start rest) f tt (p, g)
+      ∙ rw (head_again (heads.Switching w) tt) (parts_again (parse_term d v c) (parse_symbol symbols.Comma) (λ f. parse_body d (parse_term d v) (counted_term c f)) (λ f _ b rest. term_read c (switching w f b.0 b.1) start rest) f tt (p, g)
       (spell_term v f ++ (symbol symbols.Comma ∷ behind)) (symbol symbols.Comma ∷ behind) behind rest
       (term_again v f d c (symbol symbols.Comma ∷ behind) (omega arith) (omega arith) (omega arith) (omega arith) known.0) refl
-      (body_again v p g d (counts_with c f) (symbol symbols.Close ∷ rest) (omega arith) (λ rest. term_again v g d (counts_with c f) rest (omega arith) (omega arith) (omega arith) (omega arith) known.1)))
+      (body_again v p g d (counted_term c f) (symbol symbols.Close ∷ rest) (omega arith) (λ rest. term_again v g d (counted_term c f) rest (omega arith) (omega arith) (omega arith) (omega arith) known.1)))
       ∙ within (c.terms + terms_in (switching w f p g)) (switching w f p g) start rest few_terms
   term_again v (reference (started w k)) (suc d) c rest small deep few_terms few_expressions known = named_again v (namings.Process w) k d c rest (start_again v w k rest known) few_terms
   term_again v (reference (call g vs)) (suc d) c rest small deep few_terms few_expressions known =
       rw (listed_arguments_again v vs d c rest (omega arith) (omega arith) (omega arith) few_expressions known)
       (within (c.terms + terms_in (reference (call g vs))) (reference (call g vs)) (name g ∷ symbol symbols.Open ∷ (spell_listed (spell_arguments v vs) ++ rest)) rest few_terms)
-  term_again v (keeping w f g k p u) (suc d) c rest small deep few_terms few_expressions known =
+  term_again v (continuing w f g k p u) (suc d) c rest small deep few_terms few_expressions known =
       let mapping : List Tok = spell_mapping (spell_pattern p) (spell_term v u) in
       let closing : List Tok = symbol symbols.Close ∷ rest in
       let third : List Tok = symbol symbols.Comma ∷ (mapping ++ closing) in
@@ -477,11 +479,11 @@ mutual
       rw (
         brackets_behind (spell_term v f) (spell_term v g ++ (symbol symbols.Comma ∷ name k ∷ symbol symbols.Comma ∷ mapping)) rest (symbol symbols.Comma),
         append_assoc (spell_term v g) (symbol symbols.Comma ∷ name k ∷ symbol symbols.Comma ∷ mapping) closing,
-        head_again (heads.Keeping w) tt,
+        head_again (heads.Continuation w) tt,
         term_again v f d c first (omega arith) (omega arith) (omega arith) (omega arith) known.0,
-        term_again v g d (counts_with c f) second (omega arith) (omega arith) (omega arith) (omega arith) known.1,
-        body_again v p u d (counts_with (counts_with c f) g) closing (omega arith) (λ rest. term_again v u d (counts_with (counts_with c f) g) rest (omega arith) (omega arith) (omega arith) (omega arith) known.2),
-      ) (within (c.terms + terms_in (keeping w f g k p u)) (keeping w f g k p u) (keyword (keeping_word w) ∷ symbol symbols.Open ∷ (spell_term v f ++ first)) rest few_terms)
+        term_again v g d (counted_term c f) second (omega arith) (omega arith) (omega arith) (omega arith) known.1,
+        body_again v p u d (counted_term (counted_term c f) g) closing (omega arith) (λ rest. term_again v u d (counted_term (counted_term c f) g) rest (omega arith) (omega arith) (omega arith) (omega arith) known.2),
+      ) (within (c.terms + terms_in (continuing w f g k p u)) (continuing w f g k p u) (keyword (continuing_word w) ∷ symbol symbols.Open ∷ (spell_term v f ++ first)) rest few_terms)
   term_again v (gathered i) (suc d) c rest small deep few_terms few_expressions known =
       rw (collection_again v i d c rest (omega arith) (omega arith) (omega arith) (omega arith) known)
       (within (c.terms + terms_in (gathered i)) (gathered i) (keyword words.ParB ∷ (spell_collection v i ++ rest)) rest few_terms)
@@ -497,7 +499,7 @@ mutual
         head_again (heads.Releasing w) tt,
         collection_again v i d c first (omega arith) (omega arith) (omega arith) (omega arith) known.0,
         term_again v g d (counts_with_collection c i) second (omega arith) (omega arith) (omega arith) (omega arith) known.1,
-        body_again v p u d (counts_with (counts_with_collection c i) g) closing (omega arith) (λ rest. term_again v u d (counts_with (counts_with_collection c i) g) rest (omega arith) (omega arith) (omega arith) (omega arith) known.2),
+        body_again v p u d (counted_term (counts_with_collection c i) g) closing (omega arith) (λ rest. term_again v u d (counted_term (counts_with_collection c i) g) rest (omega arith) (omega arith) (omega arith) (omega arith) known.2),
       ) (within (c.terms + terms_in (releasing w i g k p u)) (releasing w i g k p u) (keyword (releasing_word w) ∷ symbol symbols.Open ∷ (spell_collection v i ++ first)) rest few_terms)
   term_again v (editing w i k p u) (suc d) c rest small deep few_terms few_expressions known =
       let mapping : List Tok = spell_mapping (spell_pattern p) (spell_collection v u) in
@@ -583,7 +585,7 @@ mutual
       let further : List Tok = spell_further (spell_arguments v vs) in
       let front : List Tok = keyword words.SignalFunction ∷ spell_term v t in
       arguments_step v (actual_process t) vs d c (length ((front ++ further) ++ rest)) rest (process_argument_again v t d c (further ++ rest) (term_again v t d c (further ++ rest) (omega (arith, small)) (omega arith) (omega arith) (omega arith) known.0))
-      (further_arguments_again v vs d (length ((front ++ further) ++ rest)) (counts_with c t) rest small (long_enough front (spell_arguments v vs) rest) (omega arith) (omega arith) (omega arith) known.1)
+      (further_arguments_again v vs d (length ((front ++ further) ++ rest)) (counted_term c t) rest small (long_enough front (spell_arguments v vs) rest) (omega arith) (omega arith) (omega arith) known.1)
 
   -- further arguments
   further_arguments_again : (v : Version) (vs : Arguments) (d n : ℕ) (c : Counts) (rest : List Tok) → d ≤ 63 → length (spell_arguments v vs) ≤ n → arguments_depth vs ≤ d → c.terms + terms_in_arguments vs ≤ 100000 → c.expressions + expressions_in_arguments vs ≤ 100000 → WritesArguments v d vs
@@ -604,7 +606,7 @@ mutual
   further_arguments_again v (process_argument t vs) d (suc n) c rest small enough deep few_terms few_expressions known =
       let behind : List Tok = spell_further (spell_arguments v vs) ++ rest in
       arguments_step v (actual_process t) vs d c n rest (process_argument_again v t d c behind (term_again v t d c behind (omega (arith, small)) (omega arith) (omega arith) (omega arith) known.0))
-      (further_arguments_again v vs d n (counts_with c t) rest small (omega arith) (omega arith) (omega arith) (omega arith) known.1)
+      (further_arguments_again v vs d n (counted_term c t) rest small (omega arith) (omega arith) (omega arith) (omega arith) known.1)
 
 -- the types of a collection's keys
 key_kind_again : (v : Version) (k : KeyKind) (rest : List Tok) → WritesKeys v k → parse_key_kind v (spell_key_kind v k ++ rest) ≡ got k rest
@@ -615,7 +617,7 @@ key_kind_again versions.Two text_keys rest known = refl
 
 -- a parameter that is a collection
 collection_kind_again : (v : Version) {x : Name} (k : KeyKind) (t u : Kind) (rest : List Tok) → WritesKeys v k × IsWrittenType v 64 t × IsWrittenType v 64 u
-    → parse_parameter v (spell_parameter v (x, collection_kind k t u) ++ rest) ≡ got (x, collection_kind k t u) rest
+    → parse_parameter v (spell_parameter v (x, Parameters.collection k t u) ++ rest) ≡ got (x, Parameters.collection k t u) rest
 unfolding parse_parameter parse_name_kind parse_collection_kind
 collection_kind_again v k t u rest known =
     let closing : List Tok = symbol symbols.CloseBracket ∷ rest in
@@ -632,9 +634,9 @@ collection_kind_again v k t u rest known =
 -- a parameter
 parameter_again : (v : Version) (q : Name × NameKind) (rest : List Tok) → behind_leads rest ≡ None → WritesNameKind v q.1 → parse_parameter v (spell_parameter v q ++ rest) ≡ got q rest
 unfolding parse_parameter parse_name_kind
-parameter_again v (x, value_kind t) rest next known = rw (no_list v t rest, inner_type_again v t 64 (spell_type v t ++ rest) 0 rest known.shallow (omega (arith, known.few)) known.known, next) refl
-parameter_again v (x, collection_kind k t u) rest next known = collection_kind_again v k t u rest known
-parameter_again v (x, process_kind t u) rest next known =
+parameter_again v (x, Parameters.value t) rest next known = rw (no_list v t rest, inner_type_again v t 64 (spell_type v t ++ rest) 0 rest known.shallow (omega (arith, known.few)) known.known, next) refl
+parameter_again v (x, Parameters.collection k t u) rest next known = collection_kind_again v k t u rest known
+parameter_again v (x, process t u) rest next known =
     let behind : List Tok = symbol symbols.Leads ∷ (spell_type v u ++ rest) in
     rw (
       append_assoc (spell_type v t) (symbol symbols.Leads ∷ spell_type v u) rest,

@@ -10,16 +10,16 @@ use Rattle.sf_lex.specs.Tokens.{Tok, keyword, number, symbol, Located}
 use Rattle.sf_lex.specs.declared.word.Keyword.TheVariants as words
 use Rattle.sf_lex.specs.declared.symbol.Symbol.TheVariants as symbols
 use Rattle.sf_lex.specs.Cutting.{Lexes}
-use Rattle.sf_lex.proofs.Answered.{answered as bytes_answered}
+use Rattle.sf_lex.proofs.Answered
 use Rattle.sf_term.specs.Trees.{Template, Templates, term_depth, terms_in, expressions_in}
 use Rattle.sf_grammar.specs.declared.ty.Version.{Version}
 use Rattle.sf_grammar.specs.Spelling.{version_number, spell_template, spell_templates, term_total, expression_total, HasWrittenTypes, IsWithinLimits, IsNetworkText}
 use Rattle.sf_grammar.specs.Reading.{got, stop, parse_opening, parse_template}
-use Rattle.sf_grammar.specs.Stopping.{counts_in, StopsBehind, StopsIn, in_opening, in_template, place_before, BreaksText, no_tokens, no_network}
+use Rattle.sf_grammar.specs.Stopping.{template_counts, StopsBehind, NetworkStops, in_opening, in_template, place_before, BreaksText, no_tokens, no_network}
 use Rattle.sf_grammar.proofs.Takes.{TookTemplate, template_takes, opening_takes}
 
 -- one template more is within the limits
-limits_more : (v : Version) (ps : Templates) (rest behind : List Tok) (t : Template) → IsWithinLimits v ps → TookTemplate v (counts_in ps) rest t behind → IsWithinLimits v (ps ++ t ∷ [])
+limits_more : (v : Version) (ps : Templates) (rest behind : List Tok) (t : Template) → IsWithinLimits v ps → TookTemplate v (template_counts ps) rest t behind → IsWithinLimits v (ps ++ t ∷ [])
 limits_more v ps rest behind t limits took =
     let terms : term_total (ps ++ t ∷ []) ≡ term_total ps + terms_in t.body = sum_by_push (λ (t : Template). terms_in t.body) ps t in
     let expressions : expression_total (ps ++ t ∷ []) ≡ expression_total ps + expressions_in t.body = sum_by_push (λ (t : Template). expressions_in t.body) ps t in
@@ -45,9 +45,9 @@ ends_from : (v : Version) (fuel : ℕ) (tokens rest : List Tok) (ps : Templates)
 ends_from v fuel tokens [] ps limits same short = whole ps limits (same ∙ append-nil (spell_templates v ps))
 ends_from v zero tokens (t ∷ ts) ps limits same short = absurd (omega arith)
 ends_from v (suc fuel) tokens (t ∷ ts) ps limits same short =
-    (elim (parse_template v (counts_in ps) (t ∷ ts)) as (λ r. parse_template v (counts_in ps) (t ∷ ts) ≡ r → Ends v tokens) [
+    (elim (parse_template v (template_counts ps) (t ∷ ts)) as (λ r. parse_template v (template_counts ps) (t ∷ ts) ≡ r → Ends v tokens) [
       | got u behind ↦ λ is.
-          (let took : TookTemplate v (counts_in ps) (t ∷ ts) u behind = template_takes v (counts_in ps) (t ∷ ts) u behind limits.few_expressions is in
+          (let took : TookTemplate v (template_counts ps) (t ∷ ts) u behind = template_takes v (template_counts ps) (t ∷ ts) u behind limits.few_expressions is in
           let shorter : length behind < length (t ∷ ts) = omega (arith, simp length-append at (ap length took.spelled)) in
           let further : tokens ≡ spell_templates v (ps ++ u ∷ []) ++ behind =
           same ∙ ap (λ r. spell_templates v ps ++ r) took.spelled ∙ sym (append_assoc (spell_templates v ps) (spell_template v u) behind) ∙ ap (λ xs. xs ++ behind) (flat_map_more (spell_template v) [] ps u) in
@@ -61,7 +61,7 @@ HasReading bytes = ((p : Templates) × IsNetworkText bytes p) ⊎ ((b : Breach) 
 abbrev token_list : List Located → List Tok
 token_list located = map (λ (l : Located). l.token) located
 
-stops_there : (bytes : List ℕ) (found : List Located) → Lexes bytes found → (rule : Rule) (left : ℕ) → StopsIn (token_list found) rule left → HasReading bytes
+stops_there : (bytes : List ℕ) (found : List Located) → Lexes bytes found → (rule : Rule) (left : ℕ) → NetworkStops (token_list found) rule left → HasReading bytes
 stops_there bytes found cut rule left stops =
     inr (breach_of rule (place_before bytes found left), no_network (record { located = found; cut = cut; left = left; stops = stops; at = refl }))
 
@@ -81,7 +81,7 @@ tokens_answered bytes found cut =
 -- each bytes are the text of a network, or break a rule
 pub answered : (bytes : List ℕ) → HasReading bytes
 answered bytes =
-    elim (bytes_answered bytes) [
+    elim (Answered.answered bytes) [
       | inl found ↦ tokens_answered bytes found.0 found.1
       | inr b ↦ inr (b.0, no_tokens b.1)
     ]

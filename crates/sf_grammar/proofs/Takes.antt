@@ -3,7 +3,8 @@ use Rattle.std.proofs.Common.{◌≡◌, ℕ, zero, suc, ◌+◌, ◌<◌, ◌�
 use Rattle.std.specs.List.{All}
 use Rattle.std.proofs.lemmas.List.Elements.{All-cons, All-nil}
 use Rattle.sf_value.specs.Values.{Name, KeyKind, int_keys, Kind, pair_kind, event_kind, table_kind, nodes}
-use Rattle.sf_expr.specs.Expressions.{Pattern, unnamed, named, both, pattern_depth, unit_literal, truth_literal, int_literal, text_literal, none_literal, Expression, variable, literal, applied, operation, conditional, mapped, called, depth as expression_depth, size, Function, function, function_depth, function_size}
+use Rattle.sf_expr.specs.Expressions.{Pattern, unnamed, named, both, pattern_depth, unit_literal, truth_literal, int_literal, text_literal, none_literal, Expression, variable, literal, applied, operation, conditional, mapped, called, size, Function, function, function_depth, function_size}
+use Rattle.sf_expr.specs.Expressions
 use Rattle.sf_operator.specs.declared.operator.Unary.{Unary}
 use Rattle.sf_operator.specs.declared.operator.Operator.{Operator}
 use Rattle.sf_operator.specs.declared.operator.Mapping.{Mapping}
@@ -24,8 +25,9 @@ use Rattle.sf_term.specs.declared.form.Switching.{Switching}
 use Rattle.sf_term.specs.declared.form.Start.TheVariants as starts
 use Rattle.sf_term.specs.declared.form.Naming.{Naming}
 use Rattle.sf_term.specs.declared.form.Naming.TheVariants as namings
-use Rattle.sf_term.specs.Parameters.{NameKind, value as value_kind, process as process_kind, collection as collection_kind, Bindings}
-use Rattle.sf_term.specs.Trees.{Collection, without_members, used, added, dropped, kept, chosen, gathered, releasing, editing, collection_depth, terms_collected, expressions_collected, Primitive, terms_with_value, bare, never, with_value, timed, selected, arrow, accumulated, Term, primitive, reference, joined, sided, headed, transformed, switching, keeping, call, named_term, Arguments, no_arguments, Template, term_depth, arguments_depth, terms_in, expressions_in, expressions_in_arguments}
+use Rattle.sf_term.specs.Parameters.{NameKind, Bindings}
+use Rattle.sf_term.specs.Parameters
+use Rattle.sf_term.specs.Trees.{Collection, without_members, used, added, dropped, kept, chosen, gathered, releasing, editing, collection_depth, terms_collected, expressions_collected, Primitive, terms_with_value, bare, never, with_value, timed, selected, arrow, accumulated, Term, primitive, reference, joined, sided, headed, transformed, switching, continuing, call, named_term, Arguments, no_arguments, Template, term_depth, arguments_depth, terms_in, expressions_in, expressions_in_arguments}
 use Rattle.sf_lex.specs.declared.word.Keyword.{Keyword}
 use Rattle.sf_lex.specs.declared.word.Keyword.TheVariants as words
 use Rattle.sf_lex.specs.declared.symbol.Symbol.{Symbol}
@@ -43,8 +45,8 @@ use Rattle.sf_grammar.specs.declared.head.ExpressionHead.{ExpressionHead}
 use Rattle.sf_grammar.specs.declared.head.ExpressionHead.TheVariants as expression_heads
 use Rattle.sf_grammar.specs.declared.head.Link.{Link}
 use Rattle.sf_grammar.specs.declared.head.Link.TheVariants as links
-use Rattle.sf_grammar.specs.Spelling.{releasing_word, editing_word, spell_collection, spell_key_kind, WritesKeys, WritesCollection, stands_initially, spell_value, head_makes, in_brackets, version_number, mapping_word, folding_word, spell_keys, spell_type, spell_mapping, spell_pattern, spell_expression, spell_function, spell_further, spell_listed, spell_term, spell_arguments, spell_name_kind, spell_parameter, spell_heading, spell_signature, spell_template, value_word, side_word, heading_token, timing_word, selection_word, accumulation_word, switching_word, keeping_word, naming_token, join_symbol, type_depth, WritesType, IsWrittenType, WritesExpression, WritesFunction, WritesTerm, WritesArguments, WritesNameKind, HasWrittenTypes}
-use Rattle.sf_grammar.specs.Reading.{parse_number, parse_never, parse_timed, parse_selected, Read, got, ◌and_then◌, Counts, counts_with, counts_with_expression, counts_with_function, begins_type, begins_pattern, begins_expression, begins_term, type_head, word_kind, parse_keys, parse_outer_type, parse_headed_type, type_from, parse_inner_type, parse_pair_type, parse_pattern, parse_pattern_pair, link_of, link_from, parse_link, linked, parse_linked, behind_close, bracketed_from, parse_none, expression_head, parse_prefixed, parse_one_in_brackets, parse_two_in_brackets, parse_conditional, parse_mapping, parse_let, mapped_by, folded_by, parse_one_and_function, parse_two_and_function, parse_called, parse_worded_expression, parse_expression, expression_read, parse_function, parse_term, parse_joined, parse_value, parse_arrow, parse_accumulated, parse_sided, parse_headed, parse_transformed, parse_body, parse_switching, parse_named, parse_keeping, Actual, actual_value, actual_process, with_actual, counts_with_actual, behind_first, behind_list, ArgumentWord, no_word, process_word, collection_word, argument_word, parse_shallow, parse_collection, parse_gathered, parse_releasing, parse_editing, parse_edit, parse_empty, parse_used, parse_added, parse_dropped, parse_kept, parse_chosen, parse_form, parse_collection_form, parse_behind_collection_head, collection_head, begins_collection, parse_key_kind, parse_collection_kind, parse_kind_from, counts_with_collection, actual_collection, argument_from, parse_argument, parse_arguments, parse_call, behind_leads, further_from, parse_further, listed_from, parse_listed, parameter_kind_from, parse_name_kind, parse_parameter, parse_parameters, parse_separator, parse_behind_head, begins_fresh, head_of, join_of, parse_join, join_from, term_read, parse_parts, parse_opening, parse_heading, parse_signature, parse_template, template_of, parse_symbol, parse_name, parse_type, parse_keyword, parse_version}
+use Rattle.sf_grammar.specs.Spelling.{releasing_word, editing_word, spell_collection, spell_key_kind, WritesKeys, WritesCollection, stands_initially, spell_value, head_makes, in_brackets, version_number, mapping_word, folding_word, spell_keys, spell_type, spell_mapping, spell_pattern, spell_expression, spell_function, spell_further, spell_listed, spell_term, spell_arguments, spell_name_kind, spell_parameter, spell_heading, spell_signature, spell_template, value_word, side_word, heading_token, timing_word, selection_word, accumulation_word, switching_word, continuing_word, naming_token, join_symbol, type_depth, WritesType, IsWrittenType, WritesExpression, WritesFunction, WritesTerm, WritesArguments, WritesNameKind, HasWrittenTypes}
+use Rattle.sf_grammar.specs.Reading.{parse_number, parse_never, parse_timed, parse_selected, Read, got, ◌and_then◌, Counts, counted_term, counts_with_expression, counts_with_function, begins_type, begins_pattern, begins_expression, begins_term, type_head, word_kind, parse_keys, parse_outer_type, parse_headed_type, type_from, parse_inner_type, parse_pair_type, parse_pattern, parse_pattern_pair, link_of, link_read, parse_link, linked, parse_linked, behind_close, bracketed_from, parse_none, expression_head, parse_prefixed, parse_one_in_brackets, parse_two_in_brackets, parse_conditional, parse_mapping, parse_let, mapped_by, folded_by, parse_one_and_function, parse_two_and_function, parse_called, parse_worded_expression, parse_expression, expression_read, parse_function, parse_term, parse_joined, parse_value, parse_arrow, parse_accumulated, parse_sided, parse_headed, parse_transformed, parse_body, parse_switching, parse_named, parse_continuing, Actual, actual_value, actual_process, leading_actual, counts_with_actual, behind_first, behind_list, ArgumentWord, no_word, process_word, collection_word, argument_word, parse_shallow, parse_collection, parse_gathered, parse_releasing, parse_editing, parse_edit, parse_empty, parse_used, parse_added, parse_dropped, parse_kept, parse_chosen, parse_form, parse_collection_form, parse_behind_collection_head, collection_head, begins_collection, parse_key_kind, parse_collection_kind, parse_kind_from, counts_with_collection, actual_collection, argument_from, parse_argument, parse_arguments, parse_call, behind_leads, further_from, parse_further, listed_read, parse_listed, parameter_kind_from, parse_name_kind, parse_parameter, parse_parameters, parse_separator, parse_behind_head, begins_fresh, head_of, join_of, parse_join, join_read, term_read, parse_parts, parse_opening, parse_heading, parse_signature, parse_template, template_of, parse_symbol, parse_name, parse_type, parse_keyword, parse_version}
 use Rattle.sf_grammar.proofs.Words.{IsHeadToken, head_takes, IsFresh, fresh_takes, IsLone, named_alone, keyword_written, join_takes, link_token, LinksBetween, IsLinkToken, link_takes, BeginsWith, expression_head_takes, type_word, type_token, type_head_takes, IsWordKind, word_kind_is, close_takes, leads_takes, process_word_takes, collection_word_takes, list_takes, collection_takes}
 use Rattle.sf_grammar.proofs.Parts.{spell_actual, separator_token, separator_takes, Same, bind_got, got_same, within_takes, deep_takes, met_takes, parts_takes, brackets_took, three_behind, symbol_takes, keyword_takes, name_takes, version_takes, TookKeys, keys_takes}
 
@@ -162,7 +164,7 @@ pattern_takes (suc d) _ p rest is = cc
 
 pub record TookExpression (v : Version) (d : ℕ) (c : Counts) (tokens : List Tok) (e : Expression) (rest : List Tok) : Type 0 where
   pub spelled : tokens ≡ spell_expression v e ++ rest
-  pub shallow : expression_depth e ≤ d
+  pub shallow : Expressions.depth e ≤ d
   pub few : c.expressions + size e ≤ 100000
   pub known : WritesExpression v d e
 
@@ -175,7 +177,7 @@ pub record TookLink (tokens : List Tok) (l : Link) (rest : List Tok) : Type 0 wh
   pub spelled : tokens ≡ link_token l ∷ rest
   pub between : LinksBetween l
 
-link_from_takes : (o : Option Link) (t : Tok) (tokens : List Tok) (l : Link) (rest : List Tok) → link_of t ≡ o → link_from o (t ∷ tokens) tokens ≡ got l rest → TookLink (t ∷ tokens) l rest
+link_from_takes : (o : Option Link) (t : Tok) (tokens : List Tok) (l : Link) (rest : List Tok) → link_of t ≡ o → link_read o (t ∷ tokens) tokens ≡ got l rest → TookLink (t ∷ tokens) l rest
 link_from_takes (Some k) t tokens l rest found is =
     let same : Same k l tokens rest = got_same k l tokens rest is in
     let link : IsLinkToken t k = link_takes t k found in
@@ -467,7 +469,7 @@ called_takes v d c k tokens e rest part word is =
     }))))))
 
 -- a form that is a token alone
-alone_takes : (v : Version) (d : ℕ) (c : Counts) (t : Tok) (f : Expression) (tokens : List Tok) (e : Expression) (rest : List Tok) → t ∷ [] ≡ spell_expression v f → expression_depth f ≡ 1 → size f ≡ 1 → WritesExpression v (suc d) f
+alone_takes : (v : Version) (d : ℕ) (c : Counts) (t : Tok) (f : Expression) (tokens : List Tok) (e : Expression) (rest : List Tok) → t ∷ [] ≡ spell_expression v f → Expressions.depth f ≡ 1 → size f ≡ 1 → WritesExpression v (suc d) f
     → expression_read c f (t ∷ tokens) tokens ≡ got e rest → TookExpression v (suc d) c (t ∷ tokens) e rest
 alone_takes v d c t f tokens e rest spelled depth one known is =
     within_takes (c.expressions + size f) f e (t ∷ tokens) tokens rest is (λ few same.
@@ -708,13 +710,13 @@ switching_takes : (v : Version) (d : ℕ) (c : Counts) (w : Switching) (tokens :
 unfolding parse_switching
 switching_takes v d c w tokens t rest part few is =
     let start : List Tok = keyword (switching_word w) ∷ tokens in
-    let body : Term → List Tok → Read (Pattern × Term) = λ f. parse_body d (parse_term d v) (counts_with c f) in
+    let body : Term → List Tok → Read (Pattern × Term) = λ f. parse_body d (parse_term d v) (counted_term c f) in
     bind_got (λ _ r. parse_parts (parse_term d v c) (parse_symbol symbols.Comma) body (λ f _ b rest. term_read c (switching w f b.0 b.1) start rest) r) (parse_symbol symbols.Open tokens) t rest is (λ u r0 opened is_u.
     parts_takes (parse_term d v c) (parse_symbol symbols.Comma) body (λ f _ b rest. term_read c (switching w f b.0 b.1) start rest) r0 t rest is_u
     (λ f m b r1 r2 r3 r4 at_f at_m at_b closed is_t.
     within_takes (c.terms + terms_in (switching w f b.0 b.1)) (switching w f b.0 b.1) t start r4 rest is_t (λ few_terms same.
     let one : Took v d c r0 f r1 = part c r0 f r1 few at_f in
-    let two : TookBody v d (counts_with c f) r2 b r3 = body_takes v d (counts_with c f) r2 b r3 part one.few_expressions at_b in
+    let two : TookBody v d (counted_term c f) r2 b r3 = body_takes v d (counted_term c f) r2 b r3 part one.few_expressions at_b in
     took_as v (suc d) c start (switching w f b.0 b.1) t r4 rest same (record {
       spelled = ap (λ r. keyword (switching_word w) ∷ r) (symbol_takes symbols.Open tokens u r0 opened
           ∙ brackets_took (spell_term v f) (spell_mapping (spell_pattern b.0) (spell_term v b.1)) r0 r1 r2 r3 r4 (symbol symbols.Comma) one.spelled (symbol_takes symbols.Comma r1 m r2 at_m) two.spelled closed);
@@ -742,30 +744,30 @@ named_takes v d c w tokens t rest few known is =
     })))
 
 -- two terms, a name and the body that knows the first by it, in brackets
-keeping_takes : (v : Version) (d : ℕ) (c : Counts) (w : Observation) (tokens : List Tok) (t : Term) (rest : List Tok) → Takes v d → c.expressions ≤ 100000
-    → parse_keeping d (parse_term d v) c w (keyword (keeping_word w) ∷ tokens) tokens ≡ got t rest → Took v (suc d) c (keyword (keeping_word w) ∷ tokens) t rest
-unfolding parse_keeping
-keeping_takes v d c w tokens t rest part few is =
-    let start : List Tok = keyword (keeping_word w) ∷ tokens in
-    let body : Term → Term → List Tok → Read (Pattern × Term) = λ f g. parse_body d (parse_term d v) (counts_with (counts_with c f) g) in
-    let whole : Term → Term → List Tok → Read Term = λ f g r. parse_parts parse_name (parse_symbol symbols.Comma) (λ _. body f g) (λ k _ b rest. term_read c (keeping w f g k b.0 b.1) start rest) r in
-    let others : Term → List Tok → Read Term = λ f r. parse_term d v (counts_with c f) r and_then λ g r. parse_symbol symbols.Comma r and_then λ _ r. whole f g r in
+continuing_takes : (v : Version) (d : ℕ) (c : Counts) (w : Observation) (tokens : List Tok) (t : Term) (rest : List Tok) → Takes v d → c.expressions ≤ 100000
+    → parse_continuing d (parse_term d v) c w (keyword (continuing_word w) ∷ tokens) tokens ≡ got t rest → Took v (suc d) c (keyword (continuing_word w) ∷ tokens) t rest
+unfolding parse_continuing
+continuing_takes v d c w tokens t rest part few is =
+    let start : List Tok = keyword (continuing_word w) ∷ tokens in
+    let body : Term → Term → List Tok → Read (Pattern × Term) = λ f g. parse_body d (parse_term d v) (counted_term (counted_term c f) g) in
+    let whole : Term → Term → List Tok → Read Term = λ f g r. parse_parts parse_name (parse_symbol symbols.Comma) (λ _. body f g) (λ k _ b rest. term_read c (continuing w f g k b.0 b.1) start rest) r in
+    let others : Term → List Tok → Read Term = λ f r. parse_term d v (counted_term c f) r and_then λ g r. parse_symbol symbols.Comma r and_then λ _ r. whole f g r in
     bind_got (λ _ r. parse_term d v c r and_then λ f r. parse_symbol symbols.Comma r and_then λ _ r. others f r) (parse_symbol symbols.Open tokens) t rest is (λ u r0 opened is_u.
     bind_got (λ f r. parse_symbol symbols.Comma r and_then λ _ r. others f r) (parse_term d v c r0) t rest is_u (λ f r1 at_f is_f.
     bind_got (λ _ r. others f r) (parse_symbol symbols.Comma r1) t rest is_f (λ m r2 at_m is_m.
-    bind_got (λ g r. parse_symbol symbols.Comma r and_then λ _ r. whole f g r) (parse_term d v (counts_with c f) r2) t rest is_m (λ g r3 at_g is_g.
+    bind_got (λ g r. parse_symbol symbols.Comma r and_then λ _ r. whole f g r) (parse_term d v (counted_term c f) r2) t rest is_m (λ g r3 at_g is_g.
     bind_got (λ _ r. whole f g r) (parse_symbol symbols.Comma r3) t rest is_g (λ n r4 at_n is_n.
-    parts_takes parse_name (parse_symbol symbols.Comma) (λ _. body f g) (λ k _ b rest. term_read c (keeping w f g k b.0 b.1) start rest) r4 t rest is_n
+    parts_takes parse_name (parse_symbol symbols.Comma) (λ _. body f g) (λ k _ b rest. term_read c (continuing w f g k b.0 b.1) start rest) r4 t rest is_n
     (λ k x b r5 r6 r7 r8 at_k at_x at_b closed is_t.
-    within_takes (c.terms + terms_in (keeping w f g k b.0 b.1)) (keeping w f g k b.0 b.1) t start r8 rest is_t (λ few_terms same.
+    within_takes (c.terms + terms_in (continuing w f g k b.0 b.1)) (continuing w f g k b.0 b.1) t start r8 rest is_t (λ few_terms same.
     let one : Took v d c r0 f r1 = part c r0 f r1 few at_f in
-    let two : Took v d (counts_with c f) r2 g r3 = part (counts_with c f) r2 g r3 one.few_expressions at_g in
-    let three : TookBody v d (counts_with (counts_with c f) g) r6 b r7 = body_takes v d (counts_with (counts_with c f) g) r6 b r7 part two.few_expressions at_b in
+    let two : Took v d (counted_term c f) r2 g r3 = part (counted_term c f) r2 g r3 one.few_expressions at_g in
+    let three : TookBody v d (counted_term (counted_term c f) g) r6 b r7 = body_takes v d (counted_term (counted_term c f) g) r6 b r7 part two.few_expressions at_b in
     let mapping : List Tok = symbol symbols.Comma ∷ name k ∷ symbol symbols.Comma ∷ spell_mapping (spell_pattern b.0) (spell_term v b.1) in
     let behind : r2 ≡ (spell_term v g ++ mapping) ++ r7 =
     rw (two.spelled, symbol_takes symbols.Comma r3 n r4 at_n, name_takes r4 k r5 at_k, symbol_takes symbols.Comma r5 x r6 at_x, three.spelled, append_assoc (spell_term v g) mapping r7) refl in
-    took_as v (suc d) c start (keeping w f g k b.0 b.1) t r8 rest same (record {
-      spelled = ap (λ r. keyword (keeping_word w) ∷ r) (symbol_takes symbols.Open tokens u r0 opened
+    took_as v (suc d) c start (continuing w f g k b.0 b.1) t r8 rest same (record {
+      spelled = ap (λ r. keyword (continuing_word w) ∷ r) (symbol_takes symbols.Open tokens u r0 opened
           ∙ brackets_took (spell_term v f) (spell_term v g ++ mapping) r0 r1 r2 r7 r8 (symbol symbols.Comma) one.spelled (symbol_takes symbols.Comma r1 m r2 at_m) behind closed);
       shallow = omega (arith, one.shallow, two.shallow, three.pattern, three.shallow);
       few_terms = few_terms;
@@ -927,7 +929,7 @@ releasing_takes : (v : Version) (d : ℕ) (c : Counts) (w : Observation) (tokens
 unfolding parse_releasing
 releasing_takes v d c w tokens t rest part few is =
     let start : List Tok = keyword (releasing_word w) ∷ tokens in
-    let body : Collection → Term → List Tok → Read (Pattern × Term) = λ i g. parse_body d (parse_term d v) (counts_with (counts_with_collection c i) g) in
+    let body : Collection → Term → List Tok → Read (Pattern × Term) = λ i g. parse_body d (parse_term d v) (counted_term (counts_with_collection c i) g) in
     let whole : Collection → Term → List Tok → Read Term = λ i g r. parse_parts parse_name (parse_symbol symbols.Comma) (λ _. body i g) (λ k _ b rest. term_read c (releasing w i g k b.0 b.1) start rest) r in
     let others : Collection → List Tok → Read Term = λ i r. parse_term d v (counts_with_collection c i) r and_then λ g r. parse_symbol symbols.Comma r and_then λ _ r. whole i g r in
     bind_got (λ _ r. parse_collection d v c r and_then λ i r. parse_symbol symbols.Comma r and_then λ _ r. others i r) (parse_symbol symbols.Open tokens) t rest is (λ u r0 opened is_u.
@@ -940,7 +942,7 @@ releasing_takes v d c w tokens t rest part few is =
     within_takes (c.terms + terms_in (releasing w i g k b.0 b.1)) (releasing w i g k b.0 b.1) t start r8 rest is_t (λ few_terms same.
     let one : TookCollection v d c r0 i r1 = part.members c r0 i r1 few at_i in
     let two : Took v d (counts_with_collection c i) r2 g r3 = part.term (counts_with_collection c i) r2 g r3 one.few at_g in
-    let three : TookBody v d (counts_with (counts_with_collection c i) g) r6 b r7 = body_takes v d (counts_with (counts_with_collection c i) g) r6 b r7 part.term two.few_expressions at_b in
+    let three : TookBody v d (counted_term (counts_with_collection c i) g) r6 b r7 = body_takes v d (counted_term (counts_with_collection c i) g) r6 b r7 part.term two.few_expressions at_b in
     let mapping : List Tok = symbol symbols.Comma ∷ name k ∷ symbol symbols.Comma ∷ spell_mapping (spell_pattern b.0) (spell_term v b.1) in
     let behind : r2 ≡ (spell_term v g ++ mapping) ++ r7 =
     rw (two.spelled, symbol_takes symbols.Comma r3 n r4 at_n, name_takes r4 k r5 at_k, symbol_takes symbols.Comma r5 x r6 at_x, three.spelled, append_assoc (spell_term v g) mapping r7) refl in
@@ -1005,7 +1007,7 @@ editing_takes v d c w tokens t rest part few is =
       known = (one.known, two.known);
     }))))))
 
-join_from_takes : (o : Option Join) (s : Symbol) (tokens : List Tok) (j : Join) (rest : List Tok) → join_of s ≡ o → join_from o s tokens ≡ got j rest → symbol s ∷ tokens ≡ symbol (join_symbol j) ∷ rest
+join_from_takes : (o : Option Join) (s : Symbol) (tokens : List Tok) (j : Join) (rest : List Tok) → join_of s ≡ o → join_read o s tokens ≡ got j rest → symbol s ∷ tokens ≡ symbol (join_symbol j) ∷ rest
 join_from_takes (Some i) s tokens j rest found is =
     let same = got_same i j tokens rest is in
     let q : s ≡ join_symbol j = join_takes s i found ∙ ap join_symbol same.value in
@@ -1021,11 +1023,11 @@ joined_takes : (v : Version) (d : ℕ) (c : Counts) (tokens : List Tok) (t : Ter
 unfolding parse_joined
 joined_takes v d c tokens t rest part few is =
     let start : List Tok = symbol symbols.Open ∷ tokens in
-    parts_takes (parse_term d v c) parse_join (λ f. parse_term d v (counts_with c f)) (λ f j g rest. term_read c (joined j f g) start rest) tokens t rest is
+    parts_takes (parse_term d v c) parse_join (λ f. parse_term d v (counted_term c f)) (λ f j g rest. term_read c (joined j f g) start rest) tokens t rest is
     (λ f j g r1 r2 r3 r4 at_f at_j at_g closed is_t.
     within_takes (c.terms + terms_in (joined j f g)) (joined j f g) t start r4 rest is_t (λ few_terms same.
     let one : Took v d c tokens f r1 = part c tokens f r1 few at_f in
-    let two : Took v d (counts_with c f) r2 g r3 = part (counts_with c f) r2 g r3 one.few_expressions at_g in
+    let two : Took v d (counted_term c f) r2 g r3 = part (counted_term c f) r2 g r3 one.few_expressions at_g in
     took_as v (suc d) c start (joined j f g) t r4 rest same (record {
       spelled = brackets_took (spell_term v f) (spell_term v g) tokens r1 r2 r3 r4 (symbol (join_symbol j)) one.spelled (join_at_takes r1 j r2 at_j) two.spelled closed;
       shallow = omega (arith, one.shallow, two.shallow);
@@ -1043,9 +1045,9 @@ by_token v d c k w tokens t rest read is reads takes =
 -- an argument was taken
 record TookActual (v : Version) (d : ℕ) (c : Counts) (tokens : List Tok) (a : Actual) (rest : List Tok) : Type 0 where
   pub spelled : tokens ≡ spell_actual v a ++ rest
-  pub shallow : arguments_depth (with_actual a no_arguments) ≤ d
+  pub shallow : arguments_depth (leading_actual a no_arguments) ≤ d
   pub few : (counts_with_actual c a).expressions ≤ 100000
-  pub known : WritesArguments v d (with_actual a no_arguments)
+  pub known : WritesArguments v d (leading_actual a no_arguments)
 
 took_actual_as : (v : Version) (d : ℕ) (c : Counts) (tokens : List Tok) (a b : Actual) (r u : List Tok) → got a r ≡ got b u → TookActual v d c tokens a r → TookActual v d c tokens b u
 took_actual_as v d c tokens a b r u is took =
@@ -1105,7 +1107,7 @@ record TookSome (v : Version) (d : ℕ) (c : Counts) (tokens : List Tok) (vs : A
   pub further : spell_further (spell_arguments v vs) ≡ symbol symbols.Comma ∷ spell_listed (spell_arguments v vs)
 
 -- an argument in front of further ones
-some_took : (v : Version) (d : ℕ) (c : Counts) (a : Actual) (vs : Arguments) (tokens r1 rest : List Tok) → TookActual v d c tokens a r1 → TookFurther v d (counts_with_actual c a) r1 vs rest → TookSome v d c tokens (with_actual a vs) rest
+some_took : (v : Version) (d : ℕ) (c : Counts) (a : Actual) (vs : Arguments) (tokens r1 rest : List Tok) → TookActual v d c tokens a r1 → TookFurther v d (counts_with_actual c a) r1 vs rest → TookSome v d c tokens (leading_actual a vs) rest
 some_took v d c (actual_value e) vs tokens r1 rest one others = record {
   listed = record {
     split = one.spelled ∙ ap (λ r. spell_expression v e ++ r) others.split ∙ sym (append_assoc (spell_expression v e) (spell_further (spell_arguments v vs)) rest);
@@ -1182,14 +1184,14 @@ some_takes : (v : Version) (d n : ℕ) → TakesParts v d → TakesSome v d n
 unfolding parse_arguments
 some_takes v d zero part c tokens vs rest few is = cc
 some_takes v d (suc n) part c tokens vs rest few is =
-    bind_got (λ a r. parse_further no_arguments (parse_arguments n d v (parse_term d v) (parse_collection d v) (counts_with_actual c a)) r and_then λ ws r. got (with_actual a ws) r) (parse_argument d v (parse_term d v) (parse_collection d v) c tokens) vs rest is (λ a r1 at_a is_a.
-    bind_got (λ ws r. got (with_actual a ws) r) (parse_further no_arguments (parse_arguments n d v (parse_term d v) (parse_collection d v) (counts_with_actual c a)) r1) vs rest is_a (λ ws r2 at_ws is_ws.
+    bind_got (λ a r. parse_further no_arguments (parse_arguments n d v (parse_term d v) (parse_collection d v) (counts_with_actual c a)) r and_then λ ws r. got (leading_actual a ws) r) (parse_argument d v (parse_term d v) (parse_collection d v) c tokens) vs rest is (λ a r1 at_a is_a.
+    bind_got (λ ws r. got (leading_actual a ws) r) (parse_further no_arguments (parse_arguments n d v (parse_term d v) (parse_collection d v) (counts_with_actual c a)) r1) vs rest is_a (λ ws r2 at_ws is_ws.
     let one : TookActual v d c tokens a r1 = argument_takes v d c tokens a r1 part few at_a in
     let others : TookFurther v d (counts_with_actual c a) r1 ws r2 = further_takes v d n (counts_with_actual c a) r1 ws r2 (some_takes v d n part) one.few at_ws in
-    took_some_as v d c tokens (with_actual a ws) vs r2 rest is_ws (some_took v d c a ws tokens r1 r2 one others)))
+    took_some_as v d c tokens (leading_actual a ws) vs r2 rest is_ws (some_took v d c a ws tokens r1 r2 one others)))
 
 listed_takes : (v : Version) (d : ℕ) (c : Counts) (o : Option (List Tok)) (tokens : List Tok) (vs : Arguments) (rest : List Tok) → TakesParts v d → c.expressions ≤ 100000 → behind_close tokens ≡ o
-    → listed_from no_arguments (λ tokens. parse_arguments (suc (length tokens)) d v (parse_term d v) (parse_collection d v) c tokens) o tokens ≡ got vs rest → TookListed v d c tokens vs rest
+    → listed_read no_arguments (λ tokens. parse_arguments (suc (length tokens)) d v (parse_term d v) (parse_collection d v) c tokens) o tokens ≡ got vs rest → TookListed v d c tokens vs rest
 listed_takes v d c (Some r0) tokens vs rest part few found is = took_listed_as v d c tokens no_arguments vs r0 rest is (no_arguments_took v d c tokens r0 few (close_takes tokens r0 found))
 listed_takes v d c None tokens vs rest part few found is = (some_takes v d (suc (length tokens)) part c tokens vs rest few is).listed
 
@@ -1249,8 +1251,8 @@ behind_head_takes v d c (Some (heads.Switching w)) k tokens t rest part found fe
 behind_head_takes v d c (Some (heads.Named w)) k tokens t rest part found few is =
     let head : IsHeadToken k (heads.Named w) = head_takes k (heads.Named w) tt found in
     by_token v d c k (naming_token w) tokens t rest (λ start. parse_named w c start tokens) head.token is (named_takes v d c w tokens t rest few (λ n. keyword_written v w d n head.begins))
-behind_head_takes v d c (Some (heads.Keeping w)) k tokens t rest part found few is =
-    by_token v d c k (keyword (keeping_word w)) tokens t rest (λ start. parse_keeping d (parse_term d v) c w start tokens) (head_takes k (heads.Keeping w) tt found).token is (keeping_takes v d c w tokens t rest part.term few)
+behind_head_takes v d c (Some (heads.Continuation w)) k tokens t rest part found few is =
+    by_token v d c k (keyword (continuing_word w)) tokens t rest (λ start. parse_continuing d (parse_term d v) c w start tokens) (head_takes k (heads.Continuation w) tt found).token is (continuing_takes v d c w tokens t rest part.term few)
 behind_head_takes v d c (Some heads.Gathered) k tokens t rest part found few is =
     by_token v d c k (keyword words.ParB) tokens t rest (λ start. parse_gathered (parse_collection d v) c start tokens) (head_takes k heads.Gathered tt found).token is (gathered_takes v d c tokens t rest part few)
 behind_head_takes v d c (Some (heads.Releasing w)) k tokens t rest part found few is =
@@ -1329,14 +1331,14 @@ took_name_kind_as v tokens j k r u is took =
 parameter_kind_from_takes : (v : Version) (t : Kind) (o : Option (List Tok)) (tokens r1 : List Tok) (k : NameKind) (rest : List Tok) → TookType v 64 0 tokens t r1 → behind_leads r1 ≡ o
     → parameter_kind_from v t o r1 ≡ got k rest → TookNameKind v tokens k rest
 parameter_kind_from_takes v t (Some r2) tokens r1 k rest one found is =
-    bind_got (λ u r. got (process_kind t u) r) (parse_type v r2) k rest is (λ u r3 at_u is_u.
+    bind_got (λ u r. got (Parameters.process t u) r) (parse_type v r2) k rest is (λ u r3 at_u is_u.
     let two : TookType v 64 0 r2 u r3 = inner_type_takes v 64 r2 0 r2 u r3 at_u in
-    took_name_kind_as v tokens (process_kind t u) k r3 rest is_u (record {
+    took_name_kind_as v tokens (Parameters.process t u) k r3 rest is_u (record {
       spelled = rw (one.spelled, leads_takes r1 r2 found, two.spelled, append_assoc (spell_type v t) (symbol symbols.Leads ∷ spell_type v u) r3) refl;
       known = (written_type v 64 tokens t r1 one, written_type v 64 r2 u r3 two);
     }))
 parameter_kind_from_takes v t None tokens r1 k rest one found is =
-    took_name_kind_as v tokens (value_kind t) k r1 rest is (record { spelled = one.spelled; known = written_type v 64 tokens t r1 one })
+    took_name_kind_as v tokens (Parameters.value t) k r1 rest is (record { spelled = one.spelled; known = written_type v 64 tokens t r1 one })
 
 -- the types of a collection's keys were taken
 record TookKeyKind (v : Version) (tokens : List Tok) (k : KeyKind) (rest : List Tok) : Type 0 where
@@ -1363,15 +1365,15 @@ key_kind_takes versions.Two tokens k rest is =
 collection_kind_takes : (v : Version) (tokens : List Tok) (k : NameKind) (rest : List Tok) → parse_collection_kind v tokens ≡ got k rest → TookNameKind v (symbol symbols.OpenBracket ∷ tokens) k rest
 unfolding parse_collection_kind
 collection_kind_takes v tokens k rest is =
-    bind_got (λ j r. parse_type v r and_then λ t r. parse_symbol symbols.Leads r and_then λ _ r. parse_type v r and_then λ u r. parse_symbol symbols.CloseBracket r and_then λ _ r. got (collection_kind j t u) r) (parse_key_kind v tokens) k rest is (λ j r1 at_j is_j.
-    bind_got (λ t r. parse_symbol symbols.Leads r and_then λ _ r. parse_type v r and_then λ u r. parse_symbol symbols.CloseBracket r and_then λ _ r. got (collection_kind j t u) r) (parse_type v r1) k rest is_j (λ t r2 at_t is_t.
-    bind_got (λ _ r. parse_type v r and_then λ u r. parse_symbol symbols.CloseBracket r and_then λ _ r. got (collection_kind j t u) r) (parse_symbol symbols.Leads r2) k rest is_t (λ m r3 leads is_m.
-    bind_got (λ u r. parse_symbol symbols.CloseBracket r and_then λ _ r. got (collection_kind j t u) r) (parse_type v r3) k rest is_m (λ u r4 at_u is_u.
-    bind_got (λ _ r. got (collection_kind j t u) r) (parse_symbol symbols.CloseBracket r4) k rest is_u (λ w r5 closed is_w.
+    bind_got (λ j r. parse_type v r and_then λ t r. parse_symbol symbols.Leads r and_then λ _ r. parse_type v r and_then λ u r. parse_symbol symbols.CloseBracket r and_then λ _ r. got (Parameters.collection j t u) r) (parse_key_kind v tokens) k rest is (λ j r1 at_j is_j.
+    bind_got (λ t r. parse_symbol symbols.Leads r and_then λ _ r. parse_type v r and_then λ u r. parse_symbol symbols.CloseBracket r and_then λ _ r. got (Parameters.collection j t u) r) (parse_type v r1) k rest is_j (λ t r2 at_t is_t.
+    bind_got (λ _ r. parse_type v r and_then λ u r. parse_symbol symbols.CloseBracket r and_then λ _ r. got (Parameters.collection j t u) r) (parse_symbol symbols.Leads r2) k rest is_t (λ m r3 leads is_m.
+    bind_got (λ u r. parse_symbol symbols.CloseBracket r and_then λ _ r. got (Parameters.collection j t u) r) (parse_type v r3) k rest is_m (λ u r4 at_u is_u.
+    bind_got (λ _ r. got (Parameters.collection j t u) r) (parse_symbol symbols.CloseBracket r4) k rest is_u (λ w r5 closed is_w.
     let one : TookKeyKind v tokens j r1 = key_kind_takes v tokens j r1 at_j in
     let two : TookType v 64 0 r1 t r2 = inner_type_takes v 64 r1 0 r1 t r2 at_t in
     let three : TookType v 64 0 r3 u r4 = inner_type_takes v 64 r3 0 r3 u r4 at_u in
-    took_name_kind_as v (symbol symbols.OpenBracket ∷ tokens) (collection_kind j t u) k r5 rest is_w (record {
+    took_name_kind_as v (symbol symbols.OpenBracket ∷ tokens) (Parameters.collection j t u) k r5 rest is_w (record {
       spelled = ap (λ r. symbol symbols.OpenBracket ∷ r) (rw (
         one.spelled,
         two.spelled,
@@ -1478,7 +1480,7 @@ any_takes v (suc n) tokens qs rest is =
     }))))
 
 parameters_from_takes : (v : Version) (o : Option (List Tok)) (tokens : List Tok) (qs : Bindings) (rest : List Tok) → behind_close tokens ≡ o
-    → listed_from [] (λ tokens. parse_parameters (suc (length tokens)) v tokens) o tokens ≡ got qs rest → TookParameters v tokens qs rest
+    → listed_read [] (λ tokens. parse_parameters (suc (length tokens)) v tokens) o tokens ≡ got qs rest → TookParameters v tokens qs rest
 parameters_from_takes v (Some r0) tokens qs rest found is = took_parameters_as v tokens [] qs r0 rest is (no_parameters_took v tokens r0 (close_takes tokens r0 found))
 parameters_from_takes v None tokens qs rest found is = (any_takes v (suc (length tokens)) tokens qs rest is).listed
 

@@ -12,7 +12,7 @@ use Rattle.sf_lex.specs.Cutting.{Lexes, BreaksLexis, too_long, at_fault}
 use Rattle.sf_lex.proofs.Cuts.{further, cuts_nil, stuck_nil}
 use Rattle.sf_term.specs.Trees.{Templates}
 use Rattle.sf_grammar.specs.Spelling.{IsNetworkText}
-use Rattle.sf_grammar.specs.Stopping.{StopsAt, BreaksText, no_tokens, no_network}
+use Rattle.sf_grammar.specs.Stopping.{ReadingStops, BreaksText, no_tokens, no_network}
 use Rattle.sf_grammar.proofs.Unique.{spelled_once, stops_none}
 
 -- bytes have their tokens alone
@@ -31,7 +31,7 @@ one_text bytes p q a b =
     spelled_once a.version b.version p q a.limited b.limited (sym a.spelled ∙ ap tokens_of (lexes_once bytes b.located a.located b.cut a.cut) ∙ b.spelled)
 
 -- where reading its tokens stops, a text is that of no network
-pub stops_at_none : (bytes : List ℕ) (fault : Rule) (place : Spot) → StopsAt bytes fault place → (p : Templates) → IsNetworkText bytes p → ⊥
+pub stops_at_none : (bytes : List ℕ) (fault : Rule) (place : Spot) → ReadingStops bytes fault place → (p : Templates) → IsNetworkText bytes p → ⊥
 unfolding tokens_of
 stops_at_none bytes fault place s p reads =
     stops_none (tokens_of s.located) fault s.left s.stops reads.version p reads.limited (ap tokens_of (lexes_once bytes reads.located s.located reads.cut s.cut) ∙ reads.spelled)

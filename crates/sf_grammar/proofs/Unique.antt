@@ -12,7 +12,7 @@ use Rattle.sf_grammar.specs.declared.ty.Version.{Version}
 use Rattle.sf_grammar.specs.declared.ty.Version.TheVariants as versions
 use Rattle.sf_grammar.specs.Spelling.{version_number, spell, spell_template, spell_templates, term_total, expression_total, HasWrittenTypes, IsWithinLimits}
 use Rattle.sf_grammar.specs.Reading.{got, stop, Counts, parse_opening, parse_template}
-use Rattle.sf_grammar.specs.Stopping.{counts_in, StopsBehind, StopsIn, in_opening, in_template}
+use Rattle.sf_grammar.specs.Stopping.{template_counts, StopsBehind, NetworkStops, in_opening, in_template}
 use Rattle.sf_grammar.proofs.Parts.{Same, got_same}
 use Rattle.sf_grammar.proofs.Again.{template_again}
 
@@ -98,13 +98,13 @@ among P [] t more all = All-head P t more all
 among P (u ∷ ps) t more all = among P ps t more (All-tail P u (ps ++ (t ∷ more)) all)
 
 -- a template is read again behind others
-next_again : (v : Version) (ps : Templates) (t : Template) (more : Templates) → IsWithinLimits v (ps ++ (t ∷ more)) → parse_template v (counts_in ps) (spell_templates v (t ∷ more)) ≡ got t (spell_templates v more)
+next_again : (v : Version) (ps : Templates) (t : Template) (more : Templates) → IsWithinLimits v (ps ++ (t ∷ more)) → parse_template v (template_counts ps) (spell_templates v (t ∷ more)) ≡ got t (spell_templates v more)
 next_again v ps t more limits =
     let terms : term_total (ps ++ (t ∷ more)) ≡ term_total ps + term_total (t ∷ more) = sum_by-append (λ (t : Template). terms_in t.body) ps (t ∷ more) in
     let expressions : expression_total (ps ++ (t ∷ more)) ≡ expression_total ps + expression_total (t ∷ more) = sum_by-append (λ (t : Template). expressions_in t.body) ps (t ∷ more) in
     let more_terms : term_total (t ∷ more) ≡ terms_in t.body + term_total more = sum_by-cons (λ (t : Template). terms_in t.body) t more in
     let more_expressions : expression_total (t ∷ more) ≡ expressions_in t.body + expression_total more = sum_by-cons (λ (t : Template). expressions_in t.body) t more in
-    template_again v t (counts_in ps) (spell_templates v more) (among (HasWrittenTypes v) ps t more limits.typed) (among (λ (t : Template). term_depth t.body ≤ 64) ps t more limits.shallow) (omega (arith, limits.few_terms)) (omega (arith, limits.few_expressions))
+    template_again v t (template_counts ps) (spell_templates v more) (among (HasWrittenTypes v) ps t more limits.typed) (among (λ (t : Template). term_depth t.body ≤ 64) ps t more limits.shallow) (omega (arith, limits.few_terms)) (omega (arith, limits.few_expressions))
 
 pub behind_none : (v : Version) (tokens : List Tok) (fault : Rule) (left : ℕ) → StopsBehind v tokens fault left → (p : Templates) → IsWithinLimits v p → tokens ≡ spell_templates v p → ⊥
 behind_none v tokens fault left stops p limits spelled = stops_among (templates_follow v stops.read p stops.rest stops.limited limits (sym stops.spelled ∙ spelled))
@@ -114,7 +114,7 @@ behind_none v tokens fault left stops p limits spelled = stops_among (templates_
       | [] ↦ λ same rest. stops.more rest
       | t ∷ more ↦ λ same rest.
           let again = next_again v stops.read t more (subst (IsWithinLimits v) same limits) in
-          let both : stop fault stops.stopped.at ≡ got t (spell_templates v more) = sym stops.stopped.is ∙ ap (parse_template v (counts_in stops.read)) rest ∙ again in cc
+          let both : stop fault stops.stopped.at ≡ got t (spell_templates v more) = sym stops.stopped.is ∙ ap (parse_template v (template_counts stops.read)) rest ∙ again in cc
     ] follows.templates follows.spelled
 
 opening_again : (v : Version) (p : Templates) → parse_opening (spell v p) ≡ got v (spell_templates v p)
@@ -123,7 +123,7 @@ opening_again versions.One p = refl
 opening_again versions.Two p = refl
 
 -- where reading stops, the tokens spell no network within the limits
-pub stops_none : (tokens : List Tok) (fault : Rule) (left : ℕ) → StopsIn tokens fault left → (v : Version) (p : Templates) → IsWithinLimits v p → tokens ≡ spell v p → ⊥
+pub stops_none : (tokens : List Tok) (fault : Rule) (left : ℕ) → NetworkStops tokens fault left → (v : Version) (p : Templates) → IsWithinLimits v p → tokens ≡ spell v p → ⊥
 stops_none tokens fault left (in_opening stopped) v p limits spelled =
     let both : stop fault stopped.at ≡ got v (spell_templates v p) = sym stopped.is ∙ ap parse_opening spelled ∙ opening_again v p in cc
 stops_none tokens fault left (in_template {rest = rest} w opened stops) v p limits spelled =

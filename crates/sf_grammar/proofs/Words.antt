@@ -53,8 +53,8 @@ use Rattle.sf_grammar.specs.declared.head.Link.{Link}
 use Rattle.sf_grammar.specs.declared.head.Link.TheVariants as links
 use Rattle.sf_grammar.specs.declared.head.CollectionHead.{CollectionHead}
 use Rattle.sf_grammar.specs.declared.head.CollectionHead.TheVariants as collection_heads
-use Rattle.sf_grammar.specs.Spelling.{bare_word, value_word, stands_initially, timing_word, selection_word, accumulation_word, side_word, heading_token, switching_word, keeping_word, releasing_word, editing_word, naming_token, spell_term, has_fresh, WritesStart, WritesTerm, join_symbol, unary_word, takes_brackets, operator_token, stands_between, mapping_word, maps_in_brackets, folding_word, in_brackets, spell_operand, spell_operands, spell_mapping, spell_mapped_so, spell_pattern, spell_type, spell_keys, type_depth, WritesKeys, WritesType, spell_expression}
-use Rattle.sf_grammar.specs.Reading.{head_of, begins_fresh, head_at, join_of, operator_of, link_of, expression_head, type_head, word_kind, got, parse_keys, behind_close, behind_leads, behind_list, behind_first, ArgumentWord, no_word, process_word, collection_word, argument_word, collection_head}
+use Rattle.sf_grammar.specs.Spelling.{bare_word, value_word, stands_initially, timing_word, selection_word, accumulation_word, side_word, heading_token, switching_word, continuing_word, releasing_word, editing_word, naming_token, spell_term, has_fresh, WritesStart, WritesTerm, join_symbol, unary_word, takes_brackets, operator_token, stands_between, mapping_word, maps_in_brackets, folding_word, in_brackets, spell_operand, spell_operands, spell_mapping, spell_mapped_so, spell_pattern, spell_type, spell_keys, type_depth, WritesKeys, WritesType, spell_expression}
+use Rattle.sf_grammar.specs.Reading.{head_of, begins_fresh, tokens_head, join_of, operator_of, link_of, expression_head, type_head, word_kind, got, parse_keys, behind_close, behind_leads, behind_list, behind_first, ArgumentWord, no_word, process_word, collection_word, argument_word, collection_head}
 
 -- the first token of a form; a call begins with any name, of which this is one
 abbrev pub head_token : Head → Tok
@@ -71,7 +71,7 @@ head_token (heads.Headed h) = heading_token h
 head_token heads.Transformed = symbol symbols.MapsFirstInput
 head_token (heads.Switching w) = keyword (switching_word w)
 head_token (heads.Named w) = naming_token w
-head_token (heads.Keeping w) = keyword (keeping_word w)
+head_token (heads.Continuation w) = keyword (continuing_word w)
 head_token heads.Gathered = keyword words.ParB
 head_token (heads.Releasing w) = keyword (releasing_word w)
 head_token (heads.Editing w) = keyword (editing_word w)
@@ -132,8 +132,8 @@ head_again (heads.Switching (switches.Recurring observations.Delayed)) begins = 
 head_again (heads.Named (namings.Process starts.Run)) begins = refl
 head_again (heads.Named (namings.Process starts.Fresh)) begins = absurd begins
 head_again (heads.Named namings.Probe) begins = refl
-head_again (heads.Keeping observations.Immediate) begins = refl
-head_again (heads.Keeping observations.Delayed) begins = refl
+head_again (heads.Continuation observations.Immediate) begins = refl
+head_again (heads.Continuation observations.Delayed) begins = refl
 head_again heads.Gathered begins = refl
 head_again (heads.Releasing observations.Immediate) begins = refl
 head_again (heads.Releasing observations.Delayed) begins = refl
@@ -196,8 +196,8 @@ head_takes (keyword words.RSwitch) h own e = head_as (keyword words.RSwitch) (he
 head_takes (keyword words.DrSwitch) h own e = head_as (keyword words.DrSwitch) (heads.Switching (switches.Recurring observations.Delayed)) h e refl tt
 head_takes (keyword words.Run) h own e = head_as (keyword words.Run) (heads.Named (namings.Process starts.Run)) h e refl tt
 head_takes (keyword words.Probe) h own e = head_as (keyword words.Probe) (heads.Named namings.Probe) h e refl tt
-head_takes (keyword words.KSwitch) h own e = head_as (keyword words.KSwitch) (heads.Keeping observations.Immediate) h e refl tt
-head_takes (keyword words.DkSwitch) h own e = head_as (keyword words.DkSwitch) (heads.Keeping observations.Delayed) h e refl tt
+head_takes (keyword words.KSwitch) h own e = head_as (keyword words.KSwitch) (heads.Continuation observations.Immediate) h e refl tt
+head_takes (keyword words.DkSwitch) h own e = head_as (keyword words.DkSwitch) (heads.Continuation observations.Delayed) h e refl tt
 head_takes (keyword words.ParB) h own e = head_as (keyword words.ParB) heads.Gathered h e refl tt
 head_takes (keyword words.PSwitchB) h own e = head_as (keyword words.PSwitchB) (heads.Releasing observations.Immediate) h e refl tt
 head_takes (keyword words.DpSwitchB) h own e = head_as (keyword words.DpSwitchB) (heads.Releasing observations.Delayed) h e refl tt
@@ -207,14 +207,14 @@ head_takes (name n) h own e = absurd (let p : heads.Call ≡ h = cc in subst Has
 head_takes _ h own e = cc
 
 -- the form with an expression at its head begins again, whatever follows
-pub heading_begins : (v : Version) (h : Heading) (rest : List Tok) → head_at v (heading_token h ∷ rest) ≡ Some (heads.Headed h)
+pub heading_begins : (v : Version) (h : Heading) (rest : List Tok) → tokens_head v (heading_token h ∷ rest) ≡ Some (heads.Headed h)
 heading_begins v headings.LoopPre rest = refl
 heading_begins v headings.Initialized rest = refl
 heading_begins v headings.Replaced rest = refl
 heading_begins v headings.Followed rest = refl
 
 -- a process begins again where it is written to begin
-pub start_again : (v : Version) (w : Start) (k : Name) (rest : List Tok) → WritesStart v w → head_at v (naming_token (namings.Process w) ∷ name k ∷ rest) ≡ Some (heads.Named (namings.Process w))
+pub start_again : (v : Version) (w : Start) (k : Name) (rest : List Tok) → WritesStart v w → tokens_head v (naming_token (namings.Process w) ∷ name k ∷ rest) ≡ Some (heads.Named (namings.Process w))
 start_again v starts.Run k rest written = refl
 start_again versions.One starts.Fresh k rest written = absurd cc
 start_again versions.Two starts.Fresh k rest written = refl

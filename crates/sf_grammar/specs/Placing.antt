@@ -37,7 +37,7 @@ use Rattle.sf_term.specs.declared.collection.CollectionId.{CollectionId}
 use Rattle.sf_term.specs.declared.collection.CollExpr.{CollExpr}
 use Rattle.sf_term.specs.declared.collection.CollExpr.TheVariants as collections
 use Rattle.sf_term.specs.declared.node.Switch.{Switch}
-use Rattle.sf_term.specs.declared.node.Keeping.{Keeping}
+use Rattle.sf_term.specs.declared.node.Continuation.{Continuation}
 use Rattle.sf_term.specs.declared.node.Releasing.{Releasing}
 use Rattle.sf_term.specs.declared.node.Editing.{Editing}
 use Rattle.sf_term.specs.declared.node.Node.{Node}
@@ -45,8 +45,8 @@ use Rattle.sf_term.specs.declared.node.Node.TheVariants as nodes
 use Rattle.sf_term.specs.declared.program.Program.{Program}
 use Rattle.sf_term.specs.Parameters.{PlacedParameter, binding_of}
 use Rattle.sf_term.specs.Headers.{Header}
-use Rattle.sf_term.specs.Arena.{HoldsCollection, collection_under, HoldsTerm, HoldsExpression, HoldsPatternIn, ProgramHoldsFunction, term_node_at, term_spot_at, expression_under, expression_node_at, expression_spot_at, function_pattern_at, function_body_at, pattern_under, arguments_under, headers_of, template_in, templates_of, tree}
-use Rattle.sf_lex.specs.Tokens.{Located, place_at}
+use Rattle.sf_term.specs.Arena.{HoldsCollection, collection_node, HoldsTerm, HoldsExpression, ProgramHoldsPattern, ProgramHoldsFunction, term_node_at, term_spot_at, program_expression, expression_node_at, expression_spot_at, function_pattern_at, function_body_at, placed_pattern, argument_nodes, headers_of, term_template, templates_of, tree}
+use Rattle.sf_lex.specs.Tokens.{Located, offset_place}
 use Rattle.sf_grammar.specs.declared.ty.Version.{Version}
 use Rattle.sf_grammar.specs.Spelling.{stands_initially, takes_brackets, stands_between, maps_in_brackets, spell_expression, spell_parameter, spell_signature, IsNetworkText, spell_term, spell_collection}
 
@@ -68,8 +68,8 @@ pub record ExpressionStands (p : Program) (id : ExprId) (n : ExprNode) (at : Spo
 
 -- a program holds a pattern under an id, whose tokens have these places
 pub record PatternStands (p : Program) (q : PatternId) (places : List Spot) : Type 0 where
-  pub held : HoldsPatternIn p q
-  pub placed : PatternPlaced (pattern_under p q) places
+  pub held : ProgramHoldsPattern p q
+  pub placed : PatternPlaced (placed_pattern p q) places
 
 -- the expression at an id, whose tokens have these places in a text of the version
 pub data ExpressionPlaced (v : Version) (p : Program) : ExprId → List Spot → Type 0 where
@@ -77,7 +77,7 @@ pub data ExpressionPlaced (v : Version) (p : Program) : ExprId → List Spot →
   unit_placed : {id : ExprId} {opening : Spot} (closing : Spot) → ExpressionStands p id expressions.Unit opening → ExpressionPlaced v p id (opening ∷ closing ∷ [])
   truth_placed : {id : ExprId} {b : _} {at : Spot} → ExpressionStands p id (expressions.Truth b) at → ExpressionPlaced v p id (at ∷ [])
   constant_placed : {id : ExprId} {n : ConstantId} {xs : List Spot} {at : Spot} → ExpressionStands p id (expressions.Constant n) at
-      → length (at ∷ xs) ≡ length (spell_expression v (expression_under p id)) → ExpressionPlaced v p id (at ∷ xs)
+      → length (at ∷ xs) ≡ length (spell_expression v (program_expression p id)) → ExpressionPlaced v p id (at ∷ xs)
   variable_placed : {id : ExprId} {n : NameId} {at : Spot} → ExpressionStands p id (expressions.Name n) at → ExpressionPlaced v p id (at ∷ [])
   pair_placed : {id a b : ExprId} {xs ys : List Spot} {opening : Spot} (comma closing : Spot) → ExpressionStands p id (expressions.Pair a b) opening
       → ExpressionPlaced v p a xs → ExpressionPlaced v p b ys → ExpressionPlaced v p id (around opening xs comma ys closing)
@@ -139,18 +139,18 @@ mutual
     switching_placed : {id : TermId} {n : Switch} {xs ps ys : List Spot} {at : Spot} (opening comma leads closing : Spot) → TermStands p id (nodes.Switching n) at
         → TermPlaced v p n.source xs → PatternStands p n.pattern ps → TermPlaced v p n.body ys → TermPlaced v p id (at ∷ around opening xs comma (ps ++ (leads ∷ ys)) closing)
     named_placed : {id : TermId} {w : Naming} {k : NameId} {at place : Spot} → TermStands p id (nodes.Named w k place) at → TermPlaced v p id (at ∷ place ∷ [])
-    keeping_placed : {id : TermId} {n : Keeping} {xs ys ps zs : List Spot} {at : Spot} (opening comma second third leads closing : Spot) → TermStands p id (nodes.Keeping n) at
+    continuing_placed : {id : TermId} {n : Continuation} {xs ys ps zs : List Spot} {at : Spot} (opening comma second third leads closing : Spot) → TermStands p id (nodes.Continuation n) at
         → TermPlaced v p n.source xs → TermPlaced v p n.observer ys → PatternStands p n.pattern ps → TermPlaced v p n.body zs → TermPlaced v p id (at ∷ around opening xs comma (ys ++ (second ∷ n.place ∷ third ∷ (ps ++ (leads ∷ zs)))) closing)
     gathered_placed : {id : TermId} {i : CollectionId} {xs : List Spot} {at : Spot} → TermStands p id (nodes.Gathered i) at
-        → HoldsCollection p i → CollectionPlaced v p (collection_under p i) xs → TermPlaced v p id (at ∷ xs)
+        → HoldsCollection p i → CollectionPlaced v p (collection_node p i) xs → TermPlaced v p id (at ∷ xs)
     releasing_placed : {id : TermId} {n : Releasing} {xs ys ps zs : List Spot} {at : Spot} (opening comma second third leads closing : Spot) → TermStands p id (nodes.Releasing n) at
-        → HoldsCollection p n.members → CollectionPlaced v p (collection_under p n.members) xs → TermPlaced v p n.observer ys → PatternStands p n.pattern ps → TermPlaced v p n.body zs
+        → HoldsCollection p n.members → CollectionPlaced v p (collection_node p n.members) xs → TermPlaced v p n.observer ys → PatternStands p n.pattern ps → TermPlaced v p n.body zs
         → TermPlaced v p id (at ∷ around opening xs comma (ys ++ (second ∷ n.place ∷ third ∷ (ps ++ (leads ∷ zs)))) closing)
     editing_placed : {id : TermId} {n : Editing} {xs ps ys : List Spot} {at : Spot} (opening comma second leads closing : Spot) → TermStands p id (nodes.Editing n) at
-        → HoldsCollection p n.members → CollectionPlaced v p (collection_under p n.members) xs → PatternStands p n.pattern ps → HoldsCollection p n.edit → CollectionPlaced v p (collection_under p n.edit) ys
+        → HoldsCollection p n.members → CollectionPlaced v p (collection_node p n.members) xs → PatternStands p n.pattern ps → HoldsCollection p n.edit → CollectionPlaced v p (collection_node p n.edit) ys
         → TermPlaced v p id (at ∷ around opening xs comma (n.place ∷ second ∷ (ps ++ (leads ∷ ys))) closing)
     call_placed : {id : TermId} {g : NameId} {a : ArgumentsId} {xs : List Spot} {at : Spot} (opening : Spot) → TermStands p id (nodes.Call g a) at
-        → ArgumentsPlaced v p (arguments_under p a) xs → TermPlaced v p id (at ∷ opening ∷ xs)
+        → ArgumentsPlaced v p (argument_nodes p a) xs → TermPlaced v p id (at ∷ opening ∷ xs)
 
   -- a collection whose tokens have these places: each of its forms stands at its first token
   pub data CollectionPlaced (v : Version) (p : Program) : CollExpr → List Spot → Type 0 where
@@ -179,7 +179,7 @@ mutual
   pub data ArgumentPlaced (v : Version) (p : Program) : Argument → List Spot → Type 0 where
     value_argument_placed : {e : ExprId} {xs : List Spot} → ExpressionPlaced v p e xs → ArgumentPlaced v p (arguments.Value e) xs
     process_argument_placed : {t : TermId} {xs : List Spot} (word : Spot) → TermPlaced v p t xs → ArgumentPlaced v p (arguments.Process t) (word ∷ xs)
-    collection_argument_placed : {i : CollectionId} {xs : List Spot} (word : Spot) → HoldsCollection p i → CollectionPlaced v p (collection_under p i) xs → ArgumentPlaced v p (arguments.Collection i) (word ∷ xs)
+    collection_argument_placed : {i : CollectionId} {xs : List Spot} (word : Spot) → HoldsCollection p i → CollectionPlaced v p (collection_node p i) xs → ArgumentPlaced v p (arguments.Collection i) (word ∷ xs)
 
 -- a parameter whose tokens have these places: its name stands at the first
 pub record ParameterPlaced (v : Version) (q : PlacedParameter) (places : List Spot) : Type 0 where
@@ -207,7 +207,7 @@ pub record TemplatePlaced (v : Version) (p : Program) (h : Header) (places : Lis
   pub end : Spot
   pub split : places ≡ word ∷ h.spot ∷ opening ∷ (listed ++ (signature ++ (body ++ (end ∷ []))))
   pub parameters : ParametersPlaced v h.parameters listed
-  pub typed : length signature ≡ length (spell_signature v (template_in p h))
+  pub typed : length signature ≡ length (spell_signature v (term_template p h))
   pub placed : TermPlaced v p h.body body
 
 -- templates one behind the other, whose tokens have these places
@@ -227,4 +227,4 @@ pub record NetworkPlaced (v : Version) (p : Program) (places : List Spot) : Type
 -- all forms and names of a program stand where its tokens do in the bytes
 pub record IsPlacedIn (bytes : List ℕ) (p : Program) : Type 0 where
   pub text : IsNetworkText bytes (templates_of p)
-  pub placed : NetworkPlaced text.version p (map (λ (l : Located). place_at bytes l.offset) text.located)
+  pub placed : NetworkPlaced text.version p (map (λ (l : Located). offset_place bytes l.offset) text.located)

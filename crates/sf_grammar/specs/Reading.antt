@@ -39,8 +39,9 @@ use Rattle.sf_term.specs.declared.form.Switching.TheVariants as switches
 use Rattle.sf_term.specs.declared.form.Start.TheVariants as starts
 use Rattle.sf_term.specs.declared.form.Naming.{Naming}
 use Rattle.sf_term.specs.declared.form.Naming.TheVariants as namings
-use Rattle.sf_term.specs.Parameters.{NameKind, value as value_kind, process as process_kind, collection as collection_kind, Bindings}
-use Rattle.sf_term.specs.Trees.{Term, primitive, reference, joined, sided, transformed, switching, keeping, gathered, releasing, editing, Collection, without_members, used, added, dropped, kept, chosen, call, named_term, Arguments, no_arguments, value_argument, process_argument, collection_argument, bare, never, with_value, timed, selected, arrow, accumulated, Template, terms_in, terms_collected, expressions_in, expressions_collected}
+use Rattle.sf_term.specs.Parameters.{NameKind, Bindings}
+use Rattle.sf_term.specs.Parameters
+use Rattle.sf_term.specs.Trees.{Term, primitive, reference, joined, sided, transformed, switching, continuing, gathered, releasing, editing, Collection, without_members, used, added, dropped, kept, chosen, call, named_term, Arguments, no_arguments, value_argument, process_argument, collection_argument, bare, never, with_value, timed, selected, arrow, accumulated, Template, terms_in, terms_collected, expressions_in, expressions_collected}
 use Rattle.sf_lex.specs.declared.word.Keyword.{Keyword}
 use Rattle.sf_lex.specs.declared.word.Keyword.TheVariants as words
 use Rattle.sf_lex.specs.declared.symbol.Symbol.{Symbol}
@@ -201,17 +202,17 @@ further_from none parts false tokens = got none tokens
 abbrev pub parse_further : {A : Type 0} → A → (List Tok → Read A) → List Tok → Read A
 parse_further none parts tokens = parse_separator tokens and_then λ more rest. further_from none parts more rest
 
-abbrev pub listed_from : {A : Type 0} → A → (List Tok → Read A) → Option (List Tok) → List Tok → Read A
-listed_from none parts (Some rest) tokens = got none rest
-listed_from none parts None tokens = parts tokens
+abbrev pub listed_read : {A : Type 0} → A → (List Tok → Read A) → Option (List Tok) → List Tok → Read A
+listed_read none parts (Some rest) tokens = got none rest
+listed_read none parts None tokens = parts tokens
 
 -- behind the opening bracket of a list: the closing one, or parts, where they are read so
 abbrev pub parse_listed : {A : Type 0} → A → (List Tok → Read A) → List Tok → Read A
-parse_listed none parts tokens = listed_from none parts (behind_close tokens) tokens
+parse_listed none parts tokens = listed_read none parts (behind_close tokens) tokens
 
 abbrev pub parameter_kind_from : Version → Kind → Option (List Tok) → List Tok → Read NameKind
-parameter_kind_from v t (Some rest) tokens = parse_type v rest and_then λ u rest. got (process_kind t u) rest
-parameter_kind_from v t None tokens = got (value_kind t) tokens
+parameter_kind_from v t (Some rest) tokens = parse_type v rest and_then λ u rest. got (Parameters.process t u) rest
+parameter_kind_from v t None tokens = got (Parameters.value t) tokens
 
 -- what stands of the keys behind the bracket of a collection's types
 abbrev pub parse_key_kind : Version → List Tok → Read KeyKind
@@ -226,7 +227,7 @@ parse_collection_kind v tokens =
     parse_symbol symbols.Leads rest and_then λ _ rest.
     parse_type v rest and_then λ u rest.
     parse_symbol symbols.CloseBracket rest and_then λ _ rest.
-    got (collection_kind k t u) rest
+    got (Parameters.collection k t u) rest
 
 -- behind the bracket that begins a collection's types, if it stands in front
 abbrev pub behind_list : List Tok → Option (List Tok)
@@ -300,8 +301,8 @@ abbrev pub counts_with_function : Counts → Function → Counts
 counts_with_function c f = record { terms = c.terms; expressions = c.expressions + function_size f }
 
 -- how many it has with a term
-abbrev pub counts_with : Counts → Term → Counts
-counts_with c t = record { terms = c.terms + terms_in t; expressions = c.expressions + expressions_in t }
+abbrev pub counted_term : Counts → Term → Counts
+counted_term c t = record { terms = c.terms + terms_in t; expressions = c.expressions + expressions_in t }
 
 -- how many it has with a collection
 abbrev pub counts_with_collection : Counts → Collection → Counts
@@ -333,12 +334,12 @@ abbrev pub link_of : Tok → Option Link
 link_of (symbol symbols.Comma) = Some links.Pair
 link_of t = option_map links.Operation (operator_of t)
 
-abbrev pub link_from : Option Link → List Tok → List Tok → Read Link
-link_from (Some l) start rest = got l rest
-link_from None start rest = stop Unexpected start
+abbrev pub link_read : Option Link → List Tok → List Tok → Read Link
+link_read (Some l) start rest = got l rest
+link_read None start rest = stop Unexpected start
 
 abbrev pub parse_link : List Tok → Read Link
-parse_link (t ∷ rest) = link_from (link_of t) (t ∷ rest) rest
+parse_link (t ∷ rest) = link_read (link_of t) (t ∷ rest) rest
 parse_link [] = stop Unexpected []
 
 -- the one expression of two
@@ -552,8 +553,8 @@ head_of (keyword words.RSwitch) = Some (heads.Switching (switches.Recurring obse
 head_of (keyword words.DrSwitch) = Some (heads.Switching (switches.Recurring observations.Delayed))
 head_of (keyword words.Run) = Some (heads.Named (namings.Process starts.Run))
 head_of (keyword words.Probe) = Some (heads.Named namings.Probe)
-head_of (keyword words.KSwitch) = Some (heads.Keeping observations.Immediate)
-head_of (keyword words.DkSwitch) = Some (heads.Keeping observations.Delayed)
+head_of (keyword words.KSwitch) = Some (heads.Continuation observations.Immediate)
+head_of (keyword words.DkSwitch) = Some (heads.Continuation observations.Delayed)
 head_of (keyword words.ParB) = Some heads.Gathered
 head_of (keyword words.PSwitchB) = Some (heads.Releasing observations.Immediate)
 head_of (keyword words.DpSwitchB) = Some (heads.Releasing observations.Delayed)
@@ -568,9 +569,9 @@ begins_fresh v (name w ∷ name k ∷ rest) = has_fresh v && bytes_eq w (codes "
 begins_fresh v tokens = false
 
 -- the form that tokens begin
-abbrev pub head_at : Version → List Tok → Option Head
-head_at v (t ∷ rest) = if begins_fresh v (t ∷ rest) then Some (heads.Named (namings.Process starts.Fresh)) else head_of t
-head_at v [] = None
+abbrev pub tokens_head : Version → List Tok → Option Head
+tokens_head v (t ∷ rest) = if begins_fresh v (t ∷ rest) then Some (heads.Named (namings.Process starts.Fresh)) else head_of t
+tokens_head v [] = None
 
 abbrev pub join_of : Symbol → Option Join
 join_of symbols.InSequence = Some joins.InSequence
@@ -637,7 +638,7 @@ parse_body left part c tokens =
 unfoldable pub parse_switching : ℕ → (Counts → List Tok → Read Term) → Counts → Switching → List Tok → List Tok → Read Term
 parse_switching left part c w start tokens =
     parse_symbol symbols.Open tokens and_then λ _ rest.
-    parse_parts (part c) (parse_symbol symbols.Comma) (λ f. parse_body left part (counts_with c f)) (λ f _ b rest. term_read c (switching w f b.0 b.1) start rest) rest
+    parse_parts (part c) (parse_symbol symbols.Comma) (λ f. parse_body left part (counted_term c f)) (λ f _ b rest. term_read c (switching w f b.0 b.1) start rest) rest
 
 -- behind the first token of a form that is a name alone
 unfoldable pub parse_named : Naming → Counts → List Tok → List Tok → Read Term
@@ -721,7 +722,7 @@ parse_releasing left part members c w start tokens =
     parse_symbol symbols.Comma rest and_then λ _ rest.
     part (counts_with_collection c i) rest and_then λ q rest.
     parse_symbol symbols.Comma rest and_then λ _ rest.
-    parse_parts parse_name (parse_symbol symbols.Comma) (λ _. parse_body left part (counts_with (counts_with_collection c i) q)) (λ k _ b rest. term_read c (releasing w i q k b.0 b.1) start rest) rest
+    parse_parts parse_name (parse_symbol symbols.Comma) (λ _. parse_body left part (counted_term (counts_with_collection c i) q)) (λ k _ b rest. term_read c (releasing w i q k b.0 b.1) start rest) rest
 
 -- an edit: a pattern of so much depth at most, and a collection, where that is read so
 abbrev pub parse_edit : ℕ → (Counts → List Tok → Read Collection) → Counts → List Tok → Read (Pattern × Collection)
@@ -746,15 +747,15 @@ pub data Actual : Type 0 where
   actual_collection : Collection → Actual
 
 -- arguments with one in front of them
-abbrev pub with_actual : Actual → Arguments → Arguments
-with_actual (actual_value e) vs = value_argument e vs
-with_actual (actual_process t) vs = process_argument t vs
-with_actual (actual_collection i) vs = collection_argument i vs
+abbrev pub leading_actual : Actual → Arguments → Arguments
+leading_actual (actual_value e) vs = value_argument e vs
+leading_actual (actual_process t) vs = process_argument t vs
+leading_actual (actual_collection i) vs = collection_argument i vs
 
 -- how many terms and expressions a program has with an argument
 abbrev pub counts_with_actual : Counts → Actual → Counts
 counts_with_actual c (actual_value e) = counts_with_expression c e
-counts_with_actual c (actual_process t) = counts_with c t
+counts_with_actual c (actual_process t) = counted_term c t
 counts_with_actual c (actual_collection i) = counts_with_collection c i
 
 -- the word in front of an argument that is no value
@@ -789,7 +790,7 @@ parse_arguments zero left v part members c tokens = stop Unexpected tokens
 parse_arguments (suc n) left v part members c tokens =
     parse_argument left v part members c tokens and_then λ a rest.
     parse_further no_arguments (parse_arguments n left v part members (counts_with_actual c a)) rest and_then λ vs rest.
-    got (with_actual a vs) rest
+    got (leading_actual a vs) rest
 
 -- a call: a template's name and arguments, which are fewer than the tokens
 unfoldable pub parse_call : ℕ → Version → (Counts → List Tok → Read Term) → (Counts → List Tok → Read Collection) → Counts → List Tok → Read Term
@@ -800,26 +801,26 @@ parse_call left v part members c start =
     term_read c (reference (call g vs)) start rest
 
 -- behind the word of a term that gives way to another, which knows it by a name, where all are read so
-unfoldable pub parse_keeping : ℕ → (Counts → List Tok → Read Term) → Counts → Observation → List Tok → List Tok → Read Term
-parse_keeping left part c w start tokens =
+unfoldable pub parse_continuing : ℕ → (Counts → List Tok → Read Term) → Counts → Observation → List Tok → List Tok → Read Term
+parse_continuing left part c w start tokens =
     parse_symbol symbols.Open tokens and_then λ _ rest.
     part c rest and_then λ f rest.
     parse_symbol symbols.Comma rest and_then λ _ rest.
-    part (counts_with c f) rest and_then λ g rest.
+    part (counted_term c f) rest and_then λ g rest.
     parse_symbol symbols.Comma rest and_then λ _ rest.
-    parse_parts parse_name (parse_symbol symbols.Comma) (λ _. parse_body left part (counts_with (counts_with c f) g)) (λ k _ b rest. term_read c (keeping w f g k b.0 b.1) start rest) rest
+    parse_parts parse_name (parse_symbol symbols.Comma) (λ _. parse_body left part (counted_term (counted_term c f) g)) (λ k _ b rest. term_read c (continuing w f g k b.0 b.1) start rest) rest
 
-abbrev pub join_from : Option Join → Symbol → List Tok → Read Join
-join_from (Some j) s rest = got j rest
-join_from None s rest = stop Unexpected (symbol s ∷ rest)
+abbrev pub join_read : Option Join → Symbol → List Tok → Read Join
+join_read (Some j) s rest = got j rest
+join_read None s rest = stop Unexpected (symbol s ∷ rest)
 
 abbrev pub parse_join : List Tok → Read Join
-parse_join (symbol s ∷ rest) = join_from (join_of s) s rest
+parse_join (symbol s ∷ rest) = join_read (join_of s) s rest
 parse_join tokens = stop Unexpected tokens
 
 -- behind an opening bracket, with which `start` begins, where the parts are read so
 unfoldable pub parse_joined : (Counts → List Tok → Read Term) → Counts → List Tok → List Tok → Read Term
-parse_joined part c start tokens = parse_parts (part c) parse_join (λ f. part (counts_with c f)) (λ f j g rest. term_read c (joined j f g) start rest) tokens
+parse_joined part c start tokens = parse_parts (part c) parse_join (λ f. part (counted_term c f)) (λ f j g rest. term_read c (joined j f g) start rest) tokens
 
 -- behind the first token of a form
 abbrev pub parse_behind_head : ℕ → Version → (Counts → List Tok → Read Term) → (Counts → List Tok → Read Collection) → Counts → Option Head → List Tok → List Tok → Read Term
@@ -836,7 +837,7 @@ parse_behind_head left v part members c (Some (heads.Headed h)) start tokens = p
 parse_behind_head left v part members c (Some heads.Transformed) start tokens = parse_transformed left v part c start tokens
 parse_behind_head left v part members c (Some (heads.Switching w)) start tokens = parse_switching left part c w start tokens
 parse_behind_head left v part members c (Some (heads.Named w)) start tokens = parse_named w c start tokens
-parse_behind_head left v part members c (Some (heads.Keeping w)) start tokens = parse_keeping left part c w start tokens
+parse_behind_head left v part members c (Some (heads.Continuation w)) start tokens = parse_continuing left part c w start tokens
 parse_behind_head left v part members c (Some heads.Call) start tokens = parse_call left v part members c start
 parse_behind_head left v part members c (Some heads.Gathered) start tokens = parse_gathered members c start tokens
 parse_behind_head left v part members c (Some (heads.Releasing w)) start tokens = parse_releasing left part members c w start tokens
@@ -845,7 +846,7 @@ parse_behind_head left v part members c None start tokens = stop Unexpected star
 
 -- a term by its first tokens
 abbrev pub parse_form : ℕ → Version → (Counts → List Tok → Read Term) → (Counts → List Tok → Read Collection) → Counts → List Tok → Read Term
-parse_form left v part members c (t ∷ rest) = parse_behind_head left v part members c (head_at v (t ∷ rest)) (t ∷ rest) rest
+parse_form left v part members c (t ∷ rest) = parse_behind_head left v part members c (tokens_head v (t ∷ rest)) (t ∷ rest) rest
 parse_form left v part members c [] = stop Unexpected []
 
 abbrev pub begins_term : Tok → Bool

@@ -40,8 +40,9 @@ use Rattle.sf_term.specs.declared.form.Start.{Start}
 use Rattle.sf_term.specs.declared.form.Start.TheVariants as starts
 use Rattle.sf_term.specs.declared.form.Naming.{Naming}
 use Rattle.sf_term.specs.declared.form.Naming.TheVariants as namings
-use Rattle.sf_term.specs.Parameters.{NameKind, value as value_kind, process as process_kind, collection as collection_kind}
-use Rattle.sf_term.specs.Trees.{bare, probe, never, with_value, timed, selected, arrow, accumulated, fused, Term, primitive, reference, joined, sided, headed, transformed, switching, keeping, gathered, releasing, editing, staged, Collection, without_members, used, added, dropped, kept, chosen, Reference, started, call, Arguments, no_arguments, value_argument, process_argument, collection_argument, closed_argument, Template, Templates, term_depth, terms_in, expressions_in}
+use Rattle.sf_term.specs.Parameters.{NameKind}
+use Rattle.sf_term.specs.Parameters
+use Rattle.sf_term.specs.Trees.{bare, probe, never, with_value, timed, selected, arrow, accumulated, fused, Term, primitive, reference, joined, sided, headed, transformed, switching, continuing, gathered, releasing, editing, staged, Collection, without_members, used, added, dropped, kept, chosen, Reference, started, call, Arguments, no_arguments, value_argument, process_argument, collection_argument, closed_argument, Template, Templates, term_depth, terms_in, expressions_in}
 use Rattle.sf_lex.specs.declared.word.Keyword.{Keyword}
 use Rattle.sf_lex.specs.declared.word.Keyword.TheVariants as words
 use Rattle.sf_lex.specs.declared.symbol.Symbol.{Symbol}
@@ -130,9 +131,9 @@ switching_word (switches.Recurring observations.Immediate) = words.RSwitch
 switching_word (switches.Recurring observations.Delayed) = words.DrSwitch
 
 -- the word of a term that gives way to another, which knows it by a name
-abbrev pub keeping_word : Observation → Keyword
-keeping_word observations.Immediate = words.KSwitch
-keeping_word observations.Delayed = words.DkSwitch
+abbrev pub continuing_word : Observation → Keyword
+continuing_word observations.Immediate = words.KSwitch
+continuing_word observations.Delayed = words.DkSwitch
 
 -- the first token of a form that is a name alone: `fresh` is no keyword
 abbrev pub naming_token : Naming → Tok
@@ -249,8 +250,8 @@ abbrev pub spell_folded : Folding → List Tok → List Tok → List Tok → Lis
 spell_folded o first second pattern body = keyword (folding_word o) ∷ in_brackets first (symbol symbols.Comma) (second ++ (symbol symbols.Comma ∷ spell_mapping pattern body))
 
 -- two terms in brackets, a name, and the pattern and the body that knows the first by that name
-abbrev pub spell_keeping : Observation → List Tok → List Tok → Name → List Tok → List Tok → List Tok
-spell_keeping w source observer k pattern body = keyword (keeping_word w) ∷ in_brackets source (symbol symbols.Comma) (observer ++ (symbol symbols.Comma ∷ name k ∷ symbol symbols.Comma ∷ spell_mapping pattern body))
+abbrev pub spell_continuing : Observation → List Tok → List Tok → Name → List Tok → List Tok → List Tok
+spell_continuing w source observer k pattern body = keyword (continuing_word w) ∷ in_brackets source (symbol symbols.Comma) (observer ++ (symbol symbols.Comma ∷ name k ∷ symbol symbols.Comma ∷ spell_mapping pattern body))
 
 -- the word of members that give way to a term, and of members that are edited
 abbrev pub releasing_word : Observation → Keyword
@@ -341,7 +342,7 @@ abbrev mutual
   spell_term v (headed h e f) = heading_token h ∷ in_brackets (spell_expression v e) (symbol symbols.Comma) (spell_term v f)
   spell_term v (transformed h f) = symbol symbols.MapsFirstInput ∷ in_brackets (spell_function v h) (symbol symbols.Comma) (spell_term v f)
   spell_term v (switching w f p g) = keyword (switching_word w) ∷ in_brackets (spell_term v f) (symbol symbols.Comma) (spell_mapping (spell_pattern p) (spell_term v g))
-  spell_term v (keeping w f g k p u) = spell_keeping w (spell_term v f) (spell_term v g) k (spell_pattern p) (spell_term v u)
+  spell_term v (continuing w f g k p u) = spell_continuing w (spell_term v f) (spell_term v g) k (spell_pattern p) (spell_term v u)
   spell_term v (gathered i) = keyword words.ParB ∷ spell_collection v i
   spell_term v (releasing w i q k p u) =
       keyword (releasing_word w) ∷ in_brackets (spell_collection v i) (symbol symbols.Comma) (spell_term v q ++ (symbol symbols.Comma ∷ name k ∷ symbol symbols.Comma ∷ spell_mapping (spell_pattern p) (spell_term v u)))
@@ -378,9 +379,9 @@ spell_key_kind versions.Two k = spell_keys versions.Two k ++ (symbol symbols.Col
 
 -- what a name stands for: the type of a value, both types of a process, or those of a collection in brackets
 abbrev pub spell_name_kind : Version → NameKind → List Tok
-spell_name_kind v (value_kind t) = spell_type v t
-spell_name_kind v (process_kind t u) = spell_type v t ++ (symbol symbols.Leads ∷ spell_type v u)
-spell_name_kind v (collection_kind k t u) = symbol symbols.OpenBracket ∷ (spell_key_kind v k ++ (spell_type v t ++ (symbol symbols.Leads ∷ (spell_type v u ++ (symbol symbols.CloseBracket ∷ [])))))
+spell_name_kind v (Parameters.value t) = spell_type v t
+spell_name_kind v (Parameters.process t u) = spell_type v t ++ (symbol symbols.Leads ∷ spell_type v u)
+spell_name_kind v (Parameters.collection k t u) = symbol symbols.OpenBracket ∷ (spell_key_kind v k ++ (spell_type v t ++ (symbol symbols.Leads ∷ (spell_type v u ++ (symbol symbols.CloseBracket ∷ [])))))
 
 -- a parameter of a template
 abbrev pub spell_parameter : Version → Name × NameKind → List Tok
@@ -485,7 +486,7 @@ abbrev mutual
   WritesTerm v (suc d) (headed h e f) = (head_makes h e f ≡ headed h e f) × WritesExpression v d e × WritesTerm v d f
   WritesTerm v (suc d) (transformed h f) = WritesFunction v d h × WritesTerm v d f
   WritesTerm v (suc d) (switching w f p g) = WritesTerm v d f × WritesTerm v d g
-  WritesTerm v (suc d) (keeping w f g k p u) = WritesTerm v d f × WritesTerm v d g × WritesTerm v d u
+  WritesTerm v (suc d) (continuing w f g k p u) = WritesTerm v d f × WritesTerm v d g × WritesTerm v d u
   WritesTerm v (suc d) (gathered i) = WritesCollection v d i
   WritesTerm v (suc d) (releasing w i q k p u) = WritesCollection v d i × WritesTerm v d q × WritesTerm v d u
   WritesTerm v (suc d) (editing w i k p u) = WritesCollection v d i × WritesCollection v d u
@@ -515,9 +516,9 @@ abbrev mutual
 
 -- a text of the version has the types of what a name stands for
 abbrev pub WritesNameKind : Version → NameKind → Type 0
-WritesNameKind v (value_kind t) = IsWrittenType v 64 t
-WritesNameKind v (process_kind t u) = IsWrittenType v 64 t × IsWrittenType v 64 u
-WritesNameKind v (collection_kind k t u) = WritesKeys v k × IsWrittenType v 64 t × IsWrittenType v 64 u
+WritesNameKind v (Parameters.value t) = IsWrittenType v 64 t
+WritesNameKind v (Parameters.process t u) = IsWrittenType v 64 t × IsWrittenType v 64 u
+WritesNameKind v (Parameters.collection k t u) = WritesKeys v k × IsWrittenType v 64 t × IsWrittenType v 64 u
 
 -- a text of the version has the types of a template
 pub record HasWrittenTypes (v : Version) (t : Template) : Type 0 where

@@ -40,7 +40,7 @@ pub enum Head {
     /// A word, and a name behind it.
     Named(Naming),
     /// A word, and behind it two terms, a name, a pattern and a third term in brackets.
-    Keeping(Observation),
+    Continuation(Observation),
     /// The name of a template, and arguments in brackets behind it.
     Call,
     /// `parB`, and a collection behind it.
@@ -156,8 +156,8 @@ pub fn head_of(token: &Token) -> Option<Head>
         ))),
         Token::Keyword(Keyword::Run) => Some(Head::Named(Naming::Process(Start::Run))),
         Token::Keyword(Keyword::Probe) => Some(Head::Named(Naming::Probe)),
-        Token::Keyword(Keyword::KSwitch) => Some(Head::Keeping(Observation::Immediate)),
-        Token::Keyword(Keyword::DkSwitch) => Some(Head::Keeping(Observation::Delayed)),
+        Token::Keyword(Keyword::KSwitch) => Some(Head::Continuation(Observation::Immediate)),
+        Token::Keyword(Keyword::DkSwitch) => Some(Head::Continuation(Observation::Delayed)),
         Token::Keyword(Keyword::ParB) => Some(Head::Gathered),
         Token::Keyword(Keyword::PSwitchB) => Some(Head::Releasing(Observation::Immediate)),
         Token::Keyword(Keyword::DpSwitchB) => Some(Head::Releasing(Observation::Delayed)),

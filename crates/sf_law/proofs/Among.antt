@@ -6,11 +6,11 @@ use Rattle.std.proofs.lemmas.List.Elements.{All-nil, All-cons}
 use Rattle.sf_expr.specs.declared.exprs.Exprs.{Exprs}
 use Rattle.sf_expr.specs.Expressions.{named}
 use Rattle.sf_expr.specs.Patterns.{pattern_of}
-use Rattle.sf_expr.specs.Arena.{Keeps}
+use Rattle.sf_expr.specs.Arena.{Extends}
 use Rattle.sf_expr.proofs.Entered.{unchanged_keeps}
 use Rattle.sf_term.specs.Parameters.{PlacedParameter}
-use Rattle.sf_term.specs.Headers.{Header as TermHeader}
-use Rattle.sf_term.proofs.Kept.{same_expressions}
+use Rattle.sf_term.specs.Headers.{Header}
+use Rattle.sf_term.proofs.Extended.{same_expressions}
 use Rattle.sf_law.specs.Headers.{ParameterHeader, PlanHeader}
 use Rattle.sf_law.specs.Entries.{BindsName, BindsNames}
 use Rattle.sf_law.specs.Copies.{CopiesParameter, CopiesTemplate}
@@ -42,10 +42,10 @@ module _ {A B : Type 0} (R : A → B → Type 0) where
   zip_right P f (x ∷ xs) (y ∷ ys) h = All-cons P y ys (f x y h.0) (zip_right P f xs ys h.1)
 
 -- expressions keep what they have
-pub keeps_same : (x : Exprs) → Keeps x x
+pub keeps_same : (x : Exprs) → Extends x x
 keeps_same x = unchanged_keeps x x (same_expressions x)
 
-parameter_kept : (x y : Exprs) → Keeps x y → (q : PlacedParameter) (r : ParameterHeader) → CopiesParameter x q r → CopiesParameter y q r
+parameter_kept : (x y : Exprs) → Extends x y → (q : PlacedParameter) (r : ParameterHeader) → CopiesParameter x q r → CopiesParameter y q r
 parameter_kept x y k q r z = record {
   name_held = k.holds_names r.name z.name_held;
   pattern_held = k.holds_patterns r.pattern z.pattern_held;
@@ -54,10 +54,10 @@ parameter_kept x y k q r z = record {
   kind = z.kind;
 }
 
-pub parameters_kept : (x y : Exprs) → Keeps x y → (qs : List PlacedParameter) (rs : List ParameterHeader) → AllZip (CopiesParameter x) qs rs → AllZip (CopiesParameter y) qs rs
+pub parameters_kept : (x y : Exprs) → Extends x y → (qs : List PlacedParameter) (rs : List ParameterHeader) → AllZip (CopiesParameter x) qs rs → AllZip (CopiesParameter y) qs rs
 parameters_kept x y k qs rs z = zip_weaker (CopiesParameter x) (CopiesParameter y) (parameter_kept x y k) qs rs z
 
-template_kept : (x y : Exprs) → Keeps x y → (h : TermHeader) (m : PlanHeader) → CopiesTemplate x h m → CopiesTemplate y h m
+template_kept : (x y : Exprs) → Extends x y → (h : Header) (m : PlanHeader) → CopiesTemplate x h m → CopiesTemplate y h m
 template_kept x y k h m z = record {
   name = z.name;
   parameters = parameters_kept x y k h.parameters m.parameters z.parameters;
@@ -66,15 +66,15 @@ template_kept x y k h m z = record {
   body = z.body;
 }
 
-pub templates_kept : (x y : Exprs) → Keeps x y → (hs : List TermHeader) (ms : List PlanHeader) → AllZip (CopiesTemplate x) hs ms → AllZip (CopiesTemplate y) hs ms
+pub templates_kept : (x y : Exprs) → Extends x y → (hs : List Header) (ms : List PlanHeader) → AllZip (CopiesTemplate x) hs ms → AllZip (CopiesTemplate y) hs ms
 templates_kept x y k hs ms z = zip_weaker (CopiesTemplate x) (CopiesTemplate y) (template_kept x y k) hs ms z
 
 parameter_bound : (x : Exprs) (q : PlacedParameter) (r : ParameterHeader) → CopiesParameter x q r → BindsName x r
 parameter_bound x q r z = ap pattern_of z.bound ∙ ap named (sym z.named)
 
-template_bound : (x : Exprs) (h : TermHeader) (m : PlanHeader) → CopiesTemplate x h m → BindsNames x m
+template_bound : (x : Exprs) (h : Header) (m : PlanHeader) → CopiesTemplate x h m → BindsNames x m
 template_bound x h m z = zip_right (CopiesParameter x) (BindsName x) (parameter_bound x) h.parameters m.parameters z.parameters
 
 -- the patterns of parameters bind their names
-pub templates_bound : (x : Exprs) (hs : List TermHeader) (ms : List PlanHeader) → AllZip (CopiesTemplate x) hs ms → All (BindsNames x) ms
+pub templates_bound : (x : Exprs) (hs : List Header) (ms : List PlanHeader) → AllZip (CopiesTemplate x) hs ms → All (BindsNames x) ms
 templates_bound x hs ms z = zip_right (CopiesTemplate x) (BindsNames x) (template_bound x) hs ms z

@@ -4,7 +4,7 @@ use Rattle.sf_value.specs.Values.{Name}
 use Rattle.sf_func.specs.Registries.{AnswersByName}
 use Rattle.sf_expr.specs.Evaluation.{answer}
 use Rattle.sf_term.specs.Parameters.{NameKind, Bindings}
-use Rattle.sf_term.specs.Trees.{Term, primitive, reference, started, call, Arguments, joined, sided, headed, transformed, switching, keeping, gathered, releasing, editing, staged, Template, template_named}
+use Rattle.sf_term.specs.Trees.{Term, primitive, reference, started, call, Arguments, joined, sided, headed, transformed, switching, continuing, gathered, releasing, editing, staged, Template, template_named}
 use Rattle.sf_term.specs.Entries.{identity_term}
 use Rattle.sf_mean.specs.Lives.{Environment, empty, running, closure}
 use Rattle.sf_mean.specs.Meaning.{argued, process_called}
@@ -12,7 +12,7 @@ use Rattle.sf_law.specs.declared.plan.Plan.{Plan}
 use Rattle.sf_law.specs.Headers.{PlanHeader, no_header}
 use Rattle.sf_law.specs.Entries.{closed_before}
 use Rattle.sf_law.specs.Arena.{plan_tree, plan_template, plan_templates, IsCalled}
-use Rattle.sf_law.proofs.Kept.{tree_past}
+use Rattle.sf_law.proofs.Extended.{tree_past}
 
 -- a term that is closed before arguments is bound as its closure, whatever it is
 pub argued_closed : (φ : AnswersByName) (q : Name × NameKind) (qs : Bindings) (t : Term) (vs : Arguments) (e d : Environment) → argued φ (q ∷ qs) (closed_before t vs) e d ≡ argued φ qs vs e (running q.0 (closure t e) d)
@@ -24,7 +24,7 @@ argued_closed φ q qs (sided s t) vs e d = refl
 argued_closed φ q qs (headed h i t) vs e d = refl
 argued_closed φ q qs (transformed f t) vs e d = refl
 argued_closed φ q qs (switching w t p u) vs e d = refl
-argued_closed φ q qs (keeping w t r k p u) vs e d = refl
+argued_closed φ q qs (continuing w t r k p u) vs e d = refl
 argued_closed φ q qs (gathered i) vs e d = refl
 argued_closed φ q qs (releasing w i r k p u) vs e d = refl
 argued_closed φ q qs (editing w i k p u) vs e d = refl

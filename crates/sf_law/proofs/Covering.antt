@@ -10,14 +10,15 @@ use Rattle.std.specs.declared.alloc.Global.{Global}
 use Rattle.sf_expr.specs.declared.exprs.ExprId.{ExprId}
 use Rattle.sf_expr.specs.declared.exprs.FunctionId.{FunctionId}
 use Rattle.sf_expr.specs.declared.exprs.PatternId.{PatternId}
-use Rattle.sf_expr.specs.Expressions.{Pattern, named, both as both_patterns}
+use Rattle.sf_expr.specs.Expressions.{Pattern, named}
+use Rattle.sf_expr.specs.Expressions
 use Rattle.sf_expr.specs.Patterns.{pattern_of}
 use Rattle.sf_term.specs.declared.form.Start.{Start}
 use Rattle.sf_term.specs.declared.form.Join.{Join}
 use Rattle.sf_term.specs.declared.form.Side.{Side}
 use Rattle.sf_term.specs.declared.form.Heading.{Heading}
 use Rattle.sf_code.specs.declared.open.OpenCode.{OpenCode}
-use Rattle.sf_code.specs.Compiling.{place_in}
+use Rattle.sf_code.specs.Compiling.{place_of_name}
 use Rattle.sf_code.specs.Around.{patterns_around}
 use Rattle.sf_law.specs.declared.node.TemplateId.{TemplateId}
 use Rattle.sf_law.specs.declared.node.PlanPrimitive.{PlanPrimitive}
@@ -26,16 +27,16 @@ use Rattle.sf_law.proofs.Naming.{closed_mentions, function_mentions}
 use Rattle.sf_value.specs.Values.{Name}
 use Rattle.sf_expr.specs.declared.exprs.Exprs.{Exprs}
 use Rattle.sf_expr.specs.declared.exprs.NameId.{NameId}
-use Rattle.sf_expr.specs.Arena.{function_at, name_at, placed_at}
+use Rattle.sf_expr.specs.Arena.{function_at, name_at, stored_pattern}
 use Rattle.sf_term.specs.Entries.{identity_term}
-use Rattle.sf_term.specs.Trees.{Term, primitive, reference, started, call, joined, sided, headed, transformed, switching, keeping, gathered, releasing, editing, staged, whole, rest}
+use Rattle.sf_term.specs.Trees.{Term, primitive, reference, started, call, joined, sided, headed, transformed, switching, continuing, gathered, releasing, editing, staged, whole, rest}
 use Rattle.sf_coincidence.specs.Mentions.{BindsOthers, ExpressionMentions, FunctionMentions, PrimitiveMentions, Mentions, CollectionMentions, ArgumentsMention}
 use Rattle.sf_law.specs.declared.node.PlanId.{PlanId}
 use Rattle.sf_law.specs.declared.node.PlanArgument.{PlanArgument}
 use Rattle.sf_law.specs.declared.node.PlanArgument.TheVariants as arguments
 use Rattle.sf_law.specs.declared.node.PlanCollection.{PlanCollection}
 use Rattle.sf_law.specs.declared.node.PlanSwitch.{PlanSwitch}
-use Rattle.sf_law.specs.declared.node.PlanKeeping.{PlanKeeping}
+use Rattle.sf_law.specs.declared.node.PlanContinuation.{PlanContinuation}
 use Rattle.sf_law.specs.declared.node.PlanReleasing.{PlanReleasing}
 use Rattle.sf_law.specs.declared.node.PlanEditing.{PlanEditing}
 use Rattle.sf_law.specs.declared.node.PlanNode.{PlanNode}
@@ -43,7 +44,7 @@ use Rattle.sf_law.specs.declared.mentioned.Mentioned.{Mentioned}
 use Rattle.sf_law.specs.declared.mentioned.Mentioned.TheVariants.{Any}
 use Rattle.sf_law.specs.declared.plan.Plan.{Plan}
 use Rattle.sf_law.specs.Entries.{IsCodedPrimitive, IsCodedArgument, IsCodedCollection, primitive_over, plan_over, plan_term, stages, pipeline, closed_before}
-use Rattle.sf_law.specs.Arena.{plan_tree, plan_expressions, plan_expression_at, plan_arguments, plan_collection, trees_at, BuildsPlan, builds_primitive, builds_started, builds_probe, builds_call, builds_joined, builds_sided, builds_headed, builds_transformed, builds_switching, builds_keeping, builds_gathered, builds_releasing, builds_editing, builds_pipeline}
+use Rattle.sf_law.specs.Arena.{plan_tree, plan_expressions, plan_expression_at, plan_arguments, plan_collection, plan_trees, BuildsPlan, builds_primitive, builds_started, builds_probe, builds_call, builds_joined, builds_sided, builds_headed, builds_transformed, builds_switching, builds_continuing, builds_gathered, builds_releasing, builds_editing, builds_pipeline}
 use Rattle.sf_law.specs.Mentioned.{is_mentioned, HasAll, Covers, mentioned_at, AreCovered}
 use Rattle.sf_law.specs.Mentioning.{ArgumentMentions}
 
@@ -88,12 +89,12 @@ module _ (p : Plan) where
   StagesMention [] x = ⊥
   StagesMention (a ∷ ids) x = Mentions (plan_tree p a) x ⊎ StagesMention ids x
 
-  staged_mention : (a : PlanId) (ids : List PlanId) (w : _) (x : Name) → Mentions (stages w (plan_tree p a) (trees_at p ids)) x → StagesMention (a ∷ ids) x
+  staged_mention : (a : PlanId) (ids : List PlanId) (w : _) (x : Name) → Mentions (stages w (plan_tree p a) (plan_trees p ids)) x → StagesMention (a ∷ ids) x
   staged_mention a [] w x h = inl h
   staged_mention a (b ∷ ids) w x (inl h) = inl h
   staged_mention a (b ∷ ids) w x (inr h) = inr (staged_mention b ids rest x h)
 
-  pub stages_mention : (ids : List PlanId) (x : Name) → Mentions (pipeline (trees_at p ids)) x → StagesMention ids x
+  pub stages_mention : (ids : List PlanId) (x : Name) → Mentions (pipeline (plan_trees p ids)) x → StagesMention ids x
   stages_mention [] x h = absurd h
   stages_mention (a ∷ ids) x h = staged_mention a ids whole x h
 
@@ -117,7 +118,7 @@ module _ (p : Plan) where
   closed_mention (headed k i t) vs x h = h
   closed_mention (transformed f t) vs x h = h
   closed_mention (switching w t q u) vs x h = h
-  closed_mention (keeping w t q k r u) vs x h = h
+  closed_mention (continuing w t q k r u) vs x h = h
   closed_mention (gathered i) vs x h = h
   closed_mention (releasing w i q k r u) vs x h = h
   closed_mention (editing w i k r u) vs x h = h
@@ -150,7 +151,7 @@ covered_at p a m h e = subst (λ k. Covers (plan_expressions p) k (plan_term p.e
 module _ (p : Plan) where
   -- what binds names inside a name and a pattern
   abbrev pub inside : NameId → PatternId → Pattern
-  inside k q = both_patterns (named (name_at (plan_expressions p) k)) (pattern_of (placed_at (plan_expressions p) q))
+  inside k q = Expressions.both (named (name_at (plan_expressions p) k)) (pattern_of (stored_pattern (plan_expressions p) q))
 
   -- all that a collection mentions is in a list, where its code is that of the collection
   abbrev pub CoversCollection : Mentioned → PlanCollection → Type 0
@@ -181,7 +182,7 @@ module _ (p : Plan) where
   covers_sided m builds_sided A = A
 
   pub covers_headed : (m : Mentioned) {h : Heading} {e : ExprId} {c : OpenCode} {a : PlanId} {t : Term} → BuildsPlan p (nodes.Headed h e c a) t
-      → ((x : Name) → is_some (place_in x (patterns_around (plan_expressions p) c.around)) ≡ true → IsTrue (is_mentioned (plan_expressions p) m x)) → Covers (plan_expressions p) m (plan_tree p a) → Covers (plan_expressions p) m t
+      → ((x : Name) → is_some (place_of_name x (patterns_around (plan_expressions p) c.around)) ≡ true → IsTrue (is_mentioned (plan_expressions p) m x)) → Covers (plan_expressions p) m (plan_tree p a) → Covers (plan_expressions p) m t
   covers_headed m {e = e} {c = c} {a = a} (builds_headed k) C A = both
     where
       both : (x : Name) → ExpressionMentions (plan_expression_at p e) x ⊎ Mentions (plan_tree p a) x → IsTrue (is_mentioned (plan_expressions p) m x)
@@ -189,7 +190,7 @@ module _ (p : Plan) where
       both x (inr h) = A x h
 
   pub covers_transformed : (m : Mentioned) {f : FunctionId} {c : OpenCode} {a : PlanId} {t : Term} → BuildsPlan p (nodes.Transformed f c a) t
-      → ((x : Name) → is_some (place_in x (patterns_around (plan_expressions p) c.around)) ≡ true → IsTrue (is_mentioned (plan_expressions p) m x)) → Covers (plan_expressions p) m (plan_tree p a) → Covers (plan_expressions p) m t
+      → ((x : Name) → is_some (place_of_name x (patterns_around (plan_expressions p) c.around)) ≡ true → IsTrue (is_mentioned (plan_expressions p) m x)) → Covers (plan_expressions p) m (plan_tree p a) → Covers (plan_expressions p) m t
   covers_transformed m {f = f} {c = c} {a = a} (builds_transformed k) C A = both
     where
       both : (x : Name) → FunctionMentions (function_at (plan_expressions p) f) x ⊎ Mentions (plan_tree p a) x → IsTrue (is_mentioned (plan_expressions p) m x)
@@ -197,19 +198,19 @@ module _ (p : Plan) where
       both x (inr h) = A x h
 
   pub covers_switching : (m : Mentioned) {s : PlanSwitch} {t : Term} → BuildsPlan p (nodes.Switching s) t → Covers (plan_expressions p) m (plan_tree p s.source)
-      → ((x : Name) → Mentions (plan_tree p s.body) x → BindsOthers (pattern_of (placed_at (plan_expressions p) s.pattern)) x → IsTrue (is_mentioned (plan_expressions p) m x)) → Covers (plan_expressions p) m t
+      → ((x : Name) → Mentions (plan_tree p s.body) x → BindsOthers (pattern_of (stored_pattern (plan_expressions p) s.pattern)) x → IsTrue (is_mentioned (plan_expressions p) m x)) → Covers (plan_expressions p) m t
   covers_switching m {s = s} builds_switching A B = both
     where
-      both : (x : Name) → Mentions (plan_tree p s.source) x ⊎ (Mentions (plan_tree p s.body) x × BindsOthers (pattern_of (placed_at (plan_expressions p) s.pattern)) x) → IsTrue (is_mentioned (plan_expressions p) m x)
+      both : (x : Name) → Mentions (plan_tree p s.source) x ⊎ (Mentions (plan_tree p s.body) x × BindsOthers (pattern_of (stored_pattern (plan_expressions p) s.pattern)) x) → IsTrue (is_mentioned (plan_expressions p) m x)
       both x (inl h) = A x h
       both x (inr h) = B x h.0 h.1
 
-  pub covers_keeping : (m : Mentioned) {s : PlanKeeping} {t : Term} → BuildsPlan p (nodes.Keeping s) t → Covers (plan_expressions p) m (plan_tree p s.source) → Covers (plan_expressions p) m (plan_tree p s.observer)
+  pub covers_continuing : (m : Mentioned) {s : PlanContinuation} {t : Term} → BuildsPlan p (nodes.Continuation s) t → Covers (plan_expressions p) m (plan_tree p s.source) → Covers (plan_expressions p) m (plan_tree p s.observer)
       → ((x : Name) → Mentions (plan_tree p s.body) x → BindsOthers (inside s.name s.pattern) x → IsTrue (is_mentioned (plan_expressions p) m x)) → Covers (plan_expressions p) m t
-  covers_keeping m {s = s} builds_keeping A O B = all
+  covers_continuing m {s = s} builds_continuing A O B = all
     where
       all : (x : Name) → Mentions (plan_tree p s.source) x
-          ⊎ (Mentions (plan_tree p s.observer) x ⊎ (Mentions (plan_tree p s.body) x × BindsOthers (pattern_of (placed_at (plan_expressions p) s.pattern)) x × name_at (plan_expressions p) s.name ≢ x))
+          ⊎ (Mentions (plan_tree p s.observer) x ⊎ (Mentions (plan_tree p s.body) x × BindsOthers (pattern_of (stored_pattern (plan_expressions p) s.pattern)) x × name_at (plan_expressions p) s.name ≢ x))
           → IsTrue (is_mentioned (plan_expressions p) m x)
       all x (inl h) = A x h
       all x (inr (inl h)) = O x h
@@ -224,7 +225,7 @@ module _ (p : Plan) where
   covers_releasing m {s = s} (builds_releasing k) I O B = all
     where
       all : (x : Name) → CollectionMentions (plan_collection p s.members.value) x
-          ⊎ (Mentions (plan_tree p s.observer) x ⊎ (Mentions (plan_tree p s.body) x × BindsOthers (pattern_of (placed_at (plan_expressions p) s.pattern)) x × name_at (plan_expressions p) s.name ≢ x))
+          ⊎ (Mentions (plan_tree p s.observer) x ⊎ (Mentions (plan_tree p s.body) x × BindsOthers (pattern_of (stored_pattern (plan_expressions p) s.pattern)) x × name_at (plan_expressions p) s.name ≢ x))
           → IsTrue (is_mentioned (plan_expressions p) m x)
       all x (inl h) = I k x h
       all x (inr (inl h)) = O x h
@@ -236,10 +237,10 @@ module _ (p : Plan) where
   covers_editing m {s = s} (builds_editing k) I B = both
     where
       both : (x : Name) → CollectionMentions (plan_collection p s.members.value) x
-          ⊎ (CollectionMentions (plan_collection p s.edit.value) x × BindsOthers (pattern_of (placed_at (plan_expressions p) s.pattern)) x × name_at (plan_expressions p) s.name ≢ x)
+          ⊎ (CollectionMentions (plan_collection p s.edit.value) x × BindsOthers (pattern_of (stored_pattern (plan_expressions p) s.pattern)) x × name_at (plan_expressions p) s.name ≢ x)
           → IsTrue (is_mentioned (plan_expressions p) m x)
       both x (inl h) = I k.0 x h
       both x (inr h) = B k.1 x h.0 (h.2, h.1)
 
-  pub covers_pipeline : (m : Mentioned) {v : Vec PlanId Global} {t : Term} → BuildsPlan p (nodes.Pipeline v) t → Covers (plan_expressions p) m (pipeline (trees_at p v.items)) → Covers (plan_expressions p) m t
+  pub covers_pipeline : (m : Mentioned) {v : Vec PlanId Global} {t : Term} → BuildsPlan p (nodes.Pipeline v) t → Covers (plan_expressions p) m (pipeline (plan_trees p v.items)) → Covers (plan_expressions p) m t
   covers_pipeline m (builds_pipeline w) h = h

@@ -1,5 +1,5 @@
 pub mod Placed
-pub mod Kept
+pub mod Extended
 pub mod Copied
 pub mod Among
 pub mod Called

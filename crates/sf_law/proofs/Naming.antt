@@ -9,7 +9,7 @@ use Rattle.sf_expr.specs.declared.exprs.Exprs.{Exprs}
 use Rattle.sf_expr.specs.declared.exprs.NameId.{NameId}
 use Rattle.sf_expr.specs.Arena.{name_at}
 use Rattle.sf_expr.specs.Expressions.{Pattern, unnamed, named, both, Expression, variable, literal, paired, applied, operation, conditional, mapped, folded, called, Function, function}
-use Rattle.sf_code.specs.Compiling.{path_in, inner_path, place_in, place_or, is_closed}
+use Rattle.sf_code.specs.Compiling.{path_of_name, inner_path, place_of_name, place_or, is_closed}
 use Rattle.sf_code.specs.declared.place.Half.{Half}
 use Rattle.sf_code.specs.Places.{Place}
 use Rattle.sf_code.specs.Worth.{is_closed_within}
@@ -64,14 +64,14 @@ abbrev none : List Half
 none = []
 
 -- the path to a name is one to what the pattern binds
-pub path_bound : (p : Pattern) (x : Name) → is_some (path_in x p) ≡ true → IsTrue (binds_name p x)
+pub path_bound : (p : Pattern) (x : Name) → is_some (path_of_name x p) ≡ true → IsTrue (binds_name p x)
 path_bound unnamed x h = absurd cc
 path_bound (named y) x h = by (bytes_eq x y) h
   where
     by : (b : Bool) → is_some (cond b (Some none) None) ≡ true → IsTrue b
     by true k = refl
     by false k = absurd cc
-path_bound (both p q) x h = by (path_in x q) (path_in x p) (path_bound q x) (path_bound p x) h
+path_bound (both p q) x h = by (path_of_name x q) (path_of_name x p) (path_bound q x) (path_bound p x) h
   where
     by : (a b : Option (List Half)) → (is_some a ≡ true → IsTrue (binds_name q x)) → (is_some b ≡ true → IsTrue (binds_name p x)) → is_some (inner_path a b) ≡ true → IsTrue (binds_name p x || binds_name q x)
     by (Some hs) b A B k = right_or (binds_name p x) (binds_name q x) (A refl)
@@ -79,31 +79,31 @@ path_bound (both p q) x h = by (path_in x q) (path_in x p) (path_bound q x) (pat
     by None None A B k = absurd cc
 
 -- a place in a pattern alone is one of what it binds
-pub alone_bound : (p : Pattern) (x : Name) → is_some (place_in x (p ∷ [])) ≡ true → IsTrue (binds_name p x)
-alone_bound p x h = path_bound p x (by (path_in x p) h)
+pub alone_bound : (p : Pattern) (x : Name) → is_some (place_of_name x (p ∷ [])) ≡ true → IsTrue (binds_name p x)
+alone_bound p x h = path_bound p x (by (path_of_name x p) h)
   where
     by : (o : Option (List Half)) → is_some (place_or o None) ≡ true → is_some o ≡ true
     by None k = absurd cc
     by (Some hs) k = refl
 
-no_path : (p : Pattern) (x : Name) → BindsOthers p x → path_in x p ≡ None
-no_path p x h = by (path_in x p) refl
+no_path : (p : Pattern) (x : Name) → BindsOthers p x → path_of_name x p ≡ None
+no_path p x h = by (path_of_name x p) refl
   where
-    by : (o : Option (List Half)) → path_in x p ≡ o → o ≡ None
+    by : (o : Option (List Half)) → path_of_name x p ≡ o → o ≡ None
     by None same = refl
     by (Some hs) same = absurd (let bound : IsTrue (binds_name p x) = path_bound p x (ap is_some same) in let free : binds_name p x ≡ false = not_bound p x h in cc)
 
 -- a name has a place behind a pattern that binds others
-behind : (p : Pattern) (ps : List Pattern) (x : Name) → BindsOthers p x → is_some (place_in x (p ∷ ps)) ≡ true → is_some (place_in x ps) ≡ true
-behind p ps x h k = by (place_in x ps) (subst (λ o. is_some (place_or o (place_in x ps)) ≡ true) (no_path p x h) k)
+behind : (p : Pattern) (ps : List Pattern) (x : Name) → BindsOthers p x → is_some (place_of_name x (p ∷ ps)) ≡ true → is_some (place_of_name x ps) ≡ true
+behind p ps x h k = by (place_of_name x ps) (subst (λ o. is_some (place_or o (place_of_name x ps)) ≡ true) (no_path p x h) k)
   where
     by : (o : Option Place) → is_some (place_or None o) ≡ true → is_some o ≡ true
     by None k = absurd cc
     by (Some q) k = refl
 
 -- each name that a closed expression mentions has a place
-pub closed_mentions : (ps : List Pattern) (e : Expression) (x : Name) → is_closed ps e ≡ true → ExpressionMentions e x → is_some (place_in x ps) ≡ true
-closed_mentions ps (variable y) x h m = subst (λ z. is_some (place_in z ps) ≡ true) m h
+pub closed_mentions : (ps : List Pattern) (e : Expression) (x : Name) → is_closed ps e ≡ true → ExpressionMentions e x → is_some (place_of_name x ps) ≡ true
+closed_mentions ps (variable y) x h m = subst (λ z. is_some (place_of_name z ps) ≡ true) m h
 closed_mentions ps (literal l) x h m = absurd m
 closed_mentions ps (paired i j) x h (inl m) = closed_mentions ps i x (both_true (is_closed ps i) (is_closed ps j) h).0 m
 closed_mentions ps (paired i j) x h (inr m) = closed_mentions ps j x (both_true (is_closed ps i) (is_closed ps j) h).1 m
@@ -120,7 +120,7 @@ closed_mentions ps (folded i o j p k) x h (inr (inl m)) = closed_mentions ps j x
 closed_mentions ps (folded i o j p k) x h (inr (inr m)) = behind p ps x m.1 (closed_mentions (p ∷ ps) k x (both_true (is_closed ps j) (is_closed (p ∷ ps) k) (both_true (is_closed ps i) (is_closed ps j && is_closed (p ∷ ps) k) h).1).1 m.0)
 closed_mentions ps (called g i) x h m = closed_mentions ps i x h m
 
-pub function_mentions : (ps : List Pattern) (g : Function) (x : Name) → is_closed_within ps g ≡ true → FunctionMentions g x → is_some (place_in x ps) ≡ true
+pub function_mentions : (ps : List Pattern) (g : Function) (x : Name) → is_closed_within ps g ≡ true → FunctionMentions g x → is_some (place_of_name x ps) ≡ true
 function_mentions ps (function p e) x h m = behind p ps x m.1 (closed_mentions (p ∷ ps) e x h m.0)
 
 -- a name that is put behind others is one of them

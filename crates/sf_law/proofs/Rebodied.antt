@@ -33,7 +33,7 @@ module _ (ids : List PlanId) (n : ℕ) where
   calls_kept x hs (nodes.Headed h e c a) = refl
   calls_kept x hs (nodes.Transformed f c a) = refl
   calls_kept x hs (nodes.Switching n) = refl
-  calls_kept x hs (nodes.Keeping n) = refl
+  calls_kept x hs (nodes.Continuation n) = refl
   calls_kept x hs (nodes.Gathered r) = refl
   calls_kept x hs (nodes.Releasing s) = refl
   calls_kept x hs (nodes.Editing s) = refl
@@ -63,7 +63,7 @@ module _ (ids : List PlanId) (n : ℕ) where
   asked_kept x hs asks (nodes.Headed h e c a) = refl
   asked_kept x hs asks (nodes.Transformed f c a) = refl
   asked_kept x hs asks (nodes.Switching n) = refl
-  asked_kept x hs asks (nodes.Keeping n) = refl
+  asked_kept x hs asks (nodes.Continuation n) = refl
   asked_kept x hs asks (nodes.Gathered r) = refl
   asked_kept x hs asks (nodes.Releasing s) = refl
   asked_kept x hs asks (nodes.Editing s) = refl

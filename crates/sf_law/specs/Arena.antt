@@ -11,14 +11,14 @@ use Rattle.sf_expr.specs.Expressions.{Expression}
 use Rattle.sf_expr.specs.declared.exprs.FunctionId.{FunctionId}
 use Rattle.sf_expr.specs.declared.exprs.NameId.{NameId}
 use Rattle.sf_expr.specs.Patterns.{pattern_of}
-use Rattle.sf_expr.specs.Arena.{expression, function_at, name_at, placed_at}
+use Rattle.sf_expr.specs.Arena.{expression, function_at, name_at, stored_pattern}
 use Rattle.sf_term.specs.declared.form.Join.{Join}
 use Rattle.sf_term.specs.declared.form.Start.{Start}
 use Rattle.sf_term.specs.declared.form.Side.{Side}
 use Rattle.sf_term.specs.declared.form.Heading.{Heading}
 use Rattle.sf_code.specs.declared.open.OpenCode.{OpenCode}
 use Rattle.sf_code.specs.Worth.{IsCodeOf, IsCodeOfFunction}
-use Rattle.sf_term.specs.Trees.{Term, primitive, probe, reference, started, call, Arguments, joined, sided, headed, transformed, switching, keeping, gathered, releasing, editing, Collection, Template, Templates, template_named}
+use Rattle.sf_term.specs.Trees.{Term, primitive, probe, reference, started, call, Arguments, joined, sided, headed, transformed, switching, continuing, gathered, releasing, editing, Collection, Template, Templates, template_named}
 use Rattle.sf_term.specs.Parameters.{NameKind}
 use Rattle.sf_mean.specs.Meaning.{Network}
 use Rattle.sf_law.specs.declared.node.PlanId.{PlanId}
@@ -26,7 +26,7 @@ use Rattle.sf_law.specs.declared.node.TemplateId.{TemplateId}
 use Rattle.sf_law.specs.declared.node.PlanArgument.{PlanArgument}
 use Rattle.sf_law.specs.declared.node.PlanCollection.{PlanCollection}
 use Rattle.sf_law.specs.declared.node.PlanSwitch.{PlanSwitch}
-use Rattle.sf_law.specs.declared.node.PlanKeeping.{PlanKeeping}
+use Rattle.sf_law.specs.declared.node.PlanContinuation.{PlanContinuation}
 use Rattle.sf_law.specs.declared.node.PlanReleasing.{PlanReleasing}
 use Rattle.sf_law.specs.declared.node.PlanEditing.{PlanEditing}
 use Rattle.sf_law.specs.declared.node.PlanNode.{PlanNode}
@@ -38,7 +38,7 @@ use Rattle.sf_law.specs.declared.mentioned.Mentioned.TheVariants.{Names, Any}
 use Rattle.sf_law.specs.Mentioned.{has_name, is_mentioned}
 use Rattle.sf_law.specs.Asking.{is_asked}
 use Rattle.sf_law.specs.Headers.{ParameterHeader, PlanHeader, no_header}
-use Rattle.sf_law.specs.Entries.{primitive_over, IsCodedPrimitive, IsCodedArgument, IsCodedCollection, arguments_with, collection_with, pipeline, node_among, plan_term}
+use Rattle.sf_law.specs.Entries.{primitive_over, IsCodedPrimitive, IsCodedArgument, IsCodedCollection, planned_arguments, planned_collection, pipeline, node_among, plan_term}
 
 -- the number of an id
 abbrev pub plan_number : PlanId → ℕ
@@ -77,8 +77,8 @@ unfoldable pub plan_tree : Plan → PlanId → Term
 plan_tree p id = plan_term p.expressions p.nodes.items id.0
 
 -- the terms at ids
-abbrev pub trees_at : Plan → List PlanId → List Term
-trees_at p ids = map (λ a. plan_tree p a) ids
+abbrev pub plan_trees : Plan → List PlanId → List Term
+plan_trees p ids = map (λ a. plan_tree p a) ids
 
 -- the templates of a plan, whose bodies are ids, in order
 abbrev pub plan_headers : Plan → List PlanHeader
@@ -123,11 +123,11 @@ IsCalled p x h = plan_template p h ≡ unwrap_or (template_named x (plan_templat
 
 -- the arguments of a call, with the trees of their terms
 abbrev pub plan_arguments : Plan → List PlanArgument → Arguments
-plan_arguments p vs = arguments_with (plan_expressions p) (plan_tree p) vs
+plan_arguments p vs = planned_arguments (plan_expressions p) (plan_tree p) vs
 
 -- a collection, with the trees of its terms
 abbrev pub plan_collection : Plan → PlanCollection → Collection
-plan_collection p i = collection_with (plan_expressions p) (plan_tree p) i
+plan_collection p i = planned_collection (plan_expressions p) (plan_tree p) i
 
 -- the network of a plan, where stored functions answer this
 abbrev pub network_of_plan : AnswersByName → Plan → Network
@@ -148,17 +148,17 @@ pub data BuildsPlan (p : Plan) : PlanNode → Term → Type 0 where
   builds_sided : {d : Side} {a : PlanId} → BuildsPlan p (nodes.Sided d a) (sided d (plan_tree p a))
   builds_headed : {h : Heading} {e : ExprId} {c : OpenCode} {a : PlanId} → IsCodeOf (plan_expressions p) (plan_expression_at p e) c → BuildsPlan p (nodes.Headed h e c a) (headed h (plan_expression_at p e) (plan_tree p a))
   builds_transformed : {f : FunctionId} {c : OpenCode} {a : PlanId} → IsCodeOfFunction (plan_expressions p) (function_at (plan_expressions p) f) c → BuildsPlan p (nodes.Transformed f c a) (transformed (function_at (plan_expressions p) f) (plan_tree p a))
-  builds_switching : {n : PlanSwitch} → BuildsPlan p (nodes.Switching n) (switching n.form (plan_tree p n.source) (pattern_of (placed_at (plan_expressions p) n.pattern)) (plan_tree p n.body))
-  builds_keeping : {n : PlanKeeping} → BuildsPlan p (nodes.Keeping n) (keeping n.shown (plan_tree p n.source) (plan_tree p n.observer) (name_at (plan_expressions p) n.name) (pattern_of (placed_at (plan_expressions p) n.pattern)) (plan_tree p n.body))
+  builds_switching : {n : PlanSwitch} → BuildsPlan p (nodes.Switching n) (switching n.form (plan_tree p n.source) (pattern_of (stored_pattern (plan_expressions p) n.pattern)) (plan_tree p n.body))
+  builds_continuing : {n : PlanContinuation} → BuildsPlan p (nodes.Continuation n) (continuing n.shown (plan_tree p n.source) (plan_tree p n.observer) (name_at (plan_expressions p) n.name) (pattern_of (stored_pattern (plan_expressions p) n.pattern)) (plan_tree p n.body))
   builds_gathered : {r : Rc PlanCollection Global} → IsCodedCollection (plan_expressions p) r.value → BuildsPlan p (nodes.Gathered r) (gathered (plan_collection p r.value))
   builds_releasing : {s : PlanReleasing} → IsCodedCollection (plan_expressions p) s.members.value
-      → BuildsPlan p (nodes.Releasing s) (releasing s.shown (plan_collection p s.members.value) (plan_tree p s.observer) (name_at (plan_expressions p) s.name) (pattern_of (placed_at (plan_expressions p) s.pattern)) (plan_tree p s.body))
+      → BuildsPlan p (nodes.Releasing s) (releasing s.shown (plan_collection p s.members.value) (plan_tree p s.observer) (name_at (plan_expressions p) s.name) (pattern_of (stored_pattern (plan_expressions p) s.pattern)) (plan_tree p s.body))
   builds_editing : {s : PlanEditing} → IsCodedCollection (plan_expressions p) s.members.value × IsCodedCollection (plan_expressions p) s.edit.value
-      → BuildsPlan p (nodes.Editing s) (editing s.shown (plan_collection p s.members.value) (name_at (plan_expressions p) s.name) (pattern_of (placed_at (plan_expressions p) s.pattern)) (plan_collection p s.edit.value))
-  builds_pipeline : {v : Vec PlanId Global} → IsTrue (nat_le 2 (length v.items)) → BuildsPlan p (nodes.Pipeline v) (pipeline (trees_at p v.items))
+      → BuildsPlan p (nodes.Editing s) (editing s.shown (plan_collection p s.members.value) (name_at (plan_expressions p) s.name) (pattern_of (stored_pattern (plan_expressions p) s.pattern)) (plan_collection p s.edit.value))
+  builds_pipeline : {v : Vec PlanId Global} → IsTrue (nat_le 2 (length v.items)) → BuildsPlan p (nodes.Pipeline v) (pipeline (plan_trees p v.items))
 
 -- Terms that a plan held are there as they were, over the same expressions.
-pub record KeepsPlan (old new : Plan) : Type 0 where
+pub record ExtendsPlan (old new : Plan) : Type 0 where
   pub expressions : plan_expressions new ≡ plan_expressions old
   pub count : node_count old ≤ node_count new
   pub nodes : (a : PlanId) → plan_number a < node_count old → plan_node_at new a ≡ plan_node_at old a

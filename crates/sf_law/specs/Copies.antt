@@ -11,7 +11,7 @@ use Rattle.sf_expr.specs.declared.exprs.FunctionId.{FunctionId}
 use Rattle.sf_expr.specs.declared.exprs.NameId.{NameId}
 use Rattle.sf_expr.specs.declared.exprs.Exprs.{Exprs}
 use Rattle.sf_expr.specs.Patterns.{placed_name}
-use Rattle.sf_expr.specs.Arena.{HoldsName, HoldsPattern, name_at, placed_at}
+use Rattle.sf_expr.specs.Arena.{HoldsName, HoldsPattern, name_at, stored_pattern}
 use Rattle.sf_term.specs.declared.form.Bare.{Bare}
 use Rattle.sf_term.specs.declared.form.WithValue.{WithValue}
 use Rattle.sf_term.specs.declared.form.Timing.{Timing}
@@ -27,7 +27,7 @@ use Rattle.sf_term.specs.declared.node.ArgumentsId.{ArgumentsId}
 use Rattle.sf_term.specs.declared.node.Argument.{Argument}
 use Rattle.sf_term.specs.declared.node.Argument.TheVariants as arguments
 use Rattle.sf_term.specs.declared.node.Switch.{Switch}
-use Rattle.sf_term.specs.declared.node.Keeping.{Keeping}
+use Rattle.sf_term.specs.declared.node.Continuation.{Continuation}
 use Rattle.sf_term.specs.declared.node.Releasing.{Releasing}
 use Rattle.sf_term.specs.declared.node.Editing.{Editing}
 use Rattle.sf_term.specs.declared.collection.CollectionId.{CollectionId}
@@ -39,8 +39,8 @@ use Rattle.sf_term.specs.declared.node.Primitive.{Primitive}
 use Rattle.sf_term.specs.declared.node.Primitive.TheVariants as primitives
 use Rattle.sf_term.specs.declared.program.Program.{Program}
 use Rattle.sf_term.specs.Parameters.{PlacedParameter}
-use Rattle.sf_term.specs.Headers.{Header as TermHeader}
-use Rattle.sf_term.specs.Arena.{tree as term, expressions_of, term_number, term_node_at, arguments_under, collection_under}
+use Rattle.sf_term.specs.Headers.{Header}
+use Rattle.sf_term.specs.Arena.{program_expressions, term_number, term_node_at, argument_nodes, collection_node, tree}
 use Rattle.sf_code.specs.declared.open.OpenCode.{OpenCode}
 use Rattle.sf_law.specs.declared.node.PlanId.{PlanId}
 use Rattle.sf_law.specs.declared.node.TemplateId.{TemplateId}
@@ -49,7 +49,7 @@ use Rattle.sf_law.specs.declared.node.PlanArgument.TheVariants as plan_arguments
 use Rattle.sf_law.specs.declared.node.PlanCollection.{PlanCollection}
 use Rattle.sf_law.specs.declared.node.PlanCollection.TheVariants as plan_collections
 use Rattle.sf_law.specs.declared.node.PlanSwitch.{PlanSwitch}
-use Rattle.sf_law.specs.declared.node.PlanKeeping.{PlanKeeping}
+use Rattle.sf_law.specs.declared.node.PlanContinuation.{PlanContinuation}
 use Rattle.sf_law.specs.declared.node.PlanReleasing.{PlanReleasing}
 use Rattle.sf_law.specs.declared.node.PlanEditing.{PlanEditing}
 use Rattle.sf_law.specs.declared.members.TermPlans.{TermPlans}
@@ -66,7 +66,7 @@ use Rattle.sf_law.specs.Arena.{plan_tree}
 abbrev pub plan_id : TermId → PlanId
 plan_id t = record { 0 = t.0 }
 
--- the id under which a term stands; the first one where none is listed for it
+-- the id under which a tree stands; the first one where none is listed for it
 abbrev pub stands_under : TermPlans → TermId → PlanId
 stands_under AsNumbered t = plan_id t
 stands_under (Listed ids) t = slice_index_or ids.now (term_number t) (record { 0 = 0 })
@@ -92,7 +92,7 @@ named_process (terms.Sided d a) = None
 named_process (terms.Headed h e a) = None
 named_process (terms.Transformed f a) = None
 named_process (terms.Switching n) = None
-named_process (terms.Keeping n) = None
+named_process (terms.Continuation n) = None
 named_process (terms.Gathered c) = None
 named_process (terms.Releasing n) = None
 named_process (terms.Editing n) = None
@@ -110,7 +110,7 @@ pub data CopiesCollection (m : TermId → PlanId) : CollExpr → PlanCollection 
 -- Members that give way, in a plan: with the same name and pattern, and with these ids of their terms.
 pub record CopiesReleasing (p : Program) (m : TermId → PlanId) (s : Releasing) (r : PlanReleasing) : Type 0 where
   pub shown : r.shown ≡ s.shown
-  pub members : CopiesCollection m (collection_under p s.members) r.members.value
+  pub members : CopiesCollection m (collection_node p s.members) r.members.value
   pub observer : r.observer ≡ m s.observer
   pub name : r.name ≡ s.name
   pub pattern : r.pattern ≡ s.pattern
@@ -119,40 +119,40 @@ pub record CopiesReleasing (p : Program) (m : TermId → PlanId) (s : Releasing)
 -- Members that are edited, likewise.
 pub record CopiesEditing (p : Program) (m : TermId → PlanId) (s : Editing) (r : PlanEditing) : Type 0 where
   pub shown : r.shown ≡ s.shown
-  pub members : CopiesCollection m (collection_under p s.members) r.members.value
+  pub members : CopiesCollection m (collection_node p s.members) r.members.value
   pub name : r.name ≡ s.name
   pub pattern : r.pattern ≡ s.pattern
-  pub edit : CopiesCollection m (collection_under p s.edit) r.edit.value
+  pub edit : CopiesCollection m (collection_node p s.edit) r.edit.value
 
 -- the same switch, with these ids of its terms
 abbrev pub copied_switch : (TermId → PlanId) → Switch → PlanSwitch
 copied_switch m n = record { form = n.form; source = m n.source; pattern = n.pattern; body = m n.body }
 
 -- the same of a switch that knows its source
-abbrev pub copied_keeping : (TermId → PlanId) → Keeping → PlanKeeping
-copied_keeping m n = record { shown = n.shown; source = m n.source; observer = m n.observer; name = n.name; pattern = n.pattern; body = m n.body }
+abbrev pub copied_continuing : (TermId → PlanId) → Continuation → PlanContinuation
+copied_continuing m n = record { shown = n.shown; source = m n.source; observer = m n.observer; name = n.name; pattern = n.pattern; body = m n.body }
 
 -- A plan's argument is a program's, whatever its code: the same expression, the same named process, these ids of its terms.
 pub data CopiesArgument (p : Program) (m : TermId → PlanId) : Argument → PlanArgument → Type 0 where
   copies_value : {e : ExprId} {c : OpenCode} → CopiesArgument p m (arguments.Value e) (plan_arguments.Value e c)
   copies_started : {a : TermId} {w : Start} {k : NameId} → named_process (term_node_at p a) ≡ Some (w, k) → CopiesArgument p m (arguments.Process a) (plan_arguments.Started w k)
   copies_closed : {a : TermId} → named_process (term_node_at p a) ≡ None → CopiesArgument p m (arguments.Process a) (plan_arguments.Closed (m a))
-  copies_members : {c : CollectionId} {r : Rc PlanCollection Global} → CopiesCollection m (collection_under p c) r.value → CopiesArgument p m (arguments.Collection c) (plan_arguments.Collected r)
+  copies_members : {c : CollectionId} {r : Rc PlanCollection Global} → CopiesCollection m (collection_node p c) r.value → CopiesArgument p m (arguments.Collection c) (plan_arguments.Collected r)
 
 -- A plan's node is a program's, whatever its code and the template that it calls: of the same form, with the same ids of its
 -- expressions, and with these ids of its terms.
 pub data CopiesNode (p : Program) (m : TermId → PlanId) : Node → PlanNode → Type 0 where
   copies_primitive : {q : Primitive} {r : PlanPrimitive} → CopiesPrimitive q r → CopiesNode p m (terms.Primitive q) (plans.Primitive r)
   copies_process : {w : Start} {k : NameId} {s : _} → CopiesNode p m (terms.Named (Process w) k s) (plans.Started w k)
-  copies_probe : {k : NameId} {s : _} {r : Rc (String Global) Global} → string_bytes r.value ≡ name_at (expressions_of p) k → CopiesNode p m (terms.Named Probe k s) (plans.Probe r)
-  copies_call : {k : NameId} {a : ArgumentsId} {g : TemplateId} {v : Vec PlanArgument Global} → AllZip (CopiesArgument p m) (arguments_under p a) v.items → CopiesNode p m (terms.Call k a) (plans.Call k g v)
+  copies_probe : {k : NameId} {s : _} {r : Rc (String Global) Global} → string_bytes r.value ≡ name_at (program_expressions p) k → CopiesNode p m (terms.Named Probe k s) (plans.Probe r)
+  copies_call : {k : NameId} {a : ArgumentsId} {g : TemplateId} {v : Vec PlanArgument Global} → AllZip (CopiesArgument p m) (argument_nodes p a) v.items → CopiesNode p m (terms.Call k a) (plans.Call k g v)
   copies_joined : {j : Join} {a b : TermId} → CopiesNode p m (terms.Joined j a b) (plans.Joined j (m a) (m b))
   copies_sided : {d : Side} {a : TermId} → CopiesNode p m (terms.Sided d a) (plans.Sided d (m a))
   copies_switching : {n : Switch} → CopiesNode p m (terms.Switching n) (plans.Switching (copied_switch m n))
-  copies_keeping : {n : Keeping} → CopiesNode p m (terms.Keeping n) (plans.Keeping (copied_keeping m n))
+  copies_continuing : {n : Continuation} → CopiesNode p m (terms.Continuation n) (plans.Continuation (copied_continuing m n))
   copies_headed : {h : Heading} {e : ExprId} {c : OpenCode} {a : TermId} → CopiesNode p m (terms.Headed h e a) (plans.Headed h e c (m a))
   copies_transformed : {f : FunctionId} {c : OpenCode} {a : TermId} → CopiesNode p m (terms.Transformed f a) (plans.Transformed f c (m a))
-  copies_gathered : {c : CollectionId} {r : Rc PlanCollection Global} → CopiesCollection m (collection_under p c) r.value → CopiesNode p m (terms.Gathered c) (plans.Gathered r)
+  copies_gathered : {c : CollectionId} {r : Rc PlanCollection Global} → CopiesCollection m (collection_node p c) r.value → CopiesNode p m (terms.Gathered c) (plans.Gathered r)
   copies_releasing : {s : Releasing} {r : PlanReleasing} → CopiesReleasing p m s r → CopiesNode p m (terms.Releasing s) (plans.Releasing r)
   copies_editing : {s : Editing} {r : PlanEditing} → CopiesEditing p m s r → CopiesNode p m (terms.Editing s) (plans.Editing r)
 
@@ -161,11 +161,11 @@ pub record CopiesParameter (x : Exprs) (q : PlacedParameter) (r : ParameterHeade
   pub name_held : HoldsName x r.name
   pub pattern_held : HoldsPattern x r.pattern
   pub named : name_at x r.name ≡ q.name
-  pub bound : placed_at x r.pattern ≡ placed_name q.name q.spot
+  pub bound : stored_pattern x r.pattern ≡ placed_name q.name q.spot
   pub kind : r.kind ≡ q.kind
 
 -- A plan's template is a program's, with the id of the same number.
-pub record CopiesTemplate (x : Exprs) (h : TermHeader) (m : PlanHeader) : Type 0 where
+pub record CopiesTemplate (x : Exprs) (h : Header) (m : PlanHeader) : Type 0 where
   pub name : m.name ≡ h.name
   pub parameters : AllZip (CopiesParameter x) h.parameters m.parameters
   pub input : m.input ≡ h.input
@@ -174,4 +174,4 @@ pub record CopiesTemplate (x : Exprs) (h : TermHeader) (m : PlanHeader) : Type 0
 
 -- a plan shows a program's terms under the ids of the same numbers
 abbrev pub ShowsTerms : Program → Plan → Type 0
-ShowsTerms p q = (t : TermId) → plan_tree q (plan_id t) ≡ term p t
+ShowsTerms p q = (t : TermId) → plan_tree q (plan_id t) ≡ tree p t

@@ -5,13 +5,13 @@ use Rattle.sf_expr.specs.declared.exprs.ExprId.{ExprId}
 use Rattle.sf_expr.specs.declared.exprs.Exprs.{Exprs}
 use Rattle.sf_expr.specs.Expressions.{named}
 use Rattle.sf_expr.specs.Patterns.{pattern_of}
-use Rattle.sf_expr.specs.Arena.{expression, function_at, name_at, literal_at, placed_at}
-use Rattle.sf_arena.specs.Folded.{trees, tree_at}
+use Rattle.sf_expr.specs.Arena.{expression, function_at, name_at, literal_at, stored_pattern}
+use Rattle.sf_arena.specs.Folded.{trees, folded_tree}
 use Rattle.sf_term.specs.declared.form.Bare.TheVariants.{Identity}
 use Rattle.sf_code.specs.declared.open.OpenCode.{OpenCode}
 use Rattle.sf_code.specs.Worth.{IsCodeOf, IsCodeOfFunction}
 use Rattle.sf_term.specs.Entries.{identity_term, absent_payload, term_among}
-use Rattle.sf_term.specs.Trees.{Chain, lone, chained, on_side, on_both, fanned, fused, Extent, whole, rest, Primitive, Term, primitive, reference, started, call, probe, Arguments, no_arguments, value_argument, process_argument, closed_argument, collection_argument, joined, sided, headed, transformed, switching, keeping, gathered, releasing, editing, staged, Collection, without_members, used, added, dropped, kept, chosen, bare, never, with_value, timed, selected, arrow, accumulated}
+use Rattle.sf_term.specs.Trees.{Chain, lone, chained, on_side, on_both, fanned, fused, Extent, whole, rest, Primitive, Term, primitive, reference, started, call, probe, Arguments, no_arguments, value_argument, process_argument, closed_argument, collection_argument, joined, sided, headed, transformed, switching, continuing, gathered, releasing, editing, staged, Collection, without_members, used, added, dropped, kept, chosen, bare, never, with_value, timed, selected, arrow, accumulated}
 use Rattle.sf_law.specs.declared.node.PlanId.{PlanId}
 use Rattle.sf_law.specs.declared.node.PlanArgument.{PlanArgument}
 use Rattle.sf_law.specs.declared.node.PlanArgument.TheVariants as arguments
@@ -104,7 +104,7 @@ IsCoded x (nodes.Sided d a) = ⊤
 IsCoded x (nodes.Headed h e c a) = IsCodeOf x (expression x e) c
 IsCoded x (nodes.Transformed f c a) = IsCodeOfFunction x (function_at x f) c
 IsCoded x (nodes.Switching n) = ⊤
-IsCoded x (nodes.Keeping n) = ⊤
+IsCoded x (nodes.Continuation n) = ⊤
 IsCoded x (nodes.Gathered r) = IsCodedCollection x r.value
 IsCoded x (nodes.Releasing s) = IsCodedCollection x s.members.value
 IsCoded x (nodes.Editing s) = IsCodedCollection x s.members.value × IsCodedCollection x s.edit.value
@@ -121,48 +121,48 @@ closed_before (sided d t) vs = process_argument (sided d t) vs
 closed_before (headed h i t) vs = process_argument (headed h i t) vs
 closed_before (transformed f t) vs = process_argument (transformed f t) vs
 closed_before (switching w t p u) vs = process_argument (switching w t p u) vs
-closed_before (keeping w t q k p u) vs = process_argument (keeping w t q k p u) vs
+closed_before (continuing w t q k p u) vs = process_argument (continuing w t q k p u) vs
 closed_before (gathered i) vs = process_argument (gathered i) vs
 closed_before (releasing w i q k p u) vs = process_argument (releasing w i q k p u) vs
 closed_before (editing w i k p u) vs = process_argument (editing w i k p u) vs
 closed_before (staged e f g) vs = process_argument (staged e f g) vs
 
 -- a collection, with these terms at its ids
-abbrev pub collection_with : Exprs → (PlanId → Term) → PlanCollection → Collection
-collection_with x t (collections.Empty k s) = without_members (key_kind_of k) s
-collection_with x t (collections.Used k) = used (name_at x k)
-collection_with x t (collections.Added' r i e c a) = added (collection_with x t i) (expression x e) (t a)
-collection_with x t (collections.Dropped' r i e c) = dropped (collection_with x t i) (expression x e)
-collection_with x t (collections.Kept' r i f c) = kept (collection_with x t i) (function_at x f)
-collection_with x t (collections.Chosen' e c r i s j) = chosen (expression x e) (collection_with x t i) (collection_with x t j)
+abbrev pub planned_collection : Exprs → (PlanId → Term) → PlanCollection → Collection
+planned_collection x t (collections.Empty k s) = without_members (key_kind_of k) s
+planned_collection x t (collections.Used k) = used (name_at x k)
+planned_collection x t (collections.Added' r i e c a) = added (planned_collection x t i) (expression x e) (t a)
+planned_collection x t (collections.Dropped' r i e c) = dropped (planned_collection x t i) (expression x e)
+planned_collection x t (collections.Kept' r i f c) = kept (planned_collection x t i) (function_at x f)
+planned_collection x t (collections.Chosen' e c r i s j) = chosen (expression x e) (planned_collection x t i) (planned_collection x t j)
 
 -- arguments, with these terms at their ids
-abbrev pub arguments_with : Exprs → (PlanId → Term) → List PlanArgument → Arguments
-arguments_with x t [] = no_arguments
-arguments_with x t (arguments.Value e c ∷ vs) = value_argument (expression x e) (arguments_with x t vs)
-arguments_with x t (arguments.Started w k ∷ vs) = process_argument (reference (started w (name_at x k))) (arguments_with x t vs)
-arguments_with x t (arguments.Closed a ∷ vs) = closed_before (t a) (arguments_with x t vs)
-arguments_with x t (arguments.Collected r ∷ vs) = collection_argument (collection_with x t r.value) (arguments_with x t vs)
+abbrev pub planned_arguments : Exprs → (PlanId → Term) → List PlanArgument → Arguments
+planned_arguments x t [] = no_arguments
+planned_arguments x t (arguments.Value e c ∷ vs) = value_argument (expression x e) (planned_arguments x t vs)
+planned_arguments x t (arguments.Started w k ∷ vs) = process_argument (reference (started w (name_at x k))) (planned_arguments x t vs)
+planned_arguments x t (arguments.Closed a ∷ vs) = closed_before (t a) (planned_arguments x t vs)
+planned_arguments x t (arguments.Collected r ∷ vs) = collection_argument (planned_collection x t r.value) (planned_arguments x t vs)
 
 -- the same over the terms before it
 abbrev pub collection_over : Exprs → List Term → PlanCollection → Collection
-collection_over x ts i = collection_with x (λ (a : PlanId). term_among ts a.0) i
+collection_over x ts i = planned_collection x (λ (a : PlanId). term_among ts a.0) i
 
 -- the term of a node, over the terms before it
 abbrev pub plan_over : Exprs → List Term → PlanNode → Term
 plan_over x ts (nodes.Primitive q) = primitive (primitive_over x q)
 plan_over x ts (nodes.Started w k) = reference (started w (name_at x k))
 plan_over x ts (nodes.Probe r) = primitive (probe (string_bytes r.value))
-plan_over x ts (nodes.Call k g v) = reference (call (name_at x k) (arguments_with x (λ (a : PlanId). term_among ts a.0) v.items))
+plan_over x ts (nodes.Call k g v) = reference (call (name_at x k) (planned_arguments x (λ (a : PlanId). term_among ts a.0) v.items))
 plan_over x ts (nodes.Joined j a b) = joined j (term_among ts a.0) (term_among ts b.0)
 plan_over x ts (nodes.Sided d a) = sided d (term_among ts a.0)
 plan_over x ts (nodes.Headed h e c a) = headed h (expression x e) (term_among ts a.0)
 plan_over x ts (nodes.Transformed f c a) = transformed (function_at x f) (term_among ts a.0)
-plan_over x ts (nodes.Switching n) = switching n.form (term_among ts n.source.0) (pattern_of (placed_at x n.pattern)) (term_among ts n.body.0)
-plan_over x ts (nodes.Keeping n) = keeping n.shown (term_among ts n.source.0) (term_among ts n.observer.0) (name_at x n.name) (pattern_of (placed_at x n.pattern)) (term_among ts n.body.0)
+plan_over x ts (nodes.Switching n) = switching n.form (term_among ts n.source.0) (pattern_of (stored_pattern x n.pattern)) (term_among ts n.body.0)
+plan_over x ts (nodes.Continuation n) = continuing n.shown (term_among ts n.source.0) (term_among ts n.observer.0) (name_at x n.name) (pattern_of (stored_pattern x n.pattern)) (term_among ts n.body.0)
 plan_over x ts (nodes.Gathered r) = gathered (collection_over x ts r.value)
-plan_over x ts (nodes.Releasing s) = releasing s.shown (collection_over x ts s.members.value) (term_among ts s.observer.0) (name_at x s.name) (pattern_of (placed_at x s.pattern)) (term_among ts s.body.0)
-plan_over x ts (nodes.Editing s) = editing s.shown (collection_over x ts s.members.value) (name_at x s.name) (pattern_of (placed_at x s.pattern)) (collection_over x ts s.edit.value)
+plan_over x ts (nodes.Releasing s) = releasing s.shown (collection_over x ts s.members.value) (term_among ts s.observer.0) (name_at x s.name) (pattern_of (stored_pattern x s.pattern)) (term_among ts s.body.0)
+plan_over x ts (nodes.Editing s) = editing s.shown (collection_over x ts s.members.value) (name_at x s.name) (pattern_of (stored_pattern x s.pattern)) (collection_over x ts s.edit.value)
 plan_over x ts (nodes.Pipeline v) = pipeline (map (λ (a : PlanId). term_among ts a.0) v.items)
 
 -- the least number above ids
@@ -198,7 +198,7 @@ parts_end (nodes.Sided d a) = suc a.0
 parts_end (nodes.Headed h e c a) = suc a.0
 parts_end (nodes.Transformed f c a) = suc a.0
 parts_end (nodes.Switching n) = suc (max n.source.0 n.body.0)
-parts_end (nodes.Keeping n) = suc (max (max n.source.0 n.observer.0) n.body.0)
+parts_end (nodes.Continuation n) = suc (max (max n.source.0 n.observer.0) n.body.0)
 parts_end (nodes.Gathered r) = collection_end r.value
 parts_end (nodes.Releasing s) = max (collection_end s.members.value) (suc (max s.observer.0 s.body.0))
 parts_end (nodes.Editing s) = max (collection_end s.members.value) (collection_end s.edit.value)
@@ -215,7 +215,7 @@ is_whole (nodes.Sided d a) = true
 is_whole (nodes.Headed h e c a) = true
 is_whole (nodes.Transformed f c a) = true
 is_whole (nodes.Switching n) = true
-is_whole (nodes.Keeping n) = true
+is_whole (nodes.Continuation n) = true
 is_whole (nodes.Gathered r) = true
 is_whole (nodes.Releasing s) = true
 is_whole (nodes.Editing s) = true
@@ -232,7 +232,7 @@ calls_first x hs (nodes.Sided d a) = true
 calls_first x hs (nodes.Headed h e c a) = true
 calls_first x hs (nodes.Transformed f c a) = true
 calls_first x hs (nodes.Switching n) = true
-calls_first x hs (nodes.Keeping n) = true
+calls_first x hs (nodes.Continuation n) = true
 calls_first x hs (nodes.Gathered r) = true
 calls_first x hs (nodes.Releasing s) = true
 calls_first x hs (nodes.Editing s) = true
@@ -252,11 +252,11 @@ plan_terms x ns = trees (plan_over x) ns
 
 -- the term at a place; the identity past the end
 abbrev pub plan_term : Exprs → List PlanNode → ℕ → Term
-plan_term x ns i = tree_at (plan_over x) identity_term ns i
+plan_term x ns i = folded_tree (plan_over x) identity_term ns i
 
 -- the pattern of a parameter binds its name alone
 abbrev pub BindsName : Exprs → ParameterHeader → Type 0
-BindsName x q = pattern_of (placed_at x q.pattern) ≡ named (name_at x q.name)
+BindsName x q = pattern_of (stored_pattern x q.pattern) ≡ named (name_at x q.name)
 
 -- the patterns of a template's parameters bind their names
 abbrev pub BindsNames : Exprs → PlanHeader → Type 0

@@ -4,7 +4,7 @@ use Rattle.std.specs.List.{list_any}
 use Rattle.sf_value.specs.Values.{Name}
 use Rattle.sf_expr.specs.declared.exprs.Exprs.{Exprs}
 use Rattle.sf_expr.specs.declared.exprs.NameId.{NameId}
-use Rattle.sf_expr.specs.Arena.{name_at, placed_at}
+use Rattle.sf_expr.specs.Arena.{name_at, stored_pattern}
 use Rattle.sf_expr.specs.Expressions.{Pattern, unnamed, named, both}
 use Rattle.sf_expr.specs.Patterns.{pattern_of}
 use Rattle.sf_term.specs.Trees.{Term}
@@ -33,9 +33,9 @@ binds_name (both p q) x = binds_name p x || binds_name q x
 
 -- what binds names, as a pattern
 abbrev pub bound_pattern : Exprs → Binder → Pattern
-bound_pattern e (OfPattern q) = pattern_of (placed_at e q)
+bound_pattern e (OfPattern q) = pattern_of (stored_pattern e q)
 bound_pattern e (OfName k) = named (name_at e k)
-bound_pattern e (OfBoth k q) = both (named (name_at e k)) (pattern_of (placed_at e q))
+bound_pattern e (OfBoth k q) = both (named (name_at e k)) (pattern_of (stored_pattern e q))
 
 -- the names of a list are in another
 abbrev pub HasAll : Exprs → Mentioned → Mentioned → Type 0

@@ -11,8 +11,8 @@ use Rattle.sf_operator.specs.Outcomes.{Evaluated, answer, failed}
 use Rattle.sf_expr.specs.Expressions.{Pattern, unnamed, named, both, Expression, Function}
 use Rattle.sf_expr.specs.Patterns.{PlacedPattern, placed_unnamed, placed_name, placed_both, pattern_of}
 use Rattle.sf_expr.specs.contracts.pat.Pat as placed
-use Rattle.sf_expr.specs.Evaluation.{functions_in, eval, apply}
-use Rattle.sf_expr.specs.Arena.{expression, function_at, name_at, placed_at}
+use Rattle.sf_expr.specs.Evaluation.{scope_functions, eval, apply}
+use Rattle.sf_expr.specs.Arena.{expression, function_at, name_at, stored_pattern}
 use Rattle.sf_expr.specs.declared.exprs.Exprs.{Exprs}
 use Rattle.sf_code.specs.declared.open.OpenCode.{OpenCode}
 use Rattle.sf_code.specs.CodeView.{code_of}
@@ -69,16 +69,16 @@ pattern-set : (p q : Pattern) → IsProp (p ≡ q)
 pattern-set = Coded-set (code_by PlacedPattern placed.the_row.coded placed_nowhere pattern_of pattern-placed)
 
 pub BindsNames-prop : (x : Exprs) (h : PlanHeader) → IsProp (BindsNames x h)
-BindsNames-prop x h = λ a b i n d l. let q : ParameterHeader = slice_index_or h.parameters n d in pattern-set (pattern_of (placed_at x q.pattern)) (named (name_at x q.name)) (a n d l) (b n d l) i
+BindsNames-prop x h = λ a b i n d l. let q : ParameterHeader = slice_index_or h.parameters n d in pattern-set (pattern_of (stored_pattern x q.pattern)) (named (name_at x q.name)) (a n d l) (b n d l) i
 
 truth-set : (a b : Bool) → IsProp (a ≡ b)
 truth-set = Coded-set (Prim.hlevel codes)
 
 IsCodeOf-prop : (x : Exprs) (e : Expression) (c : OpenCode) → IsProp (IsCodeOf x e c)
-IsCodeOf-prop x e c a b = λ i. record { closed = truth-set (is_closed (patterns_around x c.around) e) true a.closed b.closed i; worth = λ s. evaluated-set (run (code_of c.code) (frame_around x c.around s) (functions_in s)) (eval e s) (a.worth s) (b.worth s) i }
+IsCodeOf-prop x e c a b = λ i. record { closed = truth-set (is_closed (patterns_around x c.around) e) true a.closed b.closed i; worth = λ s. evaluated-set (run (code_of c.code) (frame_around x c.around s) (scope_functions s)) (eval e s) (a.worth s) (b.worth s) i }
 
 IsCodeOfFunction-prop : (x : Exprs) (g : Function) (c : OpenCode) → IsProp (IsCodeOfFunction x g c)
-IsCodeOfFunction-prop x g c a b = λ i. record { closed = truth-set (is_closed_within (patterns_around x c.around) g) true a.closed b.closed i; worth = λ s d. evaluated-set (run (code_of c.code) (d ∷ frame_around x c.around s) (functions_in s)) (apply g d s) (a.worth s d) (b.worth s d) i }
+IsCodeOfFunction-prop x g c a b = λ i. record { closed = truth-set (is_closed_within (patterns_around x c.around) g) true a.closed b.closed i; worth = λ s d. evaluated-set (run (code_of c.code) (d ∷ frame_around x c.around s) (scope_functions s)) (apply g d s) (a.worth s d) (b.worth s d) i }
 
 IsCodedChain-prop : (x : Exprs) (c : PlanChain) → IsProp (IsCodedChain x c)
 IsCodedChain-prop x (chains.Lone f c) = IsCodeOfFunction-prop x (function_at x f) c.value
@@ -121,7 +121,7 @@ IsCoded-prop x (nodes.Sided d a) = Unit-prop
 IsCoded-prop x (nodes.Headed h e c a) = IsCodeOf-prop x (expression x e) c
 IsCoded-prop x (nodes.Transformed f c a) = IsCodeOfFunction-prop x (function_at x f) c
 IsCoded-prop x (nodes.Switching n) = Unit-prop
-IsCoded-prop x (nodes.Keeping n) = Unit-prop
+IsCoded-prop x (nodes.Continuation n) = Unit-prop
 IsCoded-prop x (nodes.Gathered r) = IsCodedCollection-prop x r.value
 IsCoded-prop x (nodes.Releasing s) = IsCodedCollection-prop x s.members.value
 IsCoded-prop x (nodes.Editing s) = λ a b i. (IsCodedCollection-prop x s.members.value a.0 b.0 i, IsCodedCollection-prop x s.edit.value a.1 b.1 i)

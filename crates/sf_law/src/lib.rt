@@ -16,7 +16,7 @@ pub use laws::asks_for_none;
 pub use members::TermPlans;
 pub use mentioned::{Binder, Mentioned};
 pub use node::{
-    PlanArgument, PlanChain, PlanCollection, PlanEditing, PlanId, PlanKeeping, PlanNode,
+    PlanArgument, PlanChain, PlanCollection, PlanContinuation, PlanEditing, PlanId, PlanNode,
     PlanPrimitive, PlanReleasing, PlanSwitch, TemplateId,
 };
 pub use plain::{empty_plan, plain_plan, plan_node};

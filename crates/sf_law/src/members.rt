@@ -1,7 +1,7 @@
 //! Collections of a program, as those of its plans.
 ghost use Rattle.std.specs.Prelude.{◌≡◌, IfOk, IsTrue, List};
 ghost use Rattle.sf_term.specs.declared.node.Node.TheVariants.{Gathered as gathered_node, Releasing as releasing_node, Editing as editing_node};
-ghost use Rattle.sf_term.specs.Arena.{collection_under};
+ghost use Rattle.sf_term.specs.Arena.{collection_node};
 ghost use Rattle.sf_law.specs.Headers.{PlanHeader};
 ghost use Rattle.sf_law.specs.Entries.{IsCoded, IsCodedCollection, calls_first};
 ghost use Rattle.sf_law.specs.Copies.{stands_under, CopiesCollection, CopiesNode};
@@ -110,7 +110,7 @@ pub(crate) fn plan_members(
     terms: TermPlans,
     members: CollectionId,
 ) -> Result<Rc<PlanCollection>, AllocError>
-    ensures same { IfOk result (λ copy. CopiesCollection (stands_under terms.entry) (collection_under program.now members) copy.value) }
+    ensures same { IfOk result (λ copy. CopiesCollection (stands_under terms.entry) (collection_node program.now members) copy.value) }
     ensures coded { IfOk result (λ copy. IsCodedCollection exprs.now copy.value) }
 {
     match program.collection(members) {

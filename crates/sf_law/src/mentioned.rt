@@ -1,11 +1,11 @@
 //! The names that terms mention, in lists.
 ghost use Rattle.std.specs.Prelude.{◌≡◌, true, false, IsTrue, IfOk, OnOk, is_some};
-ghost use Rattle.sf_value.specs.Values.{Name as NameOf};
+ghost use Rattle.sf_value.specs.Values;
 ghost use Rattle.sf_expr.specs.declared.exprs.Exprs.{Exprs};
 ghost use Rattle.sf_expr.specs.Arena.{name_at};
-ghost use Rattle.sf_expr.specs.Expressions.{Pattern as PatternOf};
+ghost use Rattle.sf_expr.specs.Expressions;
 ghost use Rattle.sf_expr.specs.Numbered.{TellsName};
-ghost use Rattle.sf_code.specs.Compiling.{place_in};
+ghost use Rattle.sf_code.specs.Compiling.{place_of_name};
 ghost use Rattle.sf_code.specs.Around.{pattern_around, patterns_around};
 ghost use Rattle.sf_coincidence.specs.Mentions.{BindsOthers};
 ghost use Rattle.sf_law.specs.Arena.{plan_expressions};
@@ -42,14 +42,14 @@ pub(crate) const MOST: usize = 16;
 impl Mentioned {
     /// No names.
     pub(crate) fn nothing(alloc: Global) -> Mentioned
-        ensures { (e : Exprs) (x : NameOf) → is_mentioned e result x ≡ false }
+        ensures { (e : Exprs) (x : Values.Name) → is_mentioned e result x ≡ false }
     {
         Mentioned::Names(Vec::new(alloc))
     }
 
     /// Whether there are none.
     pub fn is_empty(&self) -> bool
-        ensures { IsTrue result → (e : Exprs) (x : NameOf) → is_mentioned e self.now x ≡ false }
+        ensures { IsTrue result → (e : Exprs) (x : Values.Name) → is_mentioned e self.now x ≡ false }
     {
         match self {
             Mentioned::Names(names) => names.is_empty(),
@@ -70,7 +70,7 @@ impl Mentioned {
     /// Whether some of them may be bound there.
     pub fn is_bound_by(&self, plan: &Plan, binder: Binder) -> bool
         ensures { let e = plan_expressions plan.now in
-            result ≡ false → (x : NameOf) → IsTrue (is_mentioned e self.now x) → BindsOthers (bound_pattern e binder) x }
+            result ≡ false → (x : Values.Name) → IsTrue (is_mentioned e self.now x) → BindsOthers (bound_pattern e binder) x }
     {
         match self {
             Mentioned::Names(names) => any_is_bound(plan, names, binder),
@@ -86,7 +86,7 @@ impl Mentioned {
         binder: Binder,
     ) -> Result<Mentioned, AllocError>
         ensures { let e = plan_expressions plan.now in
-            IfOk result (λ left. (x : NameOf) → IsTrue (is_mentioned e self.now x) → BindsOthers (bound_pattern e binder) x → IsTrue (is_mentioned e left x)) }
+            IfOk result (λ left. (x : Values.Name) → IsTrue (is_mentioned e self.now x) → BindsOthers (bound_pattern e binder) x → IsTrue (is_mentioned e left x)) }
     {
         match self {
             Mentioned::Names(names) => {
@@ -107,7 +107,7 @@ impl Mentioned {
     ) -> Result<(), AllocError>
         ensures kept { OnOk result (HasAll (plan_expressions plan.now) self.old self.new) }
         ensures added { let e = plan_expressions plan.now in
-            OnOk result ((x : NameOf) → IsTrue (has_name e names.now x) → BindsOthers (bound_pattern e binder) x → IsTrue (is_mentioned e self.new x)) }
+            OnOk result ((x : Values.Name) → IsTrue (has_name e names.now x) → BindsOthers (bound_pattern e binder) x → IsTrue (is_mentioned e self.new x)) }
     {
         match names {
             [] => Ok(()),
@@ -146,7 +146,7 @@ impl Mentioned {
     fn add_each(&mut self, plan: &Plan, names: &[NameId]) -> Result<(), AllocError>
         ensures kept { OnOk result (HasAll (plan_expressions plan.now) self.old self.new) }
         ensures added { let e = plan_expressions plan.now in
-            OnOk result ((x : NameOf) → IsTrue (has_name e names.now x) → IsTrue (is_mentioned e self.new x)) }
+            OnOk result ((x : Values.Name) → IsTrue (has_name e names.now x) → IsTrue (is_mentioned e self.new x)) }
     {
         match names {
             [] => Ok(()),
@@ -175,7 +175,7 @@ impl Mentioned {
     fn add_around(&mut self, plan: &Plan, around: &Around) -> Result<(), AllocError>
         ensures kept { OnOk result (HasAll (plan_expressions plan.now) self.old self.new) }
         ensures added { let e = plan_expressions plan.now in
-            OnOk result ((x : NameOf) → IsTrue (binds_name (pattern_around e around.now) x) → IsTrue (is_mentioned e self.new x)) }
+            OnOk result ((x : Values.Name) → IsTrue (binds_name (pattern_around e around.now) x) → IsTrue (is_mentioned e self.new x)) }
     {
         match around {
             Around::Nothing => Ok(()),
@@ -191,7 +191,7 @@ impl Mentioned {
     pub(crate) fn add_code(&mut self, plan: &Plan, code: &OpenCode) -> Result<(), AllocError>
         ensures kept { OnOk result (HasAll (plan_expressions plan.now) self.old self.new) }
         ensures added { let e = plan_expressions plan.now in
-            OnOk result ((x : NameOf) → is_some (place_in x (patterns_around e code.now.around)) ≡ true → IsTrue (is_mentioned e self.new x)) }
+            OnOk result ((x : Values.Name) → is_some (place_of_name x (patterns_around e code.now.around)) ≡ true → IsTrue (is_mentioned e self.new x)) }
     {
         match &code.around {
             None => Ok(()),
@@ -215,7 +215,7 @@ impl Binder {
 
 // Whether a pattern binds the name of a number.
 pub(crate) fn binds(pattern: &NumberedPattern, number: usize) -> bool
-    ensures { (x : NameOf) (p : PatternOf) → TellsName number x pattern.now p → result ≡ binds_name p x }
+    ensures { (x : Values.Name) (p : Expressions.Pattern) → TellsName number x pattern.now p → result ≡ binds_name p x }
 {
     match pattern {
         NumberedPattern::Unnamed => false,
@@ -227,7 +227,7 @@ pub(crate) fn binds(pattern: &NumberedPattern, number: usize) -> bool
 // Whether some of these names are bound there.
 fn any_is_bound(plan: &Plan, names: &[NameId], binder: Binder) -> bool
     ensures { let e = plan_expressions plan.now in
-        result ≡ false → (x : NameOf) → IsTrue (has_name e names.now x) → BindsOthers (bound_pattern e binder) x }
+        result ≡ false → (x : Values.Name) → IsTrue (has_name e names.now x) → BindsOthers (bound_pattern e binder) x }
 {
     match names {
         [] => false,

@@ -1,11 +1,11 @@
 //! What each term of a plan mentions.
 ghost use Rattle.std.specs.Prelude.{◌≤◌, length, All, IfOk, OnOk, IsTrue};
-ghost use Rattle.sf_value.specs.Values.{Name as NameOf};
+ghost use Rattle.sf_value.specs.Values.{Name};
 ghost use Rattle.sf_term.specs.Trees.{Term};
 ghost use Rattle.sf_coincidence.specs.Mentions.{BindsOthers, PrimitiveMentions, ChainMentions, ArgumentsMention, CollectionMentions};
-ghost use Rattle.sf_law.specs.declared.node.PlanId.{PlanId as PlanIdOf};
+ghost use Rattle.sf_law.specs.declared.node.PlanId as plan_ids;
 ghost use Rattle.sf_law.specs.declared.node.PlanNode.TheVariants.{Releasing as releasing_node, Editing as editing_node};
-ghost use Rattle.sf_law.specs.Arena.{plan_tree, plan_expressions, plan_arguments, plan_collection, trees_at, node_count, BuildsPlan};
+ghost use Rattle.sf_law.specs.Arena.{plan_tree, plan_expressions, plan_arguments, plan_collection, plan_trees, node_count, BuildsPlan};
 ghost use Rattle.sf_law.specs.Entries.{IsCodedChain, IsCodedPrimitive, IsCodedArgument, IsCodedCollection, chain_over, primitive_over, pipeline};
 ghost use Rattle.sf_law.specs.Mentioning.{ArgumentMentions};
 ghost use Rattle.sf_law.specs.Mentioned.{is_mentioned, bound_pattern, mentioned_at, HasAll, Covers};
@@ -21,7 +21,7 @@ use std::alloc::{AllocError, Global};
 /// The names that each term of a plan mentions, by its number.
 pub(crate) fn mentions_of(alloc: Global, plan: &Plan) -> Result<Vec<Mentioned>, AllocError>
     ensures count { IfOk result (λ lists. length lists.items ≤ node_count plan.now) }
-    ensures covered { IfOk result (λ lists. (a : PlanIdOf) → Covers (plan_expressions plan.now) (mentioned_at lists.items a.0) (plan_tree plan.now a)) }
+    ensures covered { IfOk result (λ lists. (a : plan_ids.PlanId) → Covers (plan_expressions plan.now) (mentioned_at lists.items a.0) (plan_tree plan.now a)) }
 {
     let mut lists = Vec::with_capacity(alloc, plan.count())?;
     for number in 0..plan.count() {
@@ -41,7 +41,7 @@ impl Mentioned {
         lists: &[Mentioned],
         node: &PlanNode,
     ) -> Result<(), AllocError>
-        requires { (a : PlanIdOf) → Covers (plan_expressions plan.now) (mentioned_at lists.now a.0) (plan_tree plan.now a) }
+        requires { (a : plan_ids.PlanId) → Covers (plan_expressions plan.now) (mentioned_at lists.now a.0) (plan_tree plan.now a) }
         ensures { (t : Term) → BuildsPlan plan.now node.now t → OnOk result (Covers (plan_expressions plan.now) self.new t) }
     {
         match node {
@@ -67,7 +67,7 @@ impl Mentioned {
                 let binder = Binder::Pattern(form.pattern);
                 self.add_body(alloc, plan, lists, form.body, binder)
             }
-            PlanNode::Keeping(form) => {
+            PlanNode::Continuation(form) => {
                 self.add_part(plan, lists, form.source)?;
                 self.add_part(plan, lists, form.observer)?;
                 let binder = Binder::Both(form.name, form.pattern);
@@ -88,7 +88,7 @@ impl Mentioned {
         lists: &[Mentioned],
         releasing: &PlanReleasing,
     ) -> Result<(), AllocError>
-        requires { (a : PlanIdOf) → Covers (plan_expressions plan.now) (mentioned_at lists.now a.0) (plan_tree plan.now a) }
+        requires { (a : plan_ids.PlanId) → Covers (plan_expressions plan.now) (mentioned_at lists.now a.0) (plan_tree plan.now a) }
         ensures { (t : Term) → BuildsPlan plan.now (releasing_node releasing.now) t → OnOk result (Covers (plan_expressions plan.now) self.new t) }
     {
         let binder = Binder::Both(releasing.name, releasing.pattern);
@@ -105,7 +105,7 @@ impl Mentioned {
         lists: &[Mentioned],
         editing: &PlanEditing,
     ) -> Result<(), AllocError>
-        requires { (a : PlanIdOf) → Covers (plan_expressions plan.now) (mentioned_at lists.now a.0) (plan_tree plan.now a) }
+        requires { (a : plan_ids.PlanId) → Covers (plan_expressions plan.now) (mentioned_at lists.now a.0) (plan_tree plan.now a) }
         ensures { (t : Term) → BuildsPlan plan.now (editing_node editing.now) t → OnOk result (Covers (plan_expressions plan.now) self.new t) }
     {
         let binder = Binder::Both(editing.name, editing.pattern);
@@ -123,9 +123,9 @@ impl Mentioned {
         lists: &[Mentioned],
         collection: &PlanCollection,
     ) -> Result<(), AllocError>
-        requires { (a : PlanIdOf) → Covers (plan_expressions plan.now) (mentioned_at lists.now a.0) (plan_tree plan.now a) }
+        requires { (a : plan_ids.PlanId) → Covers (plan_expressions plan.now) (mentioned_at lists.now a.0) (plan_tree plan.now a) }
         ensures kept { OnOk result (HasAll (plan_expressions plan.now) self.old self.new) }
-        ensures added { IsCodedCollection (plan_expressions plan.now) collection.now → OnOk result ((x : NameOf) → CollectionMentions (plan_collection plan.now collection.now) x → IsTrue (is_mentioned (plan_expressions plan.now) self.new x)) }
+        ensures added { IsCodedCollection (plan_expressions plan.now) collection.now → OnOk result ((x : Name) → CollectionMentions (plan_collection plan.now collection.now) x → IsTrue (is_mentioned (plan_expressions plan.now) self.new x)) }
     {
         match collection {
             PlanCollection::Empty(_, _) => Ok(()),
@@ -161,7 +161,7 @@ impl Mentioned {
         binder: Binder,
     ) -> Result<(), AllocError>
         ensures kept { OnOk result (HasAll (plan_expressions plan.now) self.old self.new) }
-        ensures added { OnOk result ((x : NameOf) → IsTrue (is_mentioned (plan_expressions plan.now) (mentioned_at lists.now body.0) x) → BindsOthers (bound_pattern (plan_expressions plan.now) binder) x → IsTrue (is_mentioned (plan_expressions plan.now) self.new x)) }
+        ensures added { OnOk result ((x : Name) → IsTrue (is_mentioned (plan_expressions plan.now) (mentioned_at lists.now body.0) x) → BindsOthers (bound_pattern (plan_expressions plan.now) binder) x → IsTrue (is_mentioned (plan_expressions plan.now) self.new x)) }
     {
         match lists.get(body.0) {
             Some(mentioned) => {
@@ -196,8 +196,8 @@ impl Mentioned {
         lists: &[Mentioned],
         stages: &[PlanId],
     ) -> Result<(), AllocError>
-        requires { (a : PlanIdOf) → Covers (plan_expressions plan.now) (mentioned_at lists.now a.0) (plan_tree plan.now a) }
-        ensures { OnOk result (Covers (plan_expressions plan.now) self.new (pipeline (trees_at plan.now stages.now))) }
+        requires { (a : plan_ids.PlanId) → Covers (plan_expressions plan.now) (mentioned_at lists.now a.0) (plan_tree plan.now a) }
+        ensures { OnOk result (Covers (plan_expressions plan.now) self.new (pipeline (plan_trees plan.now stages.now))) }
     {
         let mut rest = stages;
         while let [first, behind @ ..] = rest {
@@ -214,8 +214,8 @@ impl Mentioned {
         lists: &[Mentioned],
         arguments: &[PlanArgument],
     ) -> Result<(), AllocError>
-        requires { (a : PlanIdOf) → Covers (plan_expressions plan.now) (mentioned_at lists.now a.0) (plan_tree plan.now a) }
-        ensures { All (IsCodedArgument (plan_expressions plan.now)) arguments.now → OnOk result ((x : NameOf) → ArgumentsMention (plan_arguments plan.now arguments.now) x → IsTrue (is_mentioned (plan_expressions plan.now) self.new x)) }
+        requires { (a : plan_ids.PlanId) → Covers (plan_expressions plan.now) (mentioned_at lists.now a.0) (plan_tree plan.now a) }
+        ensures { All (IsCodedArgument (plan_expressions plan.now)) arguments.now → OnOk result ((x : Name) → ArgumentsMention (plan_arguments plan.now arguments.now) x → IsTrue (is_mentioned (plan_expressions plan.now) self.new x)) }
     {
         let mut rest = arguments;
         while let [first, behind @ ..] = rest {
@@ -232,9 +232,9 @@ impl Mentioned {
         lists: &[Mentioned],
         argument: &PlanArgument,
     ) -> Result<(), AllocError>
-        requires { (a : PlanIdOf) → Covers (plan_expressions plan.now) (mentioned_at lists.now a.0) (plan_tree plan.now a) }
+        requires { (a : plan_ids.PlanId) → Covers (plan_expressions plan.now) (mentioned_at lists.now a.0) (plan_tree plan.now a) }
         ensures kept { OnOk result (HasAll (plan_expressions plan.now) self.old self.new) }
-        ensures added { IsCodedArgument (plan_expressions plan.now) argument.now → OnOk result ((x : NameOf) → ArgumentMentions plan.now argument.now x → IsTrue (is_mentioned (plan_expressions plan.now) self.new x)) }
+        ensures added { IsCodedArgument (plan_expressions plan.now) argument.now → OnOk result ((x : Name) → ArgumentMentions plan.now argument.now x → IsTrue (is_mentioned (plan_expressions plan.now) self.new x)) }
     {
         match argument {
             PlanArgument::Value(_, code) => self.add_code(plan, code),
@@ -246,7 +246,7 @@ impl Mentioned {
 
     // Adds what a primitive mentions.
     fn add_primitive(&mut self, plan: &Plan, primitive: &PlanPrimitive) -> Result<(), AllocError>
-        ensures { IsCodedPrimitive (plan_expressions plan.now) primitive.now → OnOk result ((y : NameOf) → PrimitiveMentions (primitive_over (plan_expressions plan.now) primitive.now) y → IsTrue (is_mentioned (plan_expressions plan.now) self.new y)) }
+        ensures { IsCodedPrimitive (plan_expressions plan.now) primitive.now → OnOk result ((y : Name) → PrimitiveMentions (primitive_over (plan_expressions plan.now) primitive.now) y → IsTrue (is_mentioned (plan_expressions plan.now) self.new y)) }
     {
         match primitive {
             PlanPrimitive::Bare(_) | PlanPrimitive::Never(_) => Ok(()),
@@ -266,7 +266,7 @@ impl Mentioned {
     // Adds what functions that are made into one mention.
     fn add_chain(&mut self, plan: &Plan, chain: &PlanChain) -> Result<(), AllocError>
         ensures kept { OnOk result (HasAll (plan_expressions plan.now) self.old self.new) }
-        ensures added { IsCodedChain (plan_expressions plan.now) chain.now → OnOk result ((y : NameOf) → ChainMentions (chain_over (plan_expressions plan.now) chain.now) y → IsTrue (is_mentioned (plan_expressions plan.now) self.new y)) }
+        ensures added { IsCodedChain (plan_expressions plan.now) chain.now → OnOk result ((y : Name) → ChainMentions (chain_over (plan_expressions plan.now) chain.now) y → IsTrue (is_mentioned (plan_expressions plan.now) self.new y)) }
     {
         match chain {
             PlanChain::Lone(_, code) => self.add_code(plan, code),

@@ -154,7 +154,7 @@ pub enum PlanNode {
     /// A term that waits for its event, and the body that takes over.
     Switching(PlanSwitch),
     /// A term and its observer, and the body that takes over.
-    Keeping(PlanKeeping),
+    Continuation(PlanContinuation),
     /// The members of a collection.
     Gathered(Rc<PlanCollection>),
     /// Members and their observer, and the body that takes over.
@@ -180,7 +180,7 @@ pub struct PlanSwitch {
 
 /// A term and its observer, and the body that takes over inside a name and a pattern.
 #[derive(Clone, Copy, Debug, PartialEq, Eq)]
-pub struct PlanKeeping {
+pub struct PlanContinuation {
     /// Which output is shown at the event.
     pub shown: Observation,
     /// The term that waits.

@@ -2,8 +2,8 @@
 ghost use Rattle.std.specs.Prelude.{◌≡◌, IfOk};
 ghost use Rattle.std.specs.BTreeMap.{get};
 ghost use Rattle.std.specs.Ordering.{nat_cmp};
-ghost use Rattle.sf_expr.specs.declared.exprs.Exprs.{Exprs as ExprsOf};
-ghost use Rattle.sf_expr.specs.declared.exprs.NameId.{NameId as NameIdOf};
+ghost use Rattle.sf_expr.specs.declared.exprs.Exprs as expression_arenas;
+ghost use Rattle.sf_expr.specs.declared.exprs.NameId as name_ids;
 ghost use Rattle.sf_expr.specs.Arena.{name_at};
 ghost use Rattle.sf_expr.specs.Numbered.{number_at, AreNumbers};
 ghost use Rattle.sf_law.specs.Places.{last_parameter, names_of_parameters, ArePlaces};
@@ -19,7 +19,7 @@ fn places_of(
     numbers: &Numbers,
     parameters: &[PlanParameter],
 ) -> Result<BTreeMap<usize, usize>, AllocError>
-    ensures { IfOk result (λ places. (e : ExprsOf) → AreNumbers e numbers.now → (k : NameIdOf)
+    ensures { IfOk result (λ places. (e : expression_arenas.Exprs) → AreNumbers e numbers.now → (k : name_ids.NameId)
         → get nat_cmp places (number_at numbers.now k) ≡ last_parameter (name_at e k) (names_of_parameters e parameters.now)) }
 {
     let mut places = BTreeMap::new(alloc);
@@ -35,7 +35,7 @@ pub(crate) fn all_places(
     numbers: &Numbers,
     templates: &[PlanTemplate],
 ) -> Result<Vec<BTreeMap<usize, usize>>, AllocError>
-    ensures { IfOk result (λ places. (e : ExprsOf) → AreNumbers e numbers.now → ArePlaces e numbers.now templates.now places.items) }
+    ensures { IfOk result (λ places. (e : expression_arenas.Exprs) → AreNumbers e numbers.now → ArePlaces e numbers.now templates.now places.items) }
 {
     let mut places = Vec::with_capacity(alloc, templates.len())?;
     for template in templates {

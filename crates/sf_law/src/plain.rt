@@ -1,37 +1,38 @@
 //! The plan that is a program itself.
 ghost use Rattle.std.specs.Prelude.{◌≡◌, List, map, All, IsTrue, IfOk, OnOk};
 ghost use Rattle.std.specs.List.{AllZip};
-ghost use Rattle.sf_expr.specs.Arena.{function_at, placed_at, HoldsPattern, Keeps};
+ghost use Rattle.sf_expr.specs.Arena.{function_at, stored_pattern, HoldsPattern, Extends};
 ghost use Rattle.sf_expr.specs.Patterns.{placed_name};
-ghost use Rattle.sf_term.specs.Arena.{expressions_of as program_expressions, headers_of as program_headers};
-ghost use Rattle.sf_term.specs.declared.node.TermId.{TermId as TermIdOf};
+ghost use Rattle.sf_term.specs.Arena.{program_expressions, headers_of};
+ghost use Rattle.sf_term.specs.declared.node.TermId as term_ids;
 ghost use Rattle.sf_term.specs.declared.node.Node.TheVariants.{Call as call_node, Named as named_node};
 ghost use Rattle.sf_code.specs.Worth.{IsCodeOfFunction};
 ghost use Rattle.sf_refusal.specs.declared.spot.Spot.{Spot};
-ghost use Rattle.sf_law.specs.declared.node.PlanId.{PlanId as PlanIdOf};
+ghost use Rattle.sf_law.specs.declared.node.PlanId as plan_ids;
 ghost use Rattle.sf_law.specs.Headers.{PlanHeader};
 ghost use Rattle.sf_law.specs.Entries.{IsCodedPrimitive, IsCodedArgument, IsCoded, calls_first};
 ghost use Rattle.sf_law.specs.Arena.{plan_expressions, plan_asked, node_count, plan_headers};
-ghost use Rattle.sf_law.specs.Copies.{plan_id as id_of, stands_under, named_process, copied_switch, copied_keeping, CopiesArgument, CopiesPrimitive, CopiesNode, CopiesParameter, CopiesTemplate, ShowsTerms};
-ghost use Rattle.sf_law.specs.Plans.{IsPlanOf};
+ghost use Rattle.sf_law.specs.Copies.{stands_under, named_process, copied_switch, copied_continuing, CopiesArgument, CopiesPrimitive, CopiesNode, CopiesParameter, CopiesTemplate, ShowsTerms};
+ghost use Rattle.sf_law.specs.Copies;
+ghost use Rattle.sf_law.specs.Plans.{IsProgramPlan};
 ghost use Rattle.sf_law.specs.declared.mentioned.Mentioned.TheVariants.{Any as any_name};
 
 use crate::members::{TermPlans, plan_editing, plan_gathered, plan_members, plan_releasing};
-use crate::node::{PlanArgument, PlanId, PlanKeeping, PlanNode, PlanPrimitive, PlanSwitch};
+use crate::node::{PlanArgument, PlanContinuation, PlanId, PlanNode, PlanPrimitive, PlanSwitch};
 use crate::plan::Plan;
 use crate::template::{PlanParameter, PlanTemplate};
 use sf_code::{OpenCode, expression_code, function_code};
 use sf_expr::{Exprs, FunctionId, NameId, Pat, PatternId};
 use sf_term::{
-    Argument, ArgumentsId, Keeping, Naming, Node, Parameter, Primitive, Program, Start, Switch,
-    Template, TermId,
+    Argument, ArgumentsId, Continuation, Naming, Node, Parameter, Primitive, Program, Start,
+    Switch, Template, TermId,
 };
 use std::alloc::{AllocError, Global};
 use std::rc::Rc;
 
 /// The plan that is a program itself, of which this term is run.
 pub fn plain_plan(alloc: Global, program: &Program, main: TermId) -> Result<Plan, AllocError>
-    ensures { IfOk result (λ plan. IsPlanOf program.now main plan) }
+    ensures { IfOk result (λ plan. IsProgramPlan program.now main plan) }
 {
     let empty = empty_plan(alloc, program)?;
     let plan = with_terms(alloc, empty, program)?;
@@ -43,8 +44,8 @@ pub fn plain_plan(alloc: Global, program: &Program, main: TermId) -> Result<Plan
 pub fn empty_plan(alloc: Global, program: &Program) -> Result<Plan, AllocError>
     ensures empty { IfOk result (λ plan. node_count plan ≡ 0) }
     ensures asked { IfOk result (λ plan. plan_asked plan ≡ any_name) }
-    ensures kept { IfOk result (λ plan. Keeps (program_expressions program.now) (plan_expressions plan)) }
-    ensures copied { IfOk result (λ plan. AllZip (CopiesTemplate (plan_expressions plan)) (program_headers program.now) (plan_headers plan)) }
+    ensures kept { IfOk result (λ plan. Extends (program_expressions program.now) (plan_expressions plan)) }
+    ensures copied { IfOk result (λ plan. AllZip (CopiesTemplate (plan_expressions plan)) (headers_of program.now) (plan_headers plan)) }
 {
     let mut expressions = program.expressions().clone_in(alloc)?;
     let templates = plan_templates(alloc, &mut expressions, program.templates())?;
@@ -57,7 +58,7 @@ fn plan_templates(
     expressions: &mut Exprs,
     templates: &[Template],
 ) -> Result<Vec<PlanTemplate>, AllocError>
-    ensures kept { OnOk result (Keeps expressions.old expressions.new) }
+    ensures kept { OnOk result (Extends expressions.old expressions.new) }
     ensures copied { IfOk result (λ copies. AllZip (CopiesTemplate expressions.new) templates.now copies.items) }
 {
     let mut copies = Vec::new(alloc);
@@ -73,7 +74,7 @@ fn plan_template(
     expressions: &mut Exprs,
     template: &Template,
 ) -> Result<PlanTemplate, AllocError>
-    ensures kept { OnOk result (Keeps expressions.old expressions.new) }
+    ensures kept { OnOk result (Extends expressions.old expressions.new) }
     ensures copied { IfOk result (λ copy. CopiesTemplate expressions.new template.now copy) }
 {
     let mut parameters = Vec::new(alloc);
@@ -93,7 +94,7 @@ fn plan_parameter(
     expressions: &mut Exprs,
     parameter: &Parameter,
 ) -> Result<PlanParameter, AllocError>
-    ensures kept { OnOk result (Keeps expressions.old expressions.new) }
+    ensures kept { OnOk result (Extends expressions.old expressions.new) }
     ensures copied { IfOk result (λ copy. CopiesParameter expressions.new parameter.now copy) }
 {
     let name = expressions.name(String::from_str(alloc, parameter.name())?)?;
@@ -108,9 +109,9 @@ fn parameter_pattern(
     expressions: &mut Exprs,
     parameter: &Parameter,
 ) -> Result<PatternId, AllocError>
-    ensures kept { OnOk result (Keeps expressions.old expressions.new) }
+    ensures kept { OnOk result (Extends expressions.old expressions.new) }
     ensures held { IfOk result (λ pattern. HoldsPattern expressions.new pattern) }
-    ensures bound { IfOk result (λ pattern. placed_at expressions.new pattern ≡ placed_name parameter.now.name parameter.now.spot) }
+    ensures bound { IfOk result (λ pattern. stored_pattern expressions.new pattern ≡ placed_name parameter.now.name parameter.now.spot) }
 {
     let pattern = Pat::name(String::from_str(alloc, parameter.name())?, parameter.spot());
     match expressions.pattern_in(pattern) {
@@ -122,7 +123,7 @@ fn parameter_pattern(
 // A plan with the terms of a program, where it has none yet.
 fn with_terms(alloc: Global, empty: Plan, program: &Program) -> Result<Plan, AllocError>
     requires empty { node_count empty ≡ 0 }
-    requires kept { Keeps (program_expressions program.now) (plan_expressions empty) }
+    requires kept { Extends (program_expressions program.now) (plan_expressions empty) }
     ensures terms { IfOk result (λ plan. ShowsTerms program.now plan) }
     ensures templates { IfOk result (λ plan. plan_headers plan ≡ plan_headers empty) }
     ensures expressions { IfOk result (λ plan. plan_expressions plan ≡ plan_expressions empty) }
@@ -134,7 +135,7 @@ fn with_terms(alloc: Global, empty: Plan, program: &Program) -> Result<Plan, All
 // The terms of a program, under ids of the same numbers, each with its code.
 fn copy_terms(alloc: Global, plan: &mut Plan, program: &Program) -> Result<(), AllocError>
     requires empty { node_count plan.old ≡ 0 }
-    requires kept { Keeps (program_expressions program.now) (plan_expressions plan.old) }
+    requires kept { Extends (program_expressions program.now) (plan_expressions plan.old) }
     ensures terms { OnOk result (ShowsTerms program.now plan.new) }
     ensures templates { plan_headers plan.new ≡ plan_headers plan.old }
     ensures expressions { plan_expressions plan.new ≡ plan_expressions plan.old }
@@ -183,7 +184,7 @@ pub fn plan_node(
             Ok(PlanNode::Transformed(function, head, terms.id(part)))
         }
         Node::Switching(node) => Ok(PlanNode::Switching(plan_switch(terms, node))),
-        Node::Keeping(node) => Ok(PlanNode::Keeping(plan_keeping(terms, node))),
+        Node::Continuation(node) => Ok(PlanNode::Continuation(plan_continuing(terms, node))),
         Node::Gathered(members) => plan_gathered(alloc, exprs, program, terms, members),
         Node::Releasing(node) => plan_releasing(alloc, exprs, program, terms, node),
         Node::Editing(node) => plan_editing(alloc, exprs, program, terms, node),
@@ -205,13 +206,13 @@ fn plan_switch(terms: TermPlans, node: Switch) -> PlanSwitch
 }
 
 // A switch that knows its source.
-fn plan_keeping(terms: TermPlans, node: Keeping) -> PlanKeeping
-    ensures { result ≡ copied_keeping (stands_under terms.entry) node }
+fn plan_continuing(terms: TermPlans, node: Continuation) -> PlanContinuation
+    ensures { result ≡ copied_continuing (stands_under terms.entry) node }
 {
     let source = terms.id(node.source);
     let observer = terms.id(node.observer);
     let body = terms.id(node.body);
-    PlanKeeping {
+    PlanContinuation {
         shown: node.shown,
         source,
         observer,
@@ -228,7 +229,7 @@ fn plan_named(
     form: Naming,
     name: NameId,
 ) -> Result<PlanNode, AllocError>
-    ensures same { IfOk result (λ copy. (m : TermIdOf → PlanIdOf) (place : Spot) → CopiesNode program.now m (named_node form name place) copy) }
+    ensures same { IfOk result (λ copy. (m : term_ids.TermId → plan_ids.PlanId) (place : Spot) → CopiesNode program.now m (named_node form name place) copy) }
     ensures coded { IfOk result (λ copy. (x : Exprs) → IsCoded x copy) }
     ensures called { IfOk result (λ copy. (x : Exprs) (headers : List PlanHeader) → IsTrue (calls_first x headers copy)) }
 {
@@ -363,7 +364,7 @@ fn shared_code(
 
 // The id of the same number.
 fn plan_id(term: TermId) -> PlanId
-    ensures { result ≡ id_of term }
+    ensures { result ≡ Copies.plan_id term }
 {
     PlanId(term.number())
 }

@@ -12,9 +12,9 @@ ghost use Rattle.sf_law.specs.Entries.{ArePlanNodes, BindsNames, IsCoded, is_who
 ghost use Rattle.sf_law.specs.Asking.{AreAsked, is_asked};
 ghost use Rattle.sf_law.specs.declared.mentioned.Mentioned.TheVariants.{Any as any_name};
 ghost use Rattle.std.specs.Prelude.{bytes_eq};
-ghost use Rattle.sf_expr.specs.Arena.{name_at, placed_at};
+ghost use Rattle.sf_expr.specs.Arena.{name_at, stored_pattern};
 ghost use Rattle.sf_expr.specs.Patterns.{pattern_of};
-ghost use Rattle.sf_expr.specs.Numbered.{number_at, numbered_at, AreNumbers, TellsName};
+ghost use Rattle.sf_expr.specs.Numbered.{number_at, numbered_pattern, AreNumbers, TellsName};
 ghost use Rattle.sf_law.specs.Unique.{IsCoded-prop, BindsNames-prop, ArePlaces-prop, TellsName-prop};
 ghost use Rattle.std.proofs.Props.{props};
 
@@ -86,10 +86,10 @@ impl Drop for Plan {
 }
 
 impl Plan {
-    ghost use Rattle.sf_law.specs.declared.node.PlanId.{PlanId as PlanIdOf};
-    ghost use Rattle.sf_expr.specs.declared.exprs.NameId.{NameId as NameIdOf};
+    ghost use Rattle.sf_law.specs.declared.node.PlanId as plan_ids;
+    ghost use Rattle.sf_expr.specs.declared.exprs.NameId as name_ids;
     ghost use Rattle.sf_law.specs.Arena.{plan_expressions, plan_numbers, plan_asked, plan_asks, node_count, plan_node_at, plan_tree, plan_headers, plan_main};
-    ghost use Rattle.sf_law.specs.Arena.{plan_number, template_number, header_at, AsksOnly, BuildsPlan, KeepsPlan, AddsNode};
+    ghost use Rattle.sf_law.specs.Arena.{plan_number, template_number, header_at, AsksOnly, BuildsPlan, ExtendsPlan, AddsNode};
 
     /// A plan over these expressions, with these templates and no term yet. It asks for any name.
     pub(crate) fn new(
@@ -129,7 +129,7 @@ impl Plan {
         requires called { IsTrue (calls_first (plan_expressions self.old) (plan_headers self.old) node) }
         ensures ok { IfOk result (λ id. AddsNode self.old self.new id node) }
         ensures err { OnErr result ((node_count self.new ≡ node_count self.old) × (plan_asked self.new ≡ plan_asked self.old)) }
-        ensures kept { KeepsPlan self.old self.new }
+        ensures kept { ExtendsPlan self.old self.new }
         ensures templates { plan_headers self.new ≡ plan_headers self.old }
         ensures main { plan_main self.new ≡ plan_main self.old }
         ensures asked { OnOk result (plan_asked self.new ≡ any_name) }
@@ -155,7 +155,7 @@ impl Plan {
     pub fn with_main(self, main: PlanId) -> Plan
         ensures main { plan_main result ≡ main }
         ensures asked { plan_asked result ≡ plan_asked self }
-        ensures trees { (a : PlanIdOf) → plan_tree result a ≡ plan_tree self a }
+        ensures trees { (a : plan_ids.PlanId) → plan_tree result a ≡ plan_tree self a }
         ensures templates { plan_headers result ≡ plan_headers self }
         ensures expressions { plan_expressions result ≡ plan_expressions self }
     {
@@ -169,7 +169,7 @@ impl Plan {
     #[tactic(auto, unfolding(crate::specs::Arena::plan_tree))]
     pub fn with_bodies(self, bodies: &[PlanId]) -> Plan
         ensures templates { plan_headers result ≡ map (rebodied bodies.now (node_count self)) (plan_headers self) }
-        ensures trees { (a : PlanIdOf) → plan_tree result a ≡ plan_tree self a }
+        ensures trees { (a : plan_ids.PlanId) → plan_tree result a ≡ plan_tree self a }
         ensures nodes { node_count result ≡ node_count self }
         ensures asked { plan_asked result ≡ plan_asked self }
         ensures main { plan_main result ≡ plan_main self }
@@ -187,7 +187,7 @@ impl Plan {
     pub fn with_mentions(self, alloc: Global) -> Result<Plan, AllocError>
         ensures main { IfOk result (λ plan. plan_main plan ≡ plan_main self) }
         ensures asked { IfOk result (λ plan. AsksOnly plan (plan_asked plan)) }
-        ensures trees { IfOk result (λ plan. (a : PlanIdOf) → plan_tree plan a ≡ plan_tree self a) }
+        ensures trees { IfOk result (λ plan. (a : plan_ids.PlanId) → plan_tree plan a ≡ plan_tree self a) }
         ensures templates { IfOk result (λ plan. plan_headers plan ≡ plan_headers self) }
         ensures expressions { IfOk result (λ plan. plan_expressions plan ≡ plan_expressions self) }
     {
@@ -217,7 +217,7 @@ impl Plan {
     }
 
     /// The node at an id, with the ids of its parts; the identity at an id that the plan does not hold.
-    #[tactic(auto, using(crate::proofs::Kept::builds, crate::proofs::Kept::parts_below, crate::proofs::Kept::parts_held, crate::proofs::Kept::asked_held), unfolding(crate::specs::Arena::plan_node_at))]
+    #[tactic(auto, using(crate::proofs::Extended::builds, crate::proofs::Extended::parts_below, crate::proofs::Extended::parts_held, crate::proofs::Extended::asked_held), unfolding(crate::specs::Arena::plan_node_at))]
     pub fn node(&self, id: PlanId) -> &PlanNode
         ensures value { result.now ≡ plan_node_at self.now id }
         ensures builds { BuildsPlan self.now result.now (plan_tree self.now id) }
@@ -276,7 +276,7 @@ impl Plan {
     /// A pattern, of which each name is its number.
     pub fn numbered(&self, pattern: PatternId) -> &NumberedPattern
         ensures { let e = plan_expressions self.now in
-            (k : NameIdOf) → TellsName (number_at (plan_numbers self.now) k) (name_at e k) result.now (pattern_of (placed_at e pattern)) }
+            (k : name_ids.NameId) → TellsName (number_at (plan_numbers self.now) k) (name_at e k) result.now (pattern_of (stored_pattern e pattern)) }
     {
         self.numbering.pattern(pattern)
     }
@@ -290,7 +290,7 @@ impl Plan {
 
     /// Whether a pattern binds a name. No text is compared.
     pub fn binds(&self, pattern: PatternId, name: NameId) -> bool
-        ensures { let e = plan_expressions self.now in result ≡ binds_name (pattern_of (placed_at e pattern)) (name_at e name) }
+        ensures { let e = plan_expressions self.now in result ≡ binds_name (pattern_of (stored_pattern e pattern)) (name_at e name) }
     {
         binds(self.numbered(pattern), self.number(name))
     }

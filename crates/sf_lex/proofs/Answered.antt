@@ -7,7 +7,7 @@ use Rattle.std.proofs.lemmas.Str.{IsUtf8-nil, IsUtf8-from_is_utf8, is_utf8-from_
 use Rattle.sf_refusal.specs.Refusals.{first_spot, breach_of}
 use Rattle.sf_refusal.specs.declared.rule.Rule.TheVariants.{TooLong}
 use Rattle.sf_refusal.specs.declared.refusal.Breach.{Breach}
-use Rattle.sf_lex.specs.Tokens.{Located, place_at}
+use Rattle.sf_lex.specs.Tokens.{Located, offset_place}
 use Rattle.sf_lex.specs.Cutting.{located, IsCutInto, here, byte_limit, Lexes, IsValidLen, IsCutTo, BreaksLexis, too_long, at_fault}
 use Rattle.sf_lex.specs.Scanning.{piece, fail, next, in_range, within}
 use Rattle.sf_lex.proofs.Cuts.{breaks_first}
@@ -75,7 +75,7 @@ answer_from (suc fuel) bytes at valid short v c long low =
             | piece p n ↦ λ e.
                 (let s = step_from bytes (drop at bytes) at valid n p (in_range (next (drop at bytes))) (within (valid - at) (in_range (next (drop at bytes)))) refl refl refl e low in
                 answer_from fuel bytes (at + n) valid short v (record { found = c.found ++ located at p []; cut = cut_on bytes at valid n p c.found s c.cut }) (omega (arith, s.some)) s.near)
-            | fail f k ↦ λ e. inr (breach_of f (place_at bytes (at + k)), at_fault (breaks_first bytes at valid k f short c (leb-false (length bytes) at is) low v e))
+            | fail f k ↦ λ e. inr (breach_of f (offset_place bytes (at + k)), at_fault (breaks_first bytes at valid k f short c (leb-false (length bytes) at is) low v e))
           ]) refl
     ]) refl
 

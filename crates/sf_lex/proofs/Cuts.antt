@@ -10,7 +10,7 @@ use Rattle.sf_lex.proofs.Readable.{single_utf8}
 use Rattle.sf_lex.specs.Words.{is_digit}
 use Rattle.sf_refusal.specs.declared.rule.Rule.{Rule}
 use Rattle.sf_refusal.specs.declared.rule.Rule.TheVariants.{BadByte}
-use Rattle.sf_lex.specs.Tokens.{number, Located, place_at}
+use Rattle.sf_lex.specs.Tokens.{number, Located, offset_place}
 use Rattle.sf_lex.specs.Cutting.{Piece, gap, token, fits, IsLongest, located, IsCutInto, here, more, byte_limit, Lexes, IsWrong, large, open_text, escape, nothing, SpellsNumber, unsigned, negative, IsDigits, HasFaultAt, no_text, wrong, IsFirstFault, IsValidLen, IsCutTo}
 use Rattle.sf_lex.specs.Scanning.{NextPiece, piece, fail, next, in_range, within}
 use Rattle.sf_lex.proofs.Pieces.{next_from_longest, piece_some}
@@ -170,7 +170,7 @@ same_break bytes m n f g e (wrong {rest = x} {at = a} {k = j} {found = h} c v) (
     cc
 
 pub breaks_wrong : (bytes : List ℕ) (at valid k : ℕ) (f : Rule) → length bytes ≤ byte_limit → IsCutTo bytes at → at < length bytes → IsValidLen bytes valid
-    → in_range (next (drop at bytes)) ≡ fail f k → at + k ≤ valid → IsFirstFault bytes f (place_at bytes (at + k))
+    → in_range (next (drop at bytes)) ≡ fail f k → at + k ≤ valid → IsFirstFault bytes f (offset_place bytes (at + k))
 breaks_wrong bytes at valid k f short c l v e near = record {
   short = short;
   offset = at + k;
@@ -182,7 +182,7 @@ breaks_wrong bytes at valid k f short c l v e near = record {
 }
 
 pub breaks_text : (bytes : List ℕ) (at valid : ℕ) → length bytes ≤ byte_limit → IsCutTo bytes at → IsValidLen bytes valid
-    → valid < length bytes → valid ≤ at + extent (in_range (next (drop at bytes))) → IsFirstFault bytes BadByte (place_at bytes valid)
+    → valid < length bytes → valid ≤ at + extent (in_range (next (drop at bytes))) → IsFirstFault bytes BadByte (offset_place bytes valid)
 breaks_text bytes at valid short c v l near =
     let u = valid_short bytes valid v l in
     record {
@@ -205,16 +205,16 @@ extent_within bytes some =
 
 -- a fault within the bytes that are UTF-8, or the end of these
 pub breaks_first : (bytes : List ℕ) (at valid k : ℕ) (f : Rule) → length bytes ≤ byte_limit → IsCutTo bytes at → at < length bytes → at ≤ valid → IsValidLen bytes valid
-    → within (valid - at) (in_range (next (drop at bytes))) ≡ fail f k → IsFirstFault bytes f (place_at bytes (at + k))
+    → within (valid - at) (in_range (next (drop at bytes))) ≡ fail f k → IsFirstFault bytes f (offset_place bytes (at + k))
 breaks_first bytes at valid k f short c l low v e =
-    (elim (in_range (next (drop at bytes))) as (λ x. in_range (next (drop at bytes)) ≡ x → within (valid - at) x ≡ fail f k → IsFirstFault bytes f (place_at bytes (at + k))) [
+    (elim (in_range (next (drop at bytes))) as (λ x. in_range (next (drop at bytes)) ≡ x → within (valid - at) x ≡ fail f k → IsFirstFault bytes f (offset_place bytes (at + k))) [
       | piece p n ↦ λ is h.
-          (elim (nat_le n (valid - at)) as (λ t. nat_le n (valid - at) ≡ t → cond t (piece p n) (fail BadByte (valid - at)) ≡ fail f k → IsFirstFault bytes f (place_at bytes (at + k))) [
+          (elim (nat_le n (valid - at)) as (λ t. nat_le n (valid - at) ≡ t → cond t (piece p n) (fail BadByte (valid - at)) ≡ fail f k → IsFirstFault bytes f (offset_place bytes (at + k))) [
             | true ↦ λ near i. cc
             | false ↦ λ far i. beyond (ap extent is) (leb-false n (valid - at) far) i
           ]) refl h
       | fail g j ↦ λ is h.
-          (elim (nat_le j (valid - at)) as (λ t. nat_le j (valid - at) ≡ t → cond t (fail g j) (fail BadByte (valid - at)) ≡ fail f k → IsFirstFault bytes f (place_at bytes (at + k))) [
+          (elim (nat_le j (valid - at)) as (λ t. nat_le j (valid - at) ≡ t → cond t (fail g j) (fail BadByte (valid - at)) ≡ fail f k → IsFirstFault bytes f (offset_place bytes (at + k))) [
             | true ↦ λ near i.
                 (let place : j ≡ k = cc in let m = leb-true j (valid - at) near in
                 breaks_wrong bytes at valid k f short c l v (is ∙ i) (omega arith))
@@ -222,11 +222,11 @@ breaks_first bytes at valid k f short c l low v e =
           ]) refl h
     ]) refl e
   where
-    beyond : {n : ℕ} → extent (in_range (next (drop at bytes))) ≡ n → valid - at < n → fail BadByte (valid - at) ≡ fail f k → IsFirstFault bytes f (place_at bytes (at + k))
+    beyond : {n : ℕ} → extent (in_range (next (drop at bytes))) ≡ n → valid - at < n → fail BadByte (valid - at) ≡ fail f k → IsFirstFault bytes f (offset_place bytes (at + k))
     beyond {n} is far i =
         let inside = extent_within (drop at bytes) (omega (arith, length-drop at bytes)) in
         let b = breaks_text bytes at valid short c v (omega (arith, length-drop at bytes)) (omega arith) in
         let same : BadByte ≡ f = cc in
         let place : valid - at ≡ k = cc in
         let offset : valid ≡ at + k = omega arith in
-        subst (λ (x : Rule). IsFirstFault bytes x (place_at bytes (at + k))) same (subst (λ (x : ℕ). IsFirstFault bytes BadByte (place_at bytes x)) offset b)
+        subst (λ (x : Rule). IsFirstFault bytes x (offset_place bytes (at + k))) same (subst (λ (x : ℕ). IsFirstFault bytes BadByte (offset_place bytes x)) offset b)

@@ -44,8 +44,8 @@ fault_at_start starts.Other b bytes f k h n e =
 quote_next : (bytes : List ℕ) → next (34 ∷ bytes) ≡ text_next bytes
 quote_next bytes = next_at 34 bytes starts.Quote refl
 
-body_at : (inner rest : List ℕ) → IsBody inner → text_next (inner ++ 34 ∷ rest) ≡ body_next inner (bad_escape 0 false inner)
-body_at inner rest b =
+body_id : (inner rest : List ℕ) → IsBody inner → text_next (inner ++ 34 ∷ rest) ≡ body_next inner (bad_escape 0 false inner)
+body_id inner rest b =
     ap (closed_next (inner ++ 34 ∷ rest)) (text_len_body 0 inner rest b ∙ ap Some (omega arith))
     ∙ ap (λ x. body_next x (bad_escape 0 false x)) (take_at inner (34 ∷ rest) (length inner) refl)
 
@@ -61,7 +61,7 @@ escape_found inner before behind rest c body is front none =
     let found : FoundBy 0 inner (0 + length before + 1) = subst (λ (x : List ℕ). FoundBy 0 x (0 + length before + 1)) (sym is) (bad_escape_by 0 c before behind front none) in
     record {
       at = found.at + 1;
-      is = ap in_range (quote_next (inner ++ 34 ∷ rest) ∙ body_at inner rest body ∙ ap (body_next inner) found.is);
+      is = ap in_range (quote_next (inner ++ 34 ∷ rest) ∙ body_id inner rest body ∙ ap (body_next inner) found.is);
       early = omega (arith, found.early);
     }
 

@@ -4,7 +4,7 @@ use Rattle.std.specs.List.{prefix_len, suffix_len}
 use Rattle.std.proofs.lemmas.List.{append-nil, reverse-append, length-take, length-reverse}
 use Rattle.std.proofs.lemmas.List.Sums.{count_by-le-length, sum_by-append}
 use Rattle.sf_refusal.specs.declared.spot.Spot.{Spot}
-use Rattle.sf_lex.specs.Tokens.{is_line_feed, is_in_line, line_at, column_at, place_at, place_step}
+use Rattle.sf_lex.specs.Tokens.{is_line_feed, is_in_line, line_number, column_at, offset_place, place_step}
 use Rattle.sf_lex.proofs.Pieces.{prefix_le}
 
 -- the place behind these bytes
@@ -32,16 +32,16 @@ place_fold : (ys xs : List ℕ) → fold place_step (place_behind xs) ys ≡ pla
 place_fold [] xs = ap place_behind (sym (append-nil xs))
 place_fold (y ∷ ys) xs = ap (λ p. fold place_step p ys) (place_push xs y) ∙ place_fold ys (xs ++ y ∷ []) ∙ ap place_behind (append_assoc xs (y ∷ []) ys)
 
-at_behind : (bytes : List ℕ) (at : ℕ) → place_at bytes at ≡ place_behind (take at bytes)
-unfolding line_at column_at
+at_behind : (bytes : List ℕ) (at : ℕ) → offset_place bytes at ≡ place_behind (take at bytes)
+unfolding line_number column_at
 at_behind bytes at = refl
 
-pub place_on : (bytes rest : List ℕ) (at n : ℕ) (place next : Spot) → rest ≡ drop at bytes → place ≡ place_at bytes at → next ≡ fold place_step place (take n rest) → next ≡ place_at bytes (at + n)
+pub place_on : (bytes rest : List ℕ) (at n : ℕ) (place next : Spot) → rest ≡ drop at bytes → place ≡ offset_place bytes at → next ≡ fold place_step place (take n rest) → next ≡ offset_place bytes (at + n)
 place_on bytes rest at n place next r e f =
     f ∙ ap (λ x. fold place_step place (take n x)) r ∙ ap (λ p. fold place_step p (take n (drop at bytes))) (e ∙ at_behind bytes at) ∙ place_fold (take n (drop at bytes)) (take at bytes)
     ∙ ap place_behind (sym (take-add at n bytes)) ∙ sym (at_behind bytes (at + n))
 
-pub place_small : (bytes : List ℕ) (at : ℕ) (place : Spot) → place ≡ place_at bytes at → (place.line ≤ at + 1) × (place.column ≤ at + 1)
+pub place_small : (bytes : List ℕ) (at : ℕ) (place : Spot) → place ≡ offset_place bytes at → (place.line ≤ at + 1) × (place.column ≤ at + 1)
 place_small bytes at place e =
     let f = e ∙ at_behind bytes at in
     let l = ap (λ (p : Spot). p.line) f in
@@ -50,6 +50,6 @@ place_small bytes at place e =
       omega (arith, prefix_le is_in_line (reverse (take at bytes)), length-reverse (take at bytes), length-take at bytes),
     )
 
-pub place_start : (bytes : List ℕ) → record { line = 1; column = 1 } ≡ place_at bytes 0
-unfolding line_at column_at
+pub place_start : (bytes : List ℕ) → record { line = 1; column = 1 } ≡ offset_place bytes 0
+unfolding line_number column_at
 place_start bytes = refl

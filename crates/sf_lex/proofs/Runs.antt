@@ -8,7 +8,7 @@ use Rattle.sf_refusal.specs.declared.rule.Rule.TheVariants.{BadByte}
 use Rattle.sf_lex.specs.declared.token.Token.{Token}
 use Rattle.sf_refusal.specs.declared.spot.Spot.{Spot}
 use Rattle.sf_lex.specs.declared.token.PlacedToken.{PlacedToken}
-use Rattle.sf_lex.specs.Tokens.{Tok, Located, token_of, seen, shown, place_at}
+use Rattle.sf_lex.specs.Tokens.{Tok, Located, token_of, seen, shown, offset_place}
 use Rattle.sf_lex.specs.Cutting.{Piece, gap, token, fits, IsLongest, located, IsCutInto, here, more, byte_limit, AreTokensOf, IsFirstFault, IsValidLen, AreTokensTo, IsWrong, large, open_text, escape, nothing, HasFaultAt, no_text, wrong, IsContentRule}
 use Rattle.sf_lex.specs.Scanning.{NextPiece, piece, fail, next, in_range, within}
 use Rattle.sf_lex.proofs.Pieces.{piece_some}
@@ -55,7 +55,7 @@ tokens_gap bytes at valid n items s a = record {
 }
 
 pub tokens_token : (bytes : List ℕ) (at valid n : ℕ) (old new : List PlacedToken) (t : Tok) (one : Token) (place : Spot) → Step bytes at valid (token t) n → AreTokensTo bytes at old
-    → token_of one ≡ t → place ≡ place_at bytes at → new ≡ old ++ record { token = one; spot = place } ∷ [] → AreTokensTo bytes (at + n) new
+    → token_of one ≡ t → place ≡ offset_place bytes at → new ≡ old ++ record { token = one; spot = place } ∷ [] → AreTokensTo bytes (at + n) new
 tokens_token bytes at valid n old new t one place s a e p is =
     let last : Located = record { offset = at; token = t } in
     let same : seen (record { token = one; spot = place }) ≡ shown bytes last = ap (λ x. (x, place)) e ∙ ap (λ x. (t, x)) p in
@@ -99,7 +99,7 @@ pub first_content : (bytes : List ℕ) (f : Rule) (place : Spot) → IsFirstFaul
 first_content bytes f place b = fault_content bytes b.offset f b.breaks
 
 pub refused : (bytes rest : List ℕ) (at valid k : ℕ) (f : Rule) (place : Spot) (s t : NextPiece) (items : List PlacedToken) → length bytes ≤ byte_limit → IsValidLen bytes valid → AreTokensTo bytes at items → at < length bytes → at ≤ valid
-    → rest ≡ drop at bytes → s ≡ in_range (next rest) → t ≡ within (valid - at) s → t ≡ fail f k → place ≡ place_at bytes (at + k) → IsFirstFault bytes f place
+    → rest ≡ drop at bytes → s ≡ in_range (next rest) → t ≡ within (valid - at) s → t ≡ fail f k → place ≡ offset_place bytes (at + k) → IsFirstFault bytes f place
 refused bytes rest at valid k f place s t items short v a some low r e g h p =
     let scanned : within (valid - at) (in_range (next (drop at bytes))) ≡ fail f k = ap (λ x. within (valid - at) (in_range (next x))) (sym r) ∙ ap (within (valid - at)) (sym e) ∙ sym g ∙ h in
     subst (λ (x : Spot). IsFirstFault bytes f x) (sym p) (breaks_first bytes at valid k f short a.cut some low v scanned)

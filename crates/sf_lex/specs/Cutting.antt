@@ -6,7 +6,7 @@ use Rattle.std.specs.Str.Parse.{digits_value}
 use Rattle.sf_decimal.specs.Decimals.{is_narrow}
 use Rattle.sf_lex.specs.Words.{is_digit, keyword_bytes, IsName}
 use Rattle.sf_lex.specs.Symbols.{symbol_bytes}
-use Rattle.sf_lex.specs.Tokens.{Tok, keyword, name, number, text, symbol, Located, is_in_line, seen, shown, place_at}
+use Rattle.sf_lex.specs.Tokens.{Tok, keyword, name, number, text, symbol, Located, is_in_line, seen, shown, offset_place}
 use Rattle.sf_lex.specs.declared.token.PlacedToken.{PlacedToken}
 use Rattle.sf_refusal.specs.declared.spot.Spot.{Spot}
 use Rattle.sf_refusal.specs.declared.rule.Rule.{Rule}
@@ -137,7 +137,7 @@ pub record IsFirstFault (bytes : List ℕ) (fault : Rule) (place : Spot) : Type 
   pub breaks : HasFaultAt bytes offset fault
   pub least : (other : ℕ) (another : Rule) → HasFaultAt bytes other another → offset ≤ other
   pub only : (another : Rule) → HasFaultAt bytes offset another → another ≡ fault
-  pub at : place ≡ place_at bytes offset
+  pub at : place ≡ offset_place bytes offset
   pub none : (found : List Located) → Lexes bytes found → ⊥
 
 -- the first n bytes are UTF-8, and no more of them

@@ -135,7 +135,7 @@ lexeme_of (lexemes.Number z) = number z
 lexeme_of (lexemes.Text s) = text (unescaped false s.now)
 lexeme_of (lexemes.Symbol s) = symbol s
 
-abbrev pub next_of : Scanned → NextPiece
-next_of (scans.Gap n) = piece gap n
-next_of (scans.Token l n) = piece (token (lexeme_of l)) n
-next_of (scans.Fault f k) = fail f k
+abbrev pub next_piece : Scanned → NextPiece
+next_piece (scans.Gap n) = piece gap n
+next_piece (scans.Token l n) = piece (token (lexeme_of l)) n
+next_piece (scans.Fault f k) = fail f k

@@ -41,15 +41,15 @@ abbrev pub is_in_line : ℕ → Bool
 is_in_line b = not (b == 10)
 
 -- one more than the line feeds in front of the offset
-unfoldable pub line_at : List ℕ → ℕ → ℕ
-line_at bytes offset = count_by is_line_feed (take offset bytes) + 1
+unfoldable pub line_number : List ℕ → ℕ → ℕ
+line_number bytes offset = count_by is_line_feed (take offset bytes) + 1
 
 -- one more than the bytes between the last line feed in front of the offset and the offset
 unfoldable pub column_at : List ℕ → ℕ → ℕ
 column_at bytes offset = suffix_len is_in_line (take offset bytes) + 1
 
-abbrev pub place_at : List ℕ → ℕ → Spot
-place_at bytes offset = record { line = line_at bytes offset; column = column_at bytes offset }
+abbrev pub offset_place : List ℕ → ℕ → Spot
+offset_place bytes offset = record { line = line_number bytes offset; column = column_at bytes offset }
 
 -- the place one byte on
 abbrev pub place_step : Spot → ℕ → Spot
@@ -60,4 +60,4 @@ abbrev pub seen : PlacedToken → Tok × Spot
 seen p = (token_of p.token, p.spot)
 
 abbrev pub shown : List ℕ → Located → Tok × Spot
-shown bytes l = (l.token, place_at bytes l.offset)
+shown bytes l = (l.token, offset_place bytes l.offset)

@@ -3,7 +3,7 @@ ghost use Rattle.std.specs.List.{prefix_len};
 ghost use Rattle.sf_lex.specs.Words.{is_digit};
 ghost use Rattle.sf_lex.specs.Tokens.{token_of};
 ghost use Rattle.sf_lex.specs.Cutting.{IsReadable};
-ghost use Rattle.sf_lex.specs.Scanning.{lexeme_of, start_of, next_of, next, in_range, within, word_next, digits_next, minus_next, text_next, symbol_next, symbol_of};
+ghost use Rattle.sf_lex.specs.Scanning.{lexeme_of, start_of, next_piece, next, in_range, within, word_next, digits_next, minus_next, text_next, symbol_next, symbol_of};
 
 use crate::byte::{begins_with_digit, is_blank, is_digit, is_letter, line_len, word_len};
 use crate::name::Name;
@@ -92,7 +92,7 @@ fn start_of(b: u8) -> Start
 /// The first n bytes as a keyword or a name.
 fn word(bytes: &[u8], n: usize) -> Scanned<'_>
     requires { n ≤ length bytes.now }
-    ensures { next_of result ≡ word_next n bytes.now }
+    ensures { next_piece result ≡ word_next n bytes.now }
 {
     let word = &bytes[..n];
     match keyword_of(word) {
@@ -103,7 +103,7 @@ fn word(bytes: &[u8], n: usize) -> Scanned<'_>
 
 /// The digits at the front as a number.
 fn digits(bytes: &[u8]) -> Scanned<'_>
-    ensures { next_of result ≡ in_range (digits_next (prefix_len is_digit bytes.now) bytes.now) }
+    ensures { next_piece result ≡ in_range (digits_next (prefix_len is_digit bytes.now) bytes.now) }
 {
     let run = digits_at(bytes);
     match signed(run.number, false) {
@@ -114,7 +114,7 @@ fn digits(bytes: &[u8]) -> Scanned<'_>
 
 /// The digits at the front and the minus before them as a number.
 fn negative(bytes: &[u8]) -> Scanned<'_>
-    ensures { next_of result ≡ in_range (minus_next (prefix_len is_digit bytes.now) bytes.now) }
+    ensures { next_piece result ≡ in_range (minus_next (prefix_len is_digit bytes.now) bytes.now) }
 {
     let run = digits_at(bytes);
     match signed(run.number, true) {
@@ -125,7 +125,7 @@ fn negative(bytes: &[u8]) -> Scanned<'_>
 
 /// What a text goes on with behind its quote.
 fn text(bytes: &[u8]) -> Scanned<'_>
-    ensures { next_of result ≡ in_range (text_next bytes.now) }
+    ensures { next_piece result ≡ in_range (text_next bytes.now) }
 {
     let Some(n) = text_len(bytes) else {
         return Scanned::Fault(Rule::OpenText, 0);
@@ -138,7 +138,7 @@ fn text(bytes: &[u8]) -> Scanned<'_>
 }
 
 fn symbol(bytes: &[u8]) -> Scanned<'_>
-    ensures { next_of result ≡ in_range (symbol_next (symbol_of bytes.now)) }
+    ensures { next_piece result ≡ in_range (symbol_next (symbol_of bytes.now)) }
 {
     match symbol_of(bytes) {
         Some(symbol) => Scanned::Token(Lexeme::Symbol(symbol), symbol.text().len()),
@@ -149,7 +149,7 @@ fn symbol(bytes: &[u8]) -> Scanned<'_>
 /// What the bytes begin with.
 #[tactic(auto, unfolding(crate::specs::Scanning::next))]
 pub(crate) fn scan(bytes: &[u8]) -> Scanned<'_>
-    ensures { next_of result ≡ in_range (next bytes.now) }
+    ensures { next_piece result ≡ in_range (next bytes.now) }
 {
     let [first, rest @ ..] = bytes else {
         return Scanned::Fault(Rule::BadByte, 0);
@@ -169,7 +169,7 @@ pub(crate) fn scan(bytes: &[u8]) -> Scanned<'_>
 impl<'a> Scanned<'a> {
     /// The same, if it ends within this many bytes; else a wrong byte behind them.
     pub(crate) fn within(self, room: usize) -> Scanned<'a>
-        ensures { next_of result ≡ within room (next_of self.entry) }
+        ensures { next_piece result ≡ within room (next_piece self.entry) }
     {
         let extent = match self {
             Scanned::Gap(n) => n,

@@ -8,11 +8,11 @@ use Rattle.std.proofs.lemmas.Bool.{eqb-true, eqb-false}
 use Rattle.sf_value.specs.Values.{Kind, Data}
 use Rattle.sf_decimal.specs.Decimals.{natural, digits_at, after_digits}
 use Rattle.sf_spelling.specs.Reading.{Refusal, Reads}
-use Rattle.sf_spelling.specs.Scan.{value_at}
+use Rattle.sf_spelling.specs.Scan.{scanned_value}
 use Rattle.sf_spelling.proofs.Settled.{answer, reads}
 use Rattle.sf_lines.specs.declared.refusal.LineRefusal.{LineRefusal}
 use Rattle.sf_lines.specs.declared.refusal.LineRefusal.TheVariants.{BadLine, NotStarted}
-use Rattle.sf_lines.specs.Asking.{LineForm, blank, sampled, repeated, saving, returning, HasForm, empty, comment, with_value, unchanged, with_save, with_back, Asked, nothing, advance, save, back, step_refusal, value_refusal, asked_at, Says, formless, silent, untimely, unread, read, again, keeps, returns}
+use Rattle.sf_lines.specs.Asking.{LineForm, blank, sampled, repeated, saving, returning, HasForm, empty, comment, with_value, unchanged, with_save, with_back, Asked, nothing, advance, save, back, step_refusal, value_refusal, sample_asked, Says, formless, silent, untimely, unread, read, again, keeps, returns}
 use Rattle.sf_lines.specs.Parsing.{step_cap, NumberThen, BeginsNoNumber, StepThen, BeginsNoStep, NameBehind, NoNameBehind}
 use Rattle.sf_lines.proofs.SaveNames.{name_or}
 use Rattle.sf_lines.proofs.Parsed.{none_empty, none_other, number_zero, number_some, no_step_none, no_step_empty, no_step_other, step_then, formless_none, formless_zero, blank_comment}
@@ -85,12 +85,12 @@ form_or (c ∷ line) = by_comment (c == 35) refl
 
 module _ (s : Bool) (k : Kind) (line : List ℕ) where
   valued : (d : ℕ) (value : List ℕ) → HasForm line (sampled d value) → step_refusal s d ≡ None → (r : Result Data Refusal) → Reads k value r → (a : Result Asked LineRefusal) × Says s k line a
-  valued d value h timely (Ok x) is = (Ok (asked_at d x), read h timely is)
+  valued d value h timely (Ok x) is = (Ok (sample_asked d x), read h timely is)
   valued d value h timely (Err r) is = (Err (value_refusal r), unread r h timely is)
 
   at_step : (d : ℕ) (value : List ℕ) → HasForm line (sampled d value) → (o : Option LineRefusal) → step_refusal s d ≡ o → (a : Result Asked LineRefusal) × Says s k line a
   at_step d value h (Some r) e = (Err r, untimely h e)
-  at_step d value h None e = valued d value h e (answer (length value) (value_at k value)) (reads k value)
+  at_step d value h None e = valued d value h e (answer (length value) (scanned_value k value)) (reads k value)
 
   once_more : (d : ℕ) → HasForm line (repeated d) → (o : Option LineRefusal) → step_refusal s d ≡ o → (a : Result Asked LineRefusal) × Says s k line a
   once_more d h (Some r) e = (Err r, untimely h e)

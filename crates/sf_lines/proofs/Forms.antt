@@ -8,7 +8,7 @@ use Rattle.sf_decimal.proofs.Digits.{Behind, natural-cut, natural-head}
 use Rattle.sf_spelling.proofs.Unique.{one_reading}
 use Rattle.sf_lines.specs.declared.refusal.LineRefusal.{LineRefusal}
 use Rattle.sf_lines.specs.declared.refusal.LineRefusal.TheVariants.{BadLine, NotStarted}
-use Rattle.sf_lines.specs.Asking.{LineForm, blank, sampled, repeated, saving, returning, HasForm, empty, comment, with_value, unchanged, with_save, with_back, Asked, nothing, advance, save, back, step_refusal, time_refusal, value_refusal, asked_at, Says, formless, silent, untimely, unread, read, again, keeps, returns}
+use Rattle.sf_lines.specs.Asking.{LineForm, blank, sampled, repeated, saving, returning, HasForm, empty, comment, with_value, unchanged, with_save, with_back, Asked, nothing, advance, save, back, step_refusal, time_refusal, value_refusal, sample_asked, Says, formless, silent, untimely, unread, read, again, keeps, returns}
 
 -- the first byte of a line with a number, of a blank line, and of one with a name
 pub number_first : (d : ℕ) (rest line : List ℕ) → line ≡ natural d ++ rest → (48 ≤ get_or line 0 0) × (get_or line 0 0 ≤ 57)
@@ -97,7 +97,7 @@ one_form line f g h k = one_read_as line f g (read_as line f h) (read_as line g 
 
 -- what the bytes of a value give at a time step
 abbrev answer_at : ℕ → Result Data Refusal → Result Asked LineRefusal
-answer_at d (Ok x) = Ok (asked_at d x)
+answer_at d (Ok x) = Ok (sample_asked d x)
 answer_at d (Err r) = Err (value_refusal r)
 
 -- the refusal, if there is one, and else this
@@ -145,7 +145,7 @@ gives s k line _ f (untimely {form = form} {r = r} g late) h = subst (λ x. Give
 gives s k line _ f (unread {value = value} {d = d} r g timely reads) h =
     subst (λ x. Gives s k x (Err (value_refusal r))) (one_form line (sampled d value) f g h) (refused_or (step_refusal s d) (GivesValue k d value) (Err (value_refusal r)) timely (Err r, reads, refl))
 gives s k line _ f (read {value = value} {d = d} {x = y} g timely reads) h =
-    subst (λ x. Gives s k x (Ok (asked_at d y))) (one_form line (sampled d value) f g h) (refused_or (step_refusal s d) (GivesValue k d value) (Ok (asked_at d y)) timely (Ok y, reads, refl))
+    subst (λ x. Gives s k x (Ok (sample_asked d y))) (one_form line (sampled d value) f g h) (refused_or (step_refusal s d) (GivesValue k d value) (Ok (sample_asked d y)) timely (Ok y, reads, refl))
 gives s k line _ f (again {d = d} g timely) h =
     subst (λ x. Gives s k x (Ok (advance d None))) (one_form line (repeated d) f g h) (refused_or (step_refusal s d) (λ a. a ≡ Ok (advance d None)) (Ok (advance d None)) timely refl)
 gives s k line _ f (keeps {name = name} g started) h = subst (λ x. Gives s k x (Ok (save name))) (one_form line (saving name) f g h) (ap (λ b. behind_start b (save name)) (sym started))

@@ -17,9 +17,9 @@ use Rattle.sf_decimal.proofs.Runs.{take_whole}
 use Rattle.sf_lines.specs.declared.refusal.LineRefusal.{LineRefusal}
 use Rattle.sf_lines.specs.declared.refusal.LineRefusal.TheVariants.{Memory, NotStarted}
 use Rattle.sf_lines.specs.Refusals.{refusal_from}
-use Rattle.sf_lines.specs.Asking.{LineForm, blank, sampled, repeated, HasForm, empty, comment, with_value, unchanged, with_save, with_back, advance, step_refusal, time_refusal, value_refusal, asked_at, Says, untimely, unread, read, again, HasTimelyValue}
+use Rattle.sf_lines.specs.Asking.{LineForm, blank, sampled, repeated, HasForm, empty, comment, with_value, unchanged, with_save, with_back, advance, step_refusal, time_refusal, value_refusal, sample_asked, Says, untimely, unread, read, again, HasTimelyValue}
 use Rattle.sf_lines.specs.declared.reader.Command.{Command}
-use Rattle.sf_lines.specs.Commands.{asked_of}
+use Rattle.sf_lines.specs.Commands.{command_asked}
 use Rattle.sf_lines.specs.Parsing.{step_cap, NumberThen, BeginsNoNumber, StepThen, BeginsNoStep, NoNameBehind}
 use Rattle.sf_lines.proofs.Forms.{no_digit, save_first, back_first, number_or_name}
 
@@ -180,16 +180,16 @@ step_memory s n r refused lack = no_memory s n (refused_so s n r refused lack)
 
 -- a command of a value at a time step
 abbrev pub IsCommandAt : Kind → ℕ → List ℕ → Command → Type 0
-IsCommandAt k n value c = (x : Data) × Reads k value (Ok x) × (asked_of c ≡ asked_at n x)
+IsCommandAt k n value c = (x : Data) × Reads k value (Ok x) × (command_asked c ≡ sample_asked n x)
 
 abbrev pub IsRefusalOf : Kind → List ℕ → LineRefusal → Type 0
 IsRefusalOf k value e = e ≢ Memory → (r : Refusal) × Reads k value (Err r) × (e ≡ value_refusal r)
 
 module _ (s : Bool) (k : Kind) (bytes : List ℕ) (n d : ℕ) (value : List ℕ) where
-  pub says_command : n ≡ min d step_cap → HasForm bytes (sampled d value) → None ≡ step_refusal s n → (result : Result Command LineRefusal) → IfOk result (IsCommandAt k n value) → IfOk result (λ c. Says s k bytes (Ok (asked_of c)))
+  pub says_command : n ≡ min d step_cap → HasForm bytes (sampled d value) → None ≡ step_refusal s n → (result : Result Command LineRefusal) → IfOk result (IsCommandAt k n value) → IfOk result (λ c. Says s k bytes (Ok (command_asked c)))
   says_command e h timely (Ok c) is =
       let same : n ≡ d = timely_step s n d e (sym timely) in
-      let asked : asked_at d is.0 ≡ asked_of c = ap (λ t. asked_at t is.0) (sym same) ∙ sym is.2 in
+      let asked : sample_asked d is.0 ≡ command_asked c = ap (λ t. sample_asked t is.0) (sym same) ∙ sym is.2 in
       subst (λ a. Says s k bytes (Ok a)) asked (read h (sym (step_refusal-capped s n d e) ∙ sym timely) is.1)
   says_command e h timely (Err r) is = is
 

@@ -65,9 +65,9 @@ value_refusal (out_of_range n) = OutOfRange
 value_refusal (duplicate_key n) = DuplicateKey
 
 -- a value at a time step
-abbrev pub asked_at : ℕ → Data → Asked
-asked_at zero x = start x
-asked_at (suc d) x = advance (suc d) (Some x)
+abbrev pub sample_asked : ℕ → Data → Asked
+sample_asked zero x = start x
+sample_asked (suc d) x = advance (suc d) (Some x)
 
 -- What a line asks for, or the refusal that comes first: of its form, of its time, of its value.
 pub data Says (started : Bool) (input : Kind) : List ℕ → Result Asked LineRefusal → Type 0 where
@@ -75,7 +75,7 @@ pub data Says (started : Bool) (input : Kind) : List ℕ → Result Asked LineRe
   silent : {line : List ℕ} → HasForm line blank → Says started input line (Ok nothing)
   untimely : {line : List ℕ} {form : LineForm} {r : LineRefusal} → HasForm line form → time_refusal started form ≡ Some r → Says started input line (Err r)
   unread : {line value : List ℕ} {d : ℕ} (r : Refusal) → HasForm line (sampled d value) → step_refusal started d ≡ None → Reads input value (Err r) → Says started input line (Err (value_refusal r))
-  read : {line value : List ℕ} {d : ℕ} {x : Data} → HasForm line (sampled d value) → step_refusal started d ≡ None → Reads input value (Ok x) → Says started input line (Ok (asked_at d x))
+  read : {line value : List ℕ} {d : ℕ} {x : Data} → HasForm line (sampled d value) → step_refusal started d ≡ None → Reads input value (Ok x) → Says started input line (Ok (sample_asked d x))
   again : {line : List ℕ} {d : ℕ} → HasForm line (repeated d) → step_refusal started d ≡ None → Says started input line (Ok (advance d None))
   keeps : {line : List ℕ} {name : Name} → HasForm line (saving name) → IsTrue started → Says started input line (Ok (save name))
   returns : {line : List ℕ} {name : Name} → HasForm line (returning name) → IsTrue started → Says started input line (Ok (back name))

@@ -3,8 +3,8 @@ ghost use Rattle.std.specs.Prelude.{◌≡◌, ◌≢◌, IfOk, IfErr, IsTrue, �
 ghost use Rattle.sf_value.specs.Values.{Data};
 ghost use Rattle.sf_spelling.specs.Reading.{Refusal, Reads};
 ghost use Rattle.sf_lines.specs.declared.refusal.LineRefusal.TheVariants.{Memory};
-ghost use Rattle.sf_lines.specs.Asking.{LineForm, blank, HasForm, step_refusal, value_refusal, asked_at, Says, HasTimelyValue};
-ghost use Rattle.sf_lines.specs.Commands.{asked_of};
+ghost use Rattle.sf_lines.specs.Asking.{LineForm, blank, HasForm, step_refusal, value_refusal, sample_asked, Says, HasTimelyValue};
+ghost use Rattle.sf_lines.specs.Commands.{command_asked};
 ghost use Rattle.sf_lines.specs.Parsing.{NumberThen, BeginsNoNumber, StepThen, BeginsNoStep, NameBehind, NoNameBehind, HasParts};
 
 use crate::refusal::LineRefusal;
@@ -50,7 +50,7 @@ pub fn read_line<'a>(
     started: bool,
     ty: &Ty,
 ) -> Result<Command<'a>, LineRefusal>
-    ensures ok { IfOk result (λ c. Says started ty.now bytes.now (Ok (asked_of c))) }
+    ensures ok { IfOk result (λ c. Says started ty.now bytes.now (Ok (command_asked c))) }
     ensures refused { IfErr result (λ e. e ≢ Memory → Says started ty.now bytes.now (Err e)) }
     // Memory is taken for a value alone.
     ensures memory { IfErr result (λ e. e ≡ Memory → HasTimelyValue started bytes.now) }
@@ -94,7 +94,7 @@ fn sample_at(
     ty: &Ty,
 ) -> Result<Command<'static>, LineRefusal>
     ensures ok { IfOk result (λ c. (x : Data) × Reads ty.now value.now (Ok x)
-        × (asked_of c ≡ asked_at step x)) }
+        × (command_asked c ≡ sample_asked step x)) }
     ensures err { IfErr result (λ e. e ≢ Memory →
         (r : Refusal) × Reads ty.now value.now (Err r) × (e ≡ value_refusal r)) }
 {

@@ -17,14 +17,15 @@ use Rattle.sf_term.specs.declared.form.Join.TheVariants.{InSequence, InParallel,
 use Rattle.sf_term.specs.declared.form.Side.{Side}
 use Rattle.sf_term.specs.declared.form.Side.TheVariants.{First, Second}
 use Rattle.sf_term.specs.declared.form.Heading.TheVariants.{LoopPre, Initialized, Replaced, Followed}
-use Rattle.sf_term.specs.Trees.{Chain, lone, chained, on_side, on_both, fanned, Primitive, bare, probe, never, with_value, timed, selected, arrow, accumulated, fused, Extent, Term, primitive, Reference, reference, started, call, Arguments, no_arguments, value_argument, process_argument, collection_argument, closed_argument, joined, sided, headed, transformed, switching, keeping, gathered, releasing, editing, staged, Collection, without_members, used, added, dropped, kept as kept_members, chosen}
+use Rattle.sf_term.specs.Trees.{Chain, lone, chained, on_side, on_both, fanned, Primitive, bare, probe, never, with_value, timed, selected, arrow, accumulated, fused, Extent, Term, primitive, Reference, reference, started, call, Arguments, no_arguments, value_argument, process_argument, collection_argument, closed_argument, joined, sided, headed, transformed, switching, continuing, gathered, releasing, editing, staged, Collection, without_members, used, added, dropped, chosen}
+use Rattle.sf_term.specs.Trees
 use Rattle.sf_term.specs.Parameters.{NameKind, value, process, collection, Bindings}
 use Rattle.sf_term.specs.declared.form.Observation.{Observation}
 use Rattle.sf_term.specs.declared.form.Start.{Start}
 use Rattle.sf_term.specs.declared.form.Switching.TheVariants.{Basic, Recurring}
-use Rattle.sf_mean.specs.Contexts.{Signature, signature_named, values_in, bindings_inside, Context, names_of_values, inside_pattern, inside_process, inside_collection, process_named, collection_named}
-use Rattle.sf_mean.specs.Typing.{ChainTakes, lone_takes, chained_takes, on_first_takes, on_second_takes, on_both_takes, fanned_takes, bare_kind, value_kind, accumulated_argument, accumulated_kind, takes_input, takes_time, timed_kind, takes_number, selected_kind, PrimitiveTakes, bare_takes, probe_takes, never_takes, value_takes, timed_takes, selected_takes, accumulated_takes, arrow_takes, fused_takes, Takes, takes, FormTakes, primitive_takes, started_takes, call_takes, Collects, collects_none, collects_used, collects_added, collects_dropped, collects_kept, collects_chosen, ArgumentsFit, no_argument_fits, value_fits, process_fits, closed_fits, sequence_takes, parallel_takes, fan_takes, first_takes, second_takes, loop_takes, initialized_takes, replaced_takes, followed_takes, transformed_takes, switch_takes, keeping_takes, recurring_takes, stages_take, gathered_takes, releasing_takes, editing_takes, collection_fits}
-use Rattle.sf_mean.specs.Inference.{Finds, both_outputs, join_output, side_output, first_beside, heading_output, transformed_output, body_output, switch_output, keeping_output, process_output, chain_output, primitive_output, with_fitting, is_found, value_is_argument, process_is_argument, call_output, form_output, reference_output, arguments_fit, term_output, used_output, with_key, with_member, with_kept, one_of_both, inside_members, editing_output, collection_is_argument, collection_output}
+use Rattle.sf_mean.specs.Contexts.{Signature, signature_named, bound_values, bindings_inside, Context, names_of_values, inside_pattern, inside_process, inside_collection, process_named, collection_named}
+use Rattle.sf_mean.specs.Typing.{ChainTakes, lone_takes, chained_takes, on_first_takes, on_second_takes, on_both_takes, fanned_takes, bare_kind, value_kind, accumulated_argument, accumulated_kind, takes_input, takes_time, timed_kind, takes_number, selected_kind, PrimitiveTakes, bare_takes, probe_takes, never_takes, value_takes, timed_takes, selected_takes, accumulated_takes, arrow_takes, fused_takes, Takes, takes, FormTakes, primitive_takes, started_takes, call_takes, Collects, collects_none, collects_used, collects_added, collects_dropped, collects_kept, collects_chosen, ArgumentsFit, no_argument_fits, value_fits, process_fits, closed_fits, sequence_takes, parallel_takes, fan_takes, first_takes, second_takes, loop_takes, initialized_takes, replaced_takes, followed_takes, transformed_takes, switch_takes, continuing_takes, recurring_takes, stages_take, gathered_takes, releasing_takes, editing_takes, collection_fits}
+use Rattle.sf_mean.specs.Inference.{Finds, both_outputs, join_output, side_output, first_beside, heading_output, transformed_output, body_output, switch_output, continuing_output, process_output, chain_output, primitive_output, finds_fitting, is_found, value_is_argument, process_is_argument, call_output, form_output, reference_output, arguments_fit, term_output, used_output, keyed_table, with_member, finds_kept, one_of_both, inside_members, editing_output, collection_is_argument, collection_output}
 
 -- ## Types of pairs
 
@@ -104,7 +105,7 @@ pub record Fitting (f : Finds) (a b : Kind) : Type 0 where
   pub output : Fits b
   pub is : f a ≡ Some b
 
-fitting_inside : (f : Finds) (a b : Kind) → with_fitting f a ≡ Some b → Fitting f a b
+fitting_inside : (f : Finds) (a b : Kind) → finds_fitting f a ≡ Some b → Fitting f a b
 fitting_inside f a b = each (nat_le (nodes a) 256) refl
   where
     each : (t : Bool) → nat_le (nodes a) 256 ≡ t → cond t (found_then (f a) fitting) None ≡ Some b → Fitting f a b
@@ -115,7 +116,7 @@ fitting_inside f a b = each (nat_le (nodes a) 256) refl
     ]
     each false h e = absurd cc
 
-inside_fitting : (f : Finds) (a b : Kind) → Fits a → Fits b → f a ≡ Some b → with_fitting f a ≡ Some b
+inside_fitting : (f : Finds) (a b : Kind) → Fits a → Fits b → f a ≡ Some b → finds_fitting f a ≡ Some b
 inside_fitting f a b h k e = rw (test_fits a h, e) (fitting_is b k)
 
 module _ {Γ : Context} where
@@ -284,7 +285,7 @@ stages : (Γ : Context) (x : Extent) (f g : Term) {a b : Kind} → ((a b : Kind)
 stages Γ x f g F G (went h k) = stages_take (F _ _ h) (G _ _ k)
 
 -- what a pattern binds in a context
-pub names_inside : {p : Pattern} {t : Kind} {R S : Names} (fs : TypesByName) (bs : Bindings) → AddsNames p t R S → R ≡ values_in fs bs → S ≡ values_in fs (bindings_inside p t bs)
+pub names_inside : {p : Pattern} {t : Kind} {R S : Names} (fs : TypesByName) (bs : Bindings) → AddsNames p t R S → R ≡ bound_values fs bs → S ≡ bound_values fs (bindings_inside p t bs)
 names_inside fs bs adds_nothing e = e
 names_inside fs bs (adds_name {x = x} {t = t}) e = ap (typed_name x t) e
 names_inside fs bs (adds_both {p = p} {t = t} A B) e = names_inside fs (bindings_inside p t bs) B (names_inside fs bs A e)
@@ -340,7 +341,7 @@ recurs Γ w t p u F G x b h =
 
 keepings : (Γ : Context) (w : Observation) (t q : Term) (k : Name) (p : Pattern) (u : Term) → ((a b : Kind) → term_output Γ t a ≡ Some b → Takes Γ t a b) → ((a b : Kind) → term_output Γ q a ≡ Some b → Takes Γ q a b)
     → ((Δ : Context) (a b : Kind) → term_output Δ u a ≡ Some b → Takes Δ u a b)
-    → (a b : Kind) → keeping_output Γ k p (term_output Γ t) (term_output Γ q) (λ Δ. term_output Δ u) a ≡ Some b → FormTakes Γ (keeping w t q k p u) a b
+    → (a b : Kind) → continuing_output Γ k p (term_output Γ t) (term_output Γ q) (λ Δ. term_output Δ u) a ≡ Some b → FormTakes Γ (continuing w t q k p u) a b
 keepings Γ w t q k p u F H G a b h =
     let inner : Kind → Kind → Option Kind = λ d c. body_output (inside_process k a d Γ) p (λ Δ. term_output Δ u) c a d in
     let after : Kind → Kind → Option Kind = λ d e. found_then (payload_of e) (inner d) in
@@ -352,13 +353,13 @@ keepings Γ w t q k p u F H G a b h =
   where
     kept : (d c : Kind) → d ≡ b → term_output Γ t a ≡ Some d → term_output Γ q (pair_kind a d) ≡ Some (event_kind c)
         → Binds p c (names_of_values (inside_process k a d Γ)) (names_of_values (inside_pattern p c (inside_process k a d Γ))) → Takes (inside_pattern p c (inside_process k a d Γ)) u a b
-        → FormTakes Γ (keeping w t q k p u) a b
+        → FormTakes Γ (continuing w t q k p u) a b
     kept d c same h i binds body =
         let S : Kind → Type 0 = λ d. term_output Γ t a ≡ Some d in
         let Q : Kind → Type 0 = λ d. term_output Γ q (pair_kind a d) ≡ Some (event_kind c) in
         let B : Kind → Type 0 = λ d. Binds p c (names_of_values (inside_process k a d Γ)) (names_of_values (inside_pattern p c (inside_process k a d Γ))) in
         let T : Kind → Type 0 = λ d. Takes (inside_pattern p c (inside_process k a d Γ)) u a b in
-        keeping_takes (F a b (subst S same h)) (H (pair_kind a b) (event_kind c) (subst Q same i)) (subst B same binds) (subst T same body)
+        continuing_takes (F a b (subst S same h)) (H (pair_kind a b) (event_kind c) (subst Q same i)) (subst B same binds) (subst T same body)
 
 -- ## Collections
 
@@ -384,19 +385,19 @@ with_added {Γ} {i} j u {a} {t = t} G (collected_as {k = k} {b = b} C) h =
     let same = only_is output.0 b (Some all) output.2 in
     subst (Collected Γ (added i j u) a) (same_some same.1) (collected_as (collects_added C (found_typed R j (kind_of_keys k) (key.1 ∙ ap Some of_keys.0)) (G a b (output.1 ∙ ap Some same.0))))
 
-with_dropped : {Γ : Context} {i : Collection} (j : Expression) {a s t : Kind} → Collected Γ i a s → with_key (expression_type (names_of_values Γ) j) s ≡ Some t → Collected Γ (dropped i j) a t
+with_dropped : {Γ : Context} {i : Collection} (j : Expression) {a s t : Kind} → Collected Γ i a s → keyed_table (expression_type (names_of_values Γ) j) s ≡ Some t → Collected Γ (dropped i j) a t
 with_dropped {Γ} {i} j {a} (collected_as {k = k} {b = b} C) h =
     let R = names_of_values Γ in
     let key = found_is (expression_type R j) (λ q. only q (kind_of_keys k) (Some (table_kind k b))) h in
     let same = only_is key.0 (kind_of_keys k) (Some (table_kind k b)) key.2 in
     subst (Collected Γ (dropped i j) a) (same_some same.1) (collected_as (collects_dropped C (found_typed R j (kind_of_keys k) (key.1 ∙ ap Some same.0))))
 
-with_kept_members : {Γ : Context} {i : Collection} (f : Function) {a s t : Kind} → Collected Γ i a s → with_kept (function_output (names_of_values Γ) f) s ≡ Some t → Collected Γ (kept_members i f) a t
+with_kept_members : {Γ : Context} {i : Collection} (f : Function) {a s t : Kind} → Collected Γ i a s → finds_kept (function_output (names_of_values Γ) f) s ≡ Some t → Collected Γ (Trees.kept i f) a t
 with_kept_members {Γ} {i} f {a} (collected_as {k = k} {b = b} C) h =
     let R = names_of_values Γ in
     let truth = found_is (function_output R f (kind_of_keys k)) (λ q. only q bool_kind (Some (table_kind k b))) h in
     let same = only_is truth.0 bool_kind (Some (table_kind k b)) truth.2 in
-    subst (Collected Γ (kept_members i f) a) (same_some same.1) (collected_as (collects_kept C (output_takes R f (kind_of_keys k) bool_kind (truth.1 ∙ ap Some same.0))))
+    subst (Collected Γ (Trees.kept i f) a) (same_some same.1) (collected_as (collects_kept C (output_takes R f (kind_of_keys k) bool_kind (truth.1 ∙ ap Some same.0))))
 
 both_collected : {Γ : Context} {j : Expression} {i h : Collection} {a t : Kind} → HasType (names_of_values Γ) j bool_kind → Collected Γ i a t → Collected Γ h a t → Collected Γ (chosen j i h) a t
 both_collected I (collected_as C) (collected_as D) = collected_as (collects_chosen I C D)
@@ -515,7 +516,7 @@ mutual
   form_found Γ (transformed f t) a b h = changed_first Γ f t (within Γ t (form_found Γ t)) a b (function_output (names_of_values Γ) f a) refl h
   form_found Γ (switching (Basic w) t p u) a b h = switches Γ w t p u (within Γ t (form_found Γ t)) (λ Δ. within Δ u (form_found Δ u)) a b h
   form_found Γ (switching (Recurring w) t p u) a b h = recurs Γ w t p u (within Γ t (form_found Γ t)) (λ Δ. within Δ u (form_found Δ u)) a b h
-  form_found Γ (keeping w t q k p u) a b h = keepings Γ w t q k p u (within Γ t (form_found Γ t)) (within Γ q (form_found Γ q)) (λ Δ. within Δ u (form_found Δ u)) a b h
+  form_found Γ (continuing w t q k p u) a b h = keepings Γ w t q k p u (within Γ t (form_found Γ t)) (within Γ q (form_found Γ q)) (λ Δ. within Δ u (form_found Δ u)) a b h
   form_found Γ (gathered i) a b h = gathers (collection_found Γ i a b h)
   form_found Γ (releasing w i q k p u) a b h =
       let given = found_is (collection_output Γ i a) (λ t. found_then (term_output Γ q (pair_kind a t)) (λ e. found_then (payload_of e) (λ c. found_then (inside_members k a t Γ) (λ Δ. body_output Δ p (λ Δ. term_output Δ u) c a t)))) h in
@@ -534,10 +535,10 @@ mutual
       let given = found_is (collection_output Γ i a) (with_member (expression_type (names_of_values Γ) j) (term_output Γ u a)) h in
       with_added j u (within Γ u (form_found Γ u)) (collection_found Γ i a given.0 given.1) given.2
   collection_found Γ (dropped i j) a t h =
-      let given = found_is (collection_output Γ i a) (with_key (expression_type (names_of_values Γ) j)) h in
+      let given = found_is (collection_output Γ i a) (keyed_table (expression_type (names_of_values Γ) j)) h in
       with_dropped j (collection_found Γ i a given.0 given.1) given.2
-  collection_found Γ (kept_members i f) a t h =
-      let given = found_is (collection_output Γ i a) (with_kept (function_output (names_of_values Γ) f)) h in
+  collection_found Γ (Trees.kept i f) a t h =
+      let given = found_is (collection_output Γ i a) (finds_kept (function_output (names_of_values Γ) f)) h in
       with_kept_members f (collection_found Γ i a given.0 given.1) given.2
   collection_found Γ (chosen j i k) a t h = chosen_found Γ j i k a t (collection_found Γ i a) (collection_found Γ k a) h
 
@@ -576,8 +577,8 @@ body_found Γ {p} u a {b} {c} f B g =
     ∙ ap (λ o. found_then o (λ d. only d b (Some d))) g
     ∙ ap (λ s. cond s (Some b) None) (is_same b)
 
-key_with : {key : Option Kind} {k : KeyKind} {b : Kind} → key ≡ Some (kind_of_keys k) → with_key key (table_kind k b) ≡ Some (table_kind k b)
-key_with {k = k} {b = b} e = ap (λ q. with_key q (table_kind k b)) e ∙ ap (λ s. cond s (Some (table_kind k b)) None) (is_same (kind_of_keys k))
+key_with : {key : Option Kind} {k : KeyKind} {b : Kind} → key ≡ Some (kind_of_keys k) → keyed_table key (table_kind k b) ≡ Some (table_kind k b)
+key_with {k = k} {b = b} e = ap (λ q. keyed_table q (table_kind k b)) e ∙ ap (λ s. cond s (Some (table_kind k b)) None) (is_same (kind_of_keys k))
 
 member_with : {key output : Option Kind} {k : KeyKind} {b : Kind} → key ≡ Some (kind_of_keys k) → output ≡ Some b → with_member key output (table_kind k b) ≡ Some (table_kind k b)
 member_with {key} {output} {k} {b} e f =
@@ -618,7 +619,7 @@ mutual
   form_is {Γ} f (recurring_takes {u = u} {p = p} {a = a} {b = b} {c = c} F B G) =
       ap (λ o. found_then o (λ d. body_output Γ p (λ Δ. term_output Δ u) c a d)) (takes_found F)
       ∙ body_found Γ (λ Δ. term_output Δ u) a (part_fits a c f) B (takes_found G)
-  form_is {Γ} f (keeping_takes {t = t} {q = q} {u = u} {k = k} {p = p} {a = a} {b = b} {c = c} F H B G) =
+  form_is {Γ} f (continuing_takes {t = t} {q = q} {u = u} {k = k} {p = p} {a = a} {b = b} {c = c} F H B G) =
       ap (λ o. found_then o (λ d. found_then (term_output Γ q (pair_kind a d)) (λ e. found_then (payload_of e) (λ c. body_output (inside_process k a d Γ) p (λ Δ. term_output Δ u) c a d)))) (takes_found F)
       ∙ ap (λ o. found_then o (λ e. found_then (payload_of e) (λ c. body_output (inside_process k a b Γ) p (λ Δ. term_output Δ u) c a b))) (takes_found H)
       ∙ body_found (inside_process k a b Γ) (λ Δ. term_output Δ u) a (event_part_fits c (output_fits H)) B (takes_found G)
@@ -637,8 +638,8 @@ mutual
   collects_found (collects_used {k = k} {a = a} {b = b} h) = ap (λ o. used_output o a) h ∙ ap (λ s. cond s (Some (table_kind k b)) None) (is_same a)
   collects_found {Γ} (collects_added {j = j} {t = t} {k = k} {a = a} {b = b} C I T) =
       ap (λ o. found_then o (with_member (expression_type (names_of_values Γ) j) (term_output Γ t a))) (collects_found C) ∙ member_with (typed_found I) (takes_found T)
-  collects_found {Γ} (collects_dropped {j = j} {k = k} {b = b} C I) = ap (λ o. found_then o (with_key (expression_type (names_of_values Γ) j))) (collects_found C) ∙ key_with (typed_found I)
-  collects_found {Γ} (collects_kept {f = f} {k = k} {b = b} C F) = ap (λ o. found_then o (with_kept (function_output (names_of_values Γ) f))) (collects_found C) ∙ ap (λ o. found_then o (λ d. only d bool_kind (Some (table_kind k b)))) (takes_output F)
+  collects_found {Γ} (collects_dropped {j = j} {k = k} {b = b} C I) = ap (λ o. found_then o (keyed_table (expression_type (names_of_values Γ) j))) (collects_found C) ∙ key_with (typed_found I)
+  collects_found {Γ} (collects_kept {f = f} {k = k} {b = b} C F) = ap (λ o. found_then o (finds_kept (function_output (names_of_values Γ) f))) (collects_found C) ∙ ap (λ o. found_then o (λ d. only d bool_kind (Some (table_kind k b)))) (takes_output F)
   collects_found {Γ} (collects_chosen {j = j} {i = i} {h = h} {k = k} {a = a} {b = b} I C D) = both_with (typed_found I) (collects_found C) (collects_found D)
 
   arguments_are : {Γ : Context} {vs : Arguments} {qs : Bindings} → ArgumentsFit Γ vs qs → arguments_fit Γ vs qs ≡ true

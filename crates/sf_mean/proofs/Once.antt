@@ -9,10 +9,10 @@ use Rattle.sf_term.specs.declared.form.Join.TheVariants.{InSequence}
 use Rattle.sf_term.specs.declared.form.Observation.{Observation}
 use Rattle.sf_term.specs.Trees.{Term}
 use Rattle.sf_mean.specs.Lives.{Step, input_of, Life, Process, closure, Members, no_members, Environment, scope_around, relay, observed_life, fed}
-use Rattle.sf_mean.specs.Collections.{with_row}
+use Rattle.sf_mean.specs.Collections.{leading_row}
 use Rattle.std.specs.Prelude.{option_map}
-use Rattle.sf_mean.specs.Formulas.{at_first, occurring, with_side}
-use Rattle.sf_mean.specs.Meaning.{Network, Outcome, gave, faulted, changed, combined, value_in, answered_by, newest_or, Cost, both_costs, over, over_first, Made, nothing_made, right_life, join_value, Watched, itself, observed, Takeover, Standing, waits, fired, stands_after, switched_value, body_of, whenever, body_with, body_with_members, edit_of, since_edit, Gives, gives, Outputs, not_begun, and_gave, Sample, of_constants, of_form, of_resumed, Form, of_primitive, of_reference, of_join, of_side, of_loop, of_initialized, of_replaced, of_followed, of_transformed, of_switch, of_keeping, of_recurring, of_gathered, of_releasing, of_editing, of_stages, over_stages, event_beside, unless_faulted, without_event, Next, goes_on, stops, Loops, no_loop, and_looped, Sees, beside_values, by_observer, Since, at_start, watched, had_fired, SwitchTurn, while_waiting, as_body, Switched, after_fault, after_value, Fires, no_event_yet, event_now, Each, no_more, one_more, Others, others_go_on, others_stop, Edited, no_edit, edit_failed, edit_now, observed_members, by_members_observer, Tables, no_tables, and_table}
+use Rattle.sf_mean.specs.Formulas.{at_first, occurring, side_replaced}
+use Rattle.sf_mean.specs.Meaning.{Network, Outcome, gave, faulted, changed, combined, outcome_value, answered_by, newest_or, Cost, both_costs, over, over_first, Made, nothing_made, right_life, join_value, Watched, itself, observed, Takeover, Standing, waits, fired, stands_after, switched_value, body_of, whenever, continuing_body, body_with_members, edit_of, since_edit, Gives, gives, Outputs, not_begun, and_gave, Sample, of_constants, of_form, of_resumed, Form, of_primitive, of_reference, of_join, of_side, of_loop, of_initialized, of_replaced, of_followed, of_transformed, of_switch, of_continuing, of_recurring, of_gathered, of_releasing, of_editing, of_stages, over_stages, event_beside, unless_faulted, without_event, Next, goes_on, stops, Loops, no_loop, and_looped, Sees, beside_values, by_observer, Since, at_start, watched, had_fired, SwitchTurn, while_waiting, as_body, Switched, after_fault, after_value, Fires, no_event_yet, event_now, Each, no_more, one_more, Others, others_go_on, others_stop, Edited, no_edit, edit_failed, edit_now, observed_members, by_members_observer, Tables, no_tables, and_table}
 
 -- two outcomes are one, at one cost
 abbrev pub Same : Outcome → Outcome → Cost → Cost → Type 0
@@ -41,7 +41,7 @@ module _ (n : Network) where
 
     pub onces : {P : Process} {L : Life} {ys zs : List Data} → Outputs n P L ys → Outputs n P L zs → ys ≡ zs
     onces not_begun not_begun = refl
-    onces (and_gave A B) (and_gave A' B') = ap₂ (λ y ys. y ∷ ys) (ap value_in (once_sample B B').0) (onces A A')
+    onces (and_gave A B) (and_gave A' B') = ap₂ (λ y ys. y ∷ ys) (ap outcome_value (once_sample B B').0) (onces A A')
 
     pub once_sample : {P : Process} {s : Step} {L : Life} {a b : Outcome} {c d : Cost} → Sample n P s L a c → Sample n P s L b d → Same a b c d
     once_sample (of_constants h) (of_constants h') = (ap (λ q. faulted (fault_of q)) (sym h ∙ h'), refl)
@@ -58,10 +58,10 @@ module _ (n : Network) where
     once_form (of_join {j = j} {g = g} {e = e} {s = s} {L = L} A B C) (of_join {ys = zs} {o = q} {o' = b} {c' = d} A' B' C') =
         let e1 = onces A A' in
         let e2 = once B B' in
-        let N : Outcome → List Data → Type 0 = λ q l. Next n q g e (right_life j (s ∷ L) (value_in q ∷ l)) b d in
+        let N : Outcome → List Data → Type 0 = λ q l. Next n q g e (right_life j (s ∷ L) (outcome_value q ∷ l)) b d in
         let e3 = once_next C (subst₂ N (sym e2.0) (sym e1) C') in
         (ap₂ (combined (join_value j)) e2.0 e3.0, ap₂ (λ x y. over (both_costs x y)) e2.1 e3.1)
-    once_form (of_side {d = d} {s = s} A) (of_side B) = let q = once A B in (ap (changed (with_side d (input_of s))) q.0, ap over q.1)
+    once_form (of_side {d = d} {s = s} A) (of_side B) = let q = once A B in (ap (changed (side_replaced d (input_of s))) q.0, ap over q.1)
     once_form (of_loop {t = t} {e = e} {v = v} {s = s} {L = L} A B) (of_loop {o = b} {c = d} A' B') =
         let N : List Data → Type 0 = λ zs. Gives n (closure t e) (fed v (s ∷ L) zs) b d in
         let q = once B (subst N (sym (once_loops A A')) B') in
@@ -75,8 +75,8 @@ module _ (n : Network) where
     once_form (of_switch {w = w} {t = t} {u = u} {p = p} {e = e} {s = s} {L = L} A B) (of_switch {o = b} {c = c} A' B') =
         let N : Standing → Type 0 = λ st. SwitchTurn n w (itself (closure t e)) (whenever (body_of p u e)) s L st b c in
         once_turn B (subst N (sym (once_since A A')) B')
-    once_form (of_keeping {w = w} {t = t} {q = q} {u = u} {k = k} {p = p} {e = e} {s = s} {L = L} A B) (of_keeping {o = b} {c = c} A' B') =
-        let N : Standing → Type 0 = λ st. SwitchTurn n w (observed (closure t e) q e) (body_with k (closure t e) p u e) s L st b c in
+    once_form (of_continuing {w = w} {t = t} {q = q} {u = u} {k = k} {p = p} {e = e} {s = s} {L = L} A B) (of_continuing {o = b} {c = c} A' B') =
+        let N : Standing → Type 0 = λ st. SwitchTurn n w (observed (closure t e) q e) (continuing_body k (closure t e) p u e) s L st b c in
         once_turn B (subst N (sym (once_since A A')) B')
     once_form (of_recurring {w = w} {u = u} {p = p} {e = e} {s = s} A B) (of_recurring {o' = b} {c' = d} A' B') =
         let e1 = once A A' in
@@ -97,7 +97,7 @@ module _ (n : Network) where
     once_form (of_stages {x = x} {g = g} {e = e} {s = s} {L = L} A B C) (of_stages {ys = zs} {o = q} {o' = b} {c' = d} A' B' C') =
         let e1 = onces A A' in
         let e2 = once B B' in
-        let N : Outcome → List Data → Type 0 = λ q l. Next n q g e (relay (s ∷ L) (value_in q ∷ l)) b d in
+        let N : Outcome → List Data → Type 0 = λ q l. Next n q g e (relay (s ∷ L) (outcome_value q ∷ l)) b d in
         let e3 = once_next C (subst₂ N (sym e2.0) (sym e1) C') in
         (ap₂ (combined (join_value InSequence)) e2.0 e3.0, ap₂ (λ a b. over_stages x (both_costs a b)) e2.1 e3.1)
 
@@ -111,26 +111,26 @@ module _ (n : Network) where
         let N : List Data → Type 0 = λ zs. Gives n P (fed v (s ∷ L) zs) (gave z r) d in
         let e1 = once_loops A A' in
         let q = once B (subst N (sym e1) B') in
-        ap₂ (λ y ys. y ∷ ys) (ap value_in q.0) e1
+        ap₂ (λ y ys. y ∷ ys) (ap outcome_value q.0) e1
 
     pub once_sees : {W : Watched} {s : Step} {L : Life} {a b : Outcome} {c d : Cost} → Sees n W s L a c → Sees n W s L b d → Same a b c d
     once_sees (beside_values A) (beside_values B) = once A B
     once_sees (by_observer {q = t} {e = e} {s = s} {L = L} A B C) (by_observer {ys = zs} {o = q} {o' = b} {c' = d} A' B' C') =
         let e1 = onces A A' in
         let e2 = once B B' in
-        let N : Outcome → List Data → Type 0 = λ q l. Next n q t e (observed_life (s ∷ L) (value_in q ∷ l)) b d in
+        let N : Outcome → List Data → Type 0 = λ q l. Next n q t e (observed_life (s ∷ L) (outcome_value q ∷ l)) b d in
         let e3 = once_next C (subst₂ N (sym e2.0) (sym e1) C') in
         (ap₂ (combined pair) e2.0 e3.0, ap₂ both_costs e2.1 e3.1)
     once_sees (by_members_observer {q = t} {e = e} {s = s} {L = L} A B C) (by_members_observer {ys = zs} {o = q} {o' = b} {c' = d} A' B' C') =
         let e1 = once_tables A A' in
         let e2 = once_each B B' in
-        let N : Outcome → List Data → Type 0 = λ q l. Next n q t e (observed_life (s ∷ L) (value_in q ∷ l)) b d in
+        let N : Outcome → List Data → Type 0 = λ q l. Next n q t e (observed_life (s ∷ L) (outcome_value q ∷ l)) b d in
         let e3 = once_next C (subst₂ N (sym e2.0) (sym e1) C') in
         (ap₂ (combined pair) e2.0 e3.0, ap₂ both_costs e2.1 e3.1)
 
     pub once_since : {W : Watched} {B : Takeover} {L : Life} {a b : Standing} → Since n W B L a → Since n W B L b → a ≡ b
     once_since at_start at_start = refl
-    once_since (watched {B = T} {s = s} {L = L} A B h) (watched A' B' h') = sym h ∙ ap (λ o. stands_after T s L (occurring (second_of (value_in o)))) (once_sees B B').0 ∙ h'
+    once_since (watched {B = T} {s = s} {L = L} A B h) (watched A' B' h') = sym h ∙ ap (λ o. stands_after T s L (occurring (second_of (outcome_value o)))) (once_sees B B').0 ∙ h'
     once_since (watched A B h) (had_fired A') = absurd (not_both (once_since A A'))
     once_since (had_fired A) (watched A' B' h') = absurd (not_both (sym (once_since A A')))
     once_since (had_fired {s = s} A) (had_fired A') = ap (later_standing s) (once_since A A')
@@ -153,7 +153,7 @@ module _ (n : Network) where
 
     pub once_tables : {ms : Members} {L : Life} {ys zs : List Data} → Tables n ms L ys → Tables n ms L zs → ys ≡ zs
     once_tables no_tables no_tables = refl
-    once_tables (and_table A B) (and_table A' B') = ap₂ (λ y ys. y ∷ ys) (ap value_in (once_each B B').0) (once_tables A A')
+    once_tables (and_table A B) (and_table A' B') = ap₂ (λ y ys. y ∷ ys) (ap outcome_value (once_each B B').0) (once_tables A A')
 
     pub once_each : {ms : Members} {s : Step} {L : Life} {a b : Outcome} {c d : Cost} → Each n ms s L a c → Each n ms s L b d → Same a b c d
     once_each no_more no_more = (refl, refl)
@@ -161,7 +161,7 @@ module _ (n : Network) where
         let e1 = once A A' in
         let N : Outcome → Type 0 = λ q. Others n q ms s L b d in
         let e2 = once_others B (subst N (sym e1.0) B') in
-        (ap₂ (combined (with_row k)) e1.0 e2.0, ap₂ both_costs e1.1 e2.1)
+        (ap₂ (combined (leading_row k)) e1.0 e2.0, ap₂ both_costs e1.1 e2.1)
 
     pub once_others : {q : Outcome} {ms : Members} {s : Step} {L : Life} {a b : Outcome} {c d : Cost} → Others n q ms s L a c → Others n q ms s L b d → Same a b c d
     once_others (others_go_on A) (others_go_on B) = once_each A B

@@ -15,13 +15,14 @@ use Rattle.sf_term.specs.declared.form.Observation.{Observation}
 use Rattle.sf_term.specs.declared.form.Start.{Start}
 use Rattle.sf_term.specs.declared.form.Start.TheVariants.{Run, Fresh}
 use Rattle.sf_term.specs.declared.form.Switching.TheVariants.{Basic, Recurring}
-use Rattle.sf_term.specs.Trees.{Extent, Term, primitive, reference, started, call, joined, sided, headed, transformed, switching, keeping, gathered, releasing, editing, staged, Collection, without_members, used, added, dropped, kept, chosen}
-use Rattle.sf_mean.specs.Lives.{Step, step, wait_of, input_of, Life, Process, closure, resumed, Environment, empty, known as known_name, running, collected, Members, no_members, member, members_of, process_of, base, process_started, passing, scope_around, bind, after, frozen, each_frozen, with_inputs, observed_life, fed, fed_back, older, first_input as input_at_first}
-use Rattle.sf_mean.specs.Formulas.{occurring, at_first, side_of, with_first, is_high}
+use Rattle.sf_term.specs.Trees.{Extent, Term, primitive, reference, started, call, joined, sided, headed, transformed, switching, continuing, gathered, releasing, editing, staged, Collection, without_members, used, added, dropped, kept, chosen}
+use Rattle.sf_mean.specs.Lives.{Step, step, wait_of, input_of, Life, Process, closure, resumed, Environment, empty, running, collected, Members, no_members, member, members_of, process_of, base, process_started, passing, scope_around, bind, after, frozen, each_frozen, with_inputs, observed_life, fed, fed_back, older, first_input}
+use Rattle.sf_mean.specs.Lives
+use Rattle.sf_mean.specs.Formulas.{occurring, at_first, side_of, first_replaced, is_high}
 use Rattle.sf_mean.specs.Collections.{as_key, add, drop, keep, collect}
 use Rattle.sf_mean.proofs.TypedMembers.{bound_answer, same_answer}
 use Rattle.sf_mean.proofs.Refrozen.{frozen_base}
-use Rattle.sf_mean.specs.Meaning.{Network, Outcome, gave, faulted, Cost, Made, value_made, process_made, members_made, make, left_life, right_life, Watched, itself, observed, Takeover, Standing, waits, fired, stands_after, body_of, whenever, body_with, body_with_members, Edit, edit_of, since_edit, edited, which_run, event_beside, or_earlier, last_event, kept_before, since_event, what_runs, unless_faulted, without_event, Gives, gives, Outputs, not_begun, and_gave, Sample, of_constants, of_form, of_resumed, Form, of_primitive, of_reference, of_join, of_side, of_loop, of_initialized, of_replaced, of_followed, of_transformed, of_switch, of_keeping, of_recurring, of_gathered, of_releasing, of_editing, of_stages, goes_on, stops, Loops, no_loop, and_looped, Sees, beside_values, by_observer, Since, at_start, watched, had_fired, SwitchTurn, while_waiting, as_body, after_fault, after_value, Fires, no_event_yet, event_now, Each, no_more, one_more, others_go_on, others_stop, Edited, no_edit, edit_failed, edit_now, observed_members, by_members_observer, Tables, no_tables, and_table}
+use Rattle.sf_mean.specs.Meaning.{Network, Outcome, gave, faulted, Cost, Made, value_made, process_made, members_made, make, left_life, right_life, Watched, itself, observed, Takeover, Standing, waits, fired, stands_after, body_of, whenever, continuing_body, body_with_members, Edit, edit_of, since_edit, edited, which_run, event_beside, or_earlier, last_event, kept_before, since_event, what_runs, unless_faulted, without_event, Gives, gives, Outputs, not_begun, and_gave, Sample, of_constants, of_form, of_resumed, Form, of_primitive, of_reference, of_join, of_side, of_loop, of_initialized, of_replaced, of_followed, of_transformed, of_switch, of_continuing, of_recurring, of_gathered, of_releasing, of_editing, of_stages, goes_on, stops, Loops, no_loop, and_looped, Sees, beside_values, by_observer, Since, at_start, watched, had_fired, SwitchTurn, while_waiting, as_body, after_fault, after_value, Fires, no_event_yet, event_now, Each, no_more, one_more, others_go_on, others_stop, Edited, no_edit, edit_failed, edit_now, observed_members, by_members_observer, Tables, no_tables, and_table}
 use Rattle.sf_mean.specs.Soundness.{is_without_calls, HasNoCalls, closed_without_calls, frozen_without_calls, HaveNoCalls, none_calls, value_without_calls, process_without_calls, HasLived, closed, was_frozen, HaveLived, none_lived, value_beside, process_lived, collects_without_calls, EachHasNoCalls, none_without_calls, one_without_calls, members_without_calls, EachHasLived, none_has_lived, one_has_lived, collection_lived}
 use Rattle.sf_mean.proofs.TypedProcesses.{made_in}
 use Rattle.sf_mean.proofs.Once.{not_both}
@@ -169,7 +170,7 @@ module _ (n : Network) where
   loop_lived k not_begun = looped no_loop (lived not_begun)
   loop_lived k (and_gave A B) = loop_at k B tt
 
-  no_fault : {t : Term} {e : Environment} {x : ValueFault} {s : Step} {L : Life} {q : Outcome} {c : Cost} → make n t e (input_at_first s L) ≡ failed x → Sample n (closure t e) s L q c → IsGave q → ⊥
+  no_fault : {t : Term} {e : Environment} {x : ValueFault} {s : Step} {L : Life} {q : Outcome} {c : Cost} → make n t e (first_input s L) ≡ failed x → Sample n (closure t e) s L q c → IsGave q → ⊥
   no_fault k (of_constants h) z = z
   no_fault k (of_form h F) z = absurd (let e = sym k ∙ h in cc)
 
@@ -193,7 +194,7 @@ module _ (n : Network) where
       → Has (closure t e) (step (wait_of s) (pair (input_of s) (fed_back v zs))) (fed v L (older zs)) → Has (closure (headed LoopPre i t) e) s L
   with_loop k A B (has S) = has (of_form (ap opened k) (of_loop A (gives B S)))
 
-  constants_fail : {t : Term} {e : Environment} {x : ValueFault} (s : Step) {L : Life} {ws : List Data} → make n t e (input_at_first s L) ≡ failed x → Outputs n (closure t e) L ws → Has (closure t e) s L
+  constants_fail : {t : Term} {e : Environment} {x : ValueFault} (s : Step) {L : Life} {ws : List Data} → make n t e (first_input s L) ≡ failed x → Outputs n (closure t e) L ws → Has (closure t e) s L
   constants_fail s k not_begun = has (of_constants k)
   constants_fail s k (and_gave A B) = absurd (no_fault k B tt)
 
@@ -213,22 +214,22 @@ module _ (n : Network) where
       → eval i (scope_around n.functions e) ≡ answer v → Outputs n (closure t e) L us → Has (closure t e) s L → Has (closure (headed Initialized i t) e) s L
   with_initial k A (has S) = has (of_form (ap opened k) (of_initialized (gives A S)))
 
-  from_replaced : {i : Expression} {t : Term} {e : Environment} {v : Data} {m : Made} {s : Step} {L : Life} {q : Outcome} {c : Cost} → m ≡ value_made v → Form n (headed Replaced i t) e m s L q c → IsGave q → Lived (closure t e) (with_first v (s ∷ L))
+  from_replaced : {i : Expression} {t : Term} {e : Environment} {v : Data} {m : Made} {s : Step} {L : Life} {q : Outcome} {c : Cost} → m ≡ value_made v → Form n (headed Replaced i t) e m s L q c → IsGave q → Lived (closure t e) (first_replaced v (s ∷ L))
   from_replaced {t = t} {e = e} {v = v} k (of_replaced {v = w} {s = s} {L = L} {o = gave y r} B) h =
-      let N : Data → Type 0 = λ x. Lived (closure t e) (with_first x (s ∷ L)) in
+      let N : Data → Type 0 = λ x. Lived (closure t e) (first_replaced x (s ∷ L)) in
       subst N (ap (λ m. made_in v (answer m)) k) (whole B tt)
   from_replaced k (of_replaced {o = faulted x} B) h = absurd h
 
-  replaced_at : {i : Expression} {t : Term} {e : Environment} {v : Data} {s : Step} {L : Life} {q : Outcome} {c : Cost} → eval i (scope_around n.functions e) ≡ answer v → Sample n (closure (headed Replaced i t) e) s L q c → IsGave q → Lived (closure t e) (with_first v (s ∷ L))
+  replaced_at : {i : Expression} {t : Term} {e : Environment} {v : Data} {s : Step} {L : Life} {q : Outcome} {c : Cost} → eval i (scope_around n.functions e) ≡ answer v → Sample n (closure (headed Replaced i t) e) s L q c → IsGave q → Lived (closure t e) (first_replaced v (s ∷ L))
   replaced_at k (of_constants h) z = absurd z
   replaced_at {v = v} k (of_form {m = m} h F) z = from_replaced (ap (λ q. made_of q m) (sym h ∙ ap opened k)) F z
 
-  replaced_lived : {i : Expression} {t : Term} {e : Environment} {v : Data} {L : Life} {ws : List Data} → eval i (scope_around n.functions e) ≡ answer v → Outputs n (closure (headed Replaced i t) e) L ws → Lived (closure t e) (with_first v L)
+  replaced_lived : {i : Expression} {t : Term} {e : Environment} {v : Data} {L : Life} {ws : List Data} → eval i (scope_around n.functions e) ≡ answer v → Outputs n (closure (headed Replaced i t) e) L ws → Lived (closure t e) (first_replaced v L)
   replaced_lived k not_begun = lived not_begun
   replaced_lived k (and_gave A B) = replaced_at k B tt
 
   with_replaced : {i : Expression} {t : Term} {e : Environment} {v : Data} {s : Step} {L : Life} {us : List Data}
-      → eval i (scope_around n.functions e) ≡ answer v → Outputs n (closure t e) (with_first v L) us → Has (closure t e) (step (wait_of s) (at_first L v (input_of s))) (with_first v L) → Has (closure (headed Replaced i t) e) s L
+      → eval i (scope_around n.functions e) ≡ answer v → Outputs n (closure t e) (first_replaced v L) us → Has (closure t e) (step (wait_of s) (at_first L v (input_of s))) (first_replaced v L) → Has (closure (headed Replaced i t) e) s L
   with_replaced k A (has S) = has (of_form (ap opened k) (of_replaced (gives A S)))
 
   from_followed : {i : Expression} {t : Term} {e : Environment} {m : Made} {s : Step} {L : Life} {q : Outcome} {c : Cost} → Form n (headed Followed i t) e m s L q c → IsGave q → Lived (closure t e) (s ∷ L)
@@ -246,22 +247,22 @@ module _ (n : Network) where
   with_followed : {i : Expression} {t : Term} {e : Environment} {s : Step} {L : Life} {us : List Data} → Outputs n (closure t e) L us → Has (closure t e) s L → Has (closure (headed Followed i t) e) s L
   with_followed A (has S) = has (of_form refl (of_followed A (gives A S)))
 
-  from_transformed : {f : Function} {t : Term} {e : Environment} {v : Data} {m : Made} {s : Step} {L : Life} {q : Outcome} {c : Cost} → m ≡ value_made v → Form n (transformed f t) e m s L q c → IsGave q → Lived (closure t e) (with_first v (s ∷ L))
+  from_transformed : {f : Function} {t : Term} {e : Environment} {v : Data} {m : Made} {s : Step} {L : Life} {q : Outcome} {c : Cost} → m ≡ value_made v → Form n (transformed f t) e m s L q c → IsGave q → Lived (closure t e) (first_replaced v (s ∷ L))
   from_transformed {t = t} {e = e} {v = v} k (of_transformed {v = w} {s = s} {L = L} {o = gave y r} B) h =
-      let N : Data → Type 0 = λ x. Lived (closure t e) (with_first x (s ∷ L)) in
+      let N : Data → Type 0 = λ x. Lived (closure t e) (first_replaced x (s ∷ L)) in
       subst N (ap (λ m. made_in v (answer m)) k) (whole B tt)
   from_transformed k (of_transformed {o = faulted x} B) h = absurd h
 
-  transformed_at : {f : Function} {t : Term} {e : Environment} {v : Data} {s : Step} {L : Life} {q : Outcome} {c : Cost} → apply f (input_at_first s L) (scope_around n.functions e) ≡ answer v → Sample n (closure (transformed f t) e) s L q c → IsGave q → Lived (closure t e) (with_first v (s ∷ L))
+  transformed_at : {f : Function} {t : Term} {e : Environment} {v : Data} {s : Step} {L : Life} {q : Outcome} {c : Cost} → apply f (first_input s L) (scope_around n.functions e) ≡ answer v → Sample n (closure (transformed f t) e) s L q c → IsGave q → Lived (closure t e) (first_replaced v (s ∷ L))
   transformed_at k (of_constants h) z = absurd z
   transformed_at {v = v} k (of_form {m = m} h F) z = from_transformed (ap (λ q. made_of q m) (sym h ∙ ap opened k)) F z
 
-  transformed_lived : {f : Function} {t : Term} {e : Environment} {v : Data} (s : Step) {L : Life} {ws : List Data} → apply f (input_at_first s L) (scope_around n.functions e) ≡ answer v → Outputs n (closure (transformed f t) e) L ws → Lived (closure t e) (with_first v L)
+  transformed_lived : {f : Function} {t : Term} {e : Environment} {v : Data} (s : Step) {L : Life} {ws : List Data} → apply f (first_input s L) (scope_around n.functions e) ≡ answer v → Outputs n (closure (transformed f t) e) L ws → Lived (closure t e) (first_replaced v L)
   transformed_lived s k not_begun = lived not_begun
   transformed_lived s k (and_gave A B) = transformed_at k B tt
 
-  with_transformed : {f : Function} {t : Term} {e : Environment} {v : Data} {s : Step} {L : Life} {us : List Data} → apply f (input_at_first s L) (scope_around n.functions e) ≡ answer v → Outputs n (closure t e) (with_first v L) us
-      → Has (closure t e) (step (wait_of s) (at_first L v (input_of s))) (with_first v L) → Has (closure (transformed f t) e) s L
+  with_transformed : {f : Function} {t : Term} {e : Environment} {v : Data} {s : Step} {L : Life} {us : List Data} → apply f (first_input s L) (scope_around n.functions e) ≡ answer v → Outputs n (closure t e) (first_replaced v L) us
+      → Has (closure t e) (step (wait_of s) (at_first L v (input_of s))) (first_replaced v L) → Has (closure (transformed f t) e) s L
   with_transformed k A (has S) = has (of_form (ap opened k) (of_transformed (gives A S)))
 
   -- ## Switches
@@ -343,16 +344,16 @@ module _ (n : Network) where
   switch_stood not_begun = still_waits at_start (itself_lived not_begun)
   switch_stood (and_gave A B) = switch_at B tt
 
-  from_keeping : {w : Observation} {t q u : Term} {k : Name} {p : Pattern} {e : Environment} {m : Made} {s : Step} {L : Life} {o : Outcome} {c : Cost} → Form n (keeping w t q k p u) e m s L o c → IsGave o → Stood (observed (closure t e) q e) (body_with k (closure t e) p u e) (s ∷ L)
-  from_keeping (of_keeping S T) h = turn_stood S T h
+  from_continuing : {w : Observation} {t q u : Term} {k : Name} {p : Pattern} {e : Environment} {m : Made} {s : Step} {L : Life} {o : Outcome} {c : Cost} → Form n (continuing w t q k p u) e m s L o c → IsGave o → Stood (observed (closure t e) q e) (continuing_body k (closure t e) p u e) (s ∷ L)
+  from_continuing (of_continuing S T) h = turn_stood S T h
 
-  keeping_at : {w : Observation} {t q u : Term} {k : Name} {p : Pattern} {e : Environment} {s : Step} {L : Life} {o : Outcome} {c : Cost} → Sample n (closure (keeping w t q k p u) e) s L o c → IsGave o → Stood (observed (closure t e) q e) (body_with k (closure t e) p u e) (s ∷ L)
-  keeping_at (of_constants h) i = absurd i
-  keeping_at (of_form h F) i = from_keeping F i
+  continuing_at : {w : Observation} {t q u : Term} {k : Name} {p : Pattern} {e : Environment} {s : Step} {L : Life} {o : Outcome} {c : Cost} → Sample n (closure (continuing w t q k p u) e) s L o c → IsGave o → Stood (observed (closure t e) q e) (continuing_body k (closure t e) p u e) (s ∷ L)
+  continuing_at (of_constants h) i = absurd i
+  continuing_at (of_form h F) i = from_continuing F i
 
-  keeping_stood : {w : Observation} {t q u : Term} {k : Name} {p : Pattern} {e : Environment} {L : Life} {ws : List Data} → Outputs n (closure (keeping w t q k p u) e) L ws → Stood (observed (closure t e) q e) (body_with k (closure t e) p u e) L
-  keeping_stood {t = t} {q = q} {e = e} not_begun = still_waits at_start (nothing_watched (observed (closure t e) q e))
-  keeping_stood (and_gave A B) = keeping_at B tt
+  continuing_stood : {w : Observation} {t q u : Term} {k : Name} {p : Pattern} {e : Environment} {L : Life} {ws : List Data} → Outputs n (closure (continuing w t q k p u) e) L ws → Stood (observed (closure t e) q e) (continuing_body k (closure t e) p u e) L
+  continuing_stood {t = t} {q = q} {e = e} not_begun = still_waits at_start (nothing_watched (observed (closure t e) q e))
+  continuing_stood (and_gave A B) = continuing_at B tt
 
   payload_fires : (w : Observation) {B : Data → Process} {s : Step} (o : Outcome) (q : Option Data) → ((v : Data) → Has (B v) s []) → (a : Outcome) × ((c : Cost) × Fires n w B s o q a c)
   payload_fires w o None body = (_, (_, no_event_yet))
@@ -422,7 +423,7 @@ module _ (n : Network) where
   -- and each process of an environment
   pub data AllGo : Environment → Type 0 where
     go_nothing : AllGo empty
-    go_value : {x : Name} {d : Data} {e : Environment} → AllGo e → AllGo (known_name x d e)
+    go_value : {x : Name} {d : Data} {e : Environment} → AllGo e → AllGo (Lives.known x d e)
     go_process : {x : Name} {P : Process} {e : Environment} → GoesAnew P → AllGo e → AllGo (running x P e)
     go_members : {x : Name} {ms : Members} {e : Environment} → EachGoes ms → AllGo e → AllGo (collected x ms e)
 
@@ -507,17 +508,17 @@ module _ (n : Network) where
       → Turns w (itself (closure t e)) (whenever (body_of p u e)) s L st → Has (closure (switching (Basic w) t p u) e) s L
   switch_has S (turns T) = has (of_form refl (of_switch S T))
 
-  keeping_has : {w : Observation} {t q u : Term} {k : Name} {p : Pattern} {e : Environment} {s : Step} {L : Life} {st : Standing} → Since n (observed (closure t e) q e) (body_with k (closure t e) p u e) L st
-      → Turns w (observed (closure t e) q e) (body_with k (closure t e) p u e) s L st → Has (closure (keeping w t q k p u) e) s L
-  keeping_has S (turns T) = has (of_form refl (of_keeping S T))
+  continuing_has : {w : Observation} {t q u : Term} {k : Name} {p : Pattern} {e : Environment} {s : Step} {L : Life} {st : Standing} → Since n (observed (closure t e) q e) (continuing_body k (closure t e) p u e) L st
+      → Turns w (observed (closure t e) q e) (continuing_body k (closure t e) p u e) s L st → Has (closure (continuing w t q k p u) e) s L
+  continuing_has S (turns T) = has (of_form refl (of_continuing S T))
 
   body_turns : {w : Observation} {W : Watched} {B : Takeover} {s : Step} {L M : Life} {Q : Process} {ys : List Data} → Outputs n Q M ys → Has Q s M → Turns w W B s L (fired Q M)
   body_turns A (has S) = turns (as_body (gives A S))
 
   -- what keeps its source takes over where that has lived
-  keeping_goes : {t : Term} (u : Term) (p : Pattern) {e : Environment} (k : Name) → Goes (closure t e) → ((f : Environment) → AllGo f → Goes (closure u f)) → AllGo e
-      → (s : Step) (K : Life) (v : Data) → Lived (closure t e) K → Goes (body_with k (closure t e) p u e s K v)
-  keeping_goes {t = t} u p {e = e} k G U E s K v (lived A) = U _ (bound_go p v (go_process (frozen_goes K (wait_of s) G A, subst Goes (sym (frozen_base (closure t e) K (wait_of s))) G) E))
+  continuing_goes : {t : Term} (u : Term) (p : Pattern) {e : Environment} (k : Name) → Goes (closure t e) → ((f : Environment) → AllGo f → Goes (closure u f)) → AllGo e
+      → (s : Step) (K : Life) (v : Data) → Lived (closure t e) K → Goes (continuing_body k (closure t e) p u e s K v)
+  continuing_goes {t = t} u p {e = e} k G U E s K v (lived A) = U _ (bound_go p v (go_process (frozen_goes K (wait_of s) G A, subst Goes (sym (frozen_base (closure t e) K (wait_of s))) G) E))
 
   -- ## Members
 
@@ -596,7 +597,7 @@ module _ (n : Network) where
 
   no_gathering : {x : ValueFault} {t : Term} {e : Environment} {s : Step} {L : Life} {o : Outcome} {c : Cost} → ((y : Data) → make n t e y ≡ failed x) → Sample n (closure t e) s L o c → IsGave o → ⊥
   no_gathering k (of_constants h) z = z
-  no_gathering {s = s} {L = L} k (of_form h F) z = absurd (let e = sym (k (input_at_first s L)) ∙ h in cc)
+  no_gathering {s = s} {L = L} k (of_form h F) z = absurd (let e = sym (k (first_input s L)) ∙ h in cc)
 
   gathering_fails : {x : ValueFault} {t : Term} {e : Environment} (s : Step) {L : Life} {ws : List Data} → ((y : Data) → make n t e y ≡ failed x) → Outputs n (closure t e) L ws → Has (closure t e) s L
   gathering_fails s k not_begun = has (of_constants (k (input_of s)))
@@ -739,7 +740,7 @@ module _ (n : Network) where
     total (headed Followed i t) e h E s L ws O =
         elim (followed_lived O) [ lived A ↦ with_followed A (total t e h E s L _ A) ]
     total (transformed f t) e h E s L ws O =
-        elim (known (apply f (input_at_first s L) (scope_around n.functions e))) [
+        elim (known (apply f (first_input s L) (scope_around n.functions e))) [
           | refused x k ↦ constants_fail s (ap opened k) O
           | answered v k ↦ elim (transformed_lived s k O) [ lived A ↦ with_transformed k A (total t e h E _ _ _ A) ]
         ]
@@ -760,17 +761,17 @@ module _ (n : Network) where
           | lived A ↦
               with_running A (run_has (body_of p u e) (last_event L) (λ A. total t e c.0 E _ _ _ A) (λ v A. total u (bind p v e) c.1 (bound_go p v E) _ _ _ A) A) (λ v. total u (bind p v e) c.1 (bound_go p v E) _ [] _ not_begun)
         ]
-    total (keeping w t q k p u) e h E s L ws O =
+    total (continuing w t q k p u) e h E s L ws O =
         let c = both_without (is_without_calls t) (is_without_calls q && is_without_calls u) h in
         let d = both_without (is_without_calls q) (is_without_calls u) c.1 in
-        let body = keeping_goes u p k (total t e c.0 E) (λ f F. total u f d.1 F) E in
-        elim (keeping_stood O) [
+        let body = continuing_goes u p k (total t e c.0 E) (λ f F. total u f d.1 F) E in
+        elim (continuing_stood O) [
           | still_waits S R ↦ elim R [
             | both_lived A Z ↦
                 let seen = sees_both A Z (total t e c.0 E s L _ A) (λ y. total q e d.0 E _ _ _ Z) in
-                keeping_has S (waiting_turns w seen.0 seen.1.1 (λ v. body s L v (lived A) s [] _ not_begun))
+                continuing_has S (waiting_turns w seen.0 seen.1.1 (λ v. body s L v (lived A) s [] _ not_begun))
           ]
-          | had_event S R ↦ elim R [ lived A ↦ keeping_has S (body_turns A (since_goes S refl body s _ _ A)) ]
+          | had_event S R ↦ elim R [ lived A ↦ continuing_has S (body_turns A (since_goes S refl body s _ _ A)) ]
         ]
     total (gathered i) e h E s L ws O =
         elim (known (collect n.functions i e)) [

@@ -5,8 +5,8 @@ use Rattle.sf_value.specs.Values.{Kind, pair_kind, Data, pair, HasKind, has_pair
 use Rattle.sf_expr.specs.Evaluation.{Evaluated}
 use Rattle.sf_expr.specs.Soundness.{Yields, yields, fails}
 use Rattle.sf_mean.specs.Lives.{Step, step, wait_of, input_of, Life, after, with_inputs, relay, observed_life, fed_back, older, fed, first_input}
-use Rattle.sf_mean.specs.Formulas.{at_first, with_first}
-use Rattle.sf_mean.specs.Meaning.{Readings, Outcome, gave, faulted, changed, combined, value_in, as_outcome, answered_by, newest_or}
+use Rattle.sf_mean.specs.Formulas.{at_first, first_replaced}
+use Rattle.sf_mean.specs.Meaning.{Readings, Outcome, gave, faulted, changed, combined, outcome_value, as_outcome, answered_by, newest_or}
 use Rattle.sf_mean.specs.Soundness.{Have, have_nothing, have_more, LifeHas, no_steps, more_steps, OutcomeHas}
 use Rattle.sf_mean.proofs.TypedPrimitives.{first_has}
 
@@ -20,7 +20,7 @@ pub with_inputs_has : {a b : Kind} {L : Life} (f : Data → Data) → ((v : Data
 with_inputs_has f m no_steps = no_steps
 with_inputs_has f m (more_steps {s = s} h l) = more_steps {s = step (wait_of s) (f (input_of s))} (m _ h) (with_inputs_has f m l)
 
-pub with_first_has : {a : Kind} {v : Data} {L : Life} → HasKind v a → LifeHas L a → LifeHas (with_first v L) a
+pub with_first_has : {a : Kind} {v : Data} {L : Life} → HasKind v a → LifeHas L a → LifeHas (first_replaced v L) a
 with_first_has i no_steps = no_steps
 with_first_has {v = v} i (more_steps {s = s} {L = L} h l) = more_steps {s = step (wait_of s) (at_first L v (input_of s))} (first_has L i h) (with_first_has i l)
 
@@ -89,10 +89,10 @@ pub life_if : {a : Kind} {L : Life} (o : Outcome) → LifeHas L a → LifeIf o L
 life_if (gave y r) l = l
 life_if (faulted x) l = tt
 
-pub beside_if : {a b : Kind} {L : Life} {ys : List Data} (o : Outcome) → OutcomeHas o b → LifeHas L a → Have ys b → LifeIf o (observed_life L (value_in o ∷ ys)) (pair_kind a b)
+pub beside_if : {a b : Kind} {L : Life} {ys : List Data} (o : Outcome) → OutcomeHas o b → LifeHas L a → Have ys b → LifeIf o (observed_life L (outcome_value o ∷ ys)) (pair_kind a b)
 beside_if (gave y r) h l k = beside_has l (have_more h k)
 beside_if (faulted x) h l k = tt
 
-pub relay_if : {a b : Kind} {L : Life} {ys : List Data} (o : Outcome) → OutcomeHas o b → LifeHas L a → Have ys b → LifeIf o (relay L (value_in o ∷ ys)) b
+pub relay_if : {a b : Kind} {L : Life} {ys : List Data} (o : Outcome) → OutcomeHas o b → LifeHas L a → Have ys b → LifeIf o (relay L (outcome_value o ∷ ys)) b
 relay_if (gave y r) h l k = relay_has l (have_more h k)
 relay_if (faulted x) h l k = tt

@@ -10,7 +10,7 @@ use Rattle.sf_operator.specs.FunctionForms.{value_of_key}
 use Rattle.sf_expr.specs.Evaluation.{Evaluated, answer, failed, ◌>>=◌}
 use Rattle.sf_mean.specs.Lives.{Life, Environment, Members, no_members, member, members_of, Process, frozen, each_frozen}
 use Rattle.sf_mean.specs.Formulas.{is_high}
-use Rattle.sf_mean.specs.Collections.{as_key, add, drop, keep, with_row}
+use Rattle.sf_mean.specs.Collections.{as_key, add, drop, keep, leading_row}
 use Rattle.sf_mean.specs.Contexts.{value, process, collection, Bindings, types_of_collection, collection_named}
 use Rattle.sf_mean.specs.Meaning.{Network, Outcome, gave, faulted, combined}
 use Rattle.sf_mean.specs.Soundness.{LifeHas, no_steps, more_steps, HaveNewKeys, ProcessTakes, resumed_takes, MembersTake, no_members_take, member_takes, EnvironmentHas, has_nothing, has_value, has_process, has_members, OutcomeHas}
@@ -166,7 +166,7 @@ rows_typed N (rows_of R S) = has_table R (S [] N)
 rows_typed N no_rows_of = tt
 
 -- one more row, or the first fault
-pub with_row_of : {l : KeyData} {P : Process} {ms : Members} {k : KeyKind} {b : Kind} → HasKeyKind l k → (o o' : Outcome) → OutcomeHas o b → RowsOf ms k b o' → RowsOf (member l P ms) k b (combined (with_row l) o o')
+pub with_row_of : {l : KeyData} {P : Process} {ms : Members} {k : KeyKind} {b : Kind} → HasKeyKind l k → (o o' : Outcome) → OutcomeHas o b → RowsOf ms k b o' → RowsOf (member l P ms) k b (combined (leading_row l) o o')
 with_row_of i (gave y r) (gave z q) h (rows_of R S) = rows_of (has_row i h R) (λ seen N. (N.0, S _ N.1))
 with_row_of i (gave y r) (faulted x) h R = no_rows_of
 with_row_of i (faulted x) o' h R = no_rows_of

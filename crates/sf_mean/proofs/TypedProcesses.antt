@@ -19,13 +19,13 @@ use Rattle.sf_term.specs.declared.form.Observation.{Observation}
 use Rattle.sf_term.specs.declared.form.Start.{Start}
 use Rattle.sf_term.specs.declared.form.Start.TheVariants.{Run, Fresh}
 use Rattle.sf_term.specs.declared.form.Observation.TheVariants.{Immediate, Delayed}
-use Rattle.sf_term.specs.Trees.{Chain, Primitive, Term, primitive, reference, started, call, Arguments, joined, sided, headed, transformed, switching, keeping, gathered, releasing, editing, staged, Collection, Template, Templates, template_named}
-use Rattle.sf_mean.specs.Lives.{Step, wait_of, input_of, Life, Environment, scope_around, bind, Process, process_of, base, process_started, passing, closure, empty, known, collected, Members, first_input as input_at_first}
+use Rattle.sf_term.specs.Trees.{Chain, Primitive, Term, primitive, reference, started, call, Arguments, joined, sided, headed, transformed, switching, continuing, gathered, releasing, editing, staged, Collection, Template, Templates, template_named}
+use Rattle.sf_mean.specs.Lives.{Step, wait_of, input_of, Life, Environment, scope_around, bind, Process, process_of, base, process_started, passing, closure, empty, known, collected, Members, first_input}
 use Rattle.sf_mean.specs.Collections.{as_key, add, drop, keep, collect}
-use Rattle.sf_mean.specs.Formulas.{timed_formula, occurring, next_value, accumulation, event_where, accumulated_formula, value_formula, with_side, apply_chain, formula, is_high}
-use Rattle.sf_mean.specs.Meaning.{Network, Outcome, gave, faulted, recorded, Cost, Made, value_made, process_made, members_made, argument_process, argued, process_called, referred, make, Watched, itself, observed, Takeover, Standing, waits, fired, stands_after, switched_value, body_of, event_beside, or_earlier, last_event, kept_before, since_event, what_runs, unless_faulted, edit_of, since_edit, edited, which_run, Gives, gives, Outputs, not_begun, and_gave, Sample, of_constants, of_form, of_resumed, Form, of_primitive, of_reference, of_join, of_side, of_loop, of_initialized, of_replaced, of_followed, of_transformed, of_switch, of_keeping, of_recurring, of_gathered, of_releasing, of_editing, of_stages, Next, goes_on, stops, Loops, no_loop, and_looped, Sees, beside_values, by_observer, Since, at_start, watched, had_fired, SwitchTurn, while_waiting, as_body, Switched, after_fault, after_value, Fires, no_event_yet, event_now, Each, no_more, one_more, Others, others_go_on, others_stop, Edited, no_edit, edit_failed, edit_now, observed_members, by_members_observer, Tables, no_tables, and_table}
-use Rattle.sf_mean.specs.Contexts.{Signature, signature_of, signature_named, parameters_inside, value, process, collection, Bindings, bindings_inside, values_in, types_of_process, process_named, context_with, Context, names_of_values}
-use Rattle.sf_mean.specs.Typing.{accumulated_argument, accumulated_kind, ChainTakes, lone_takes, chained_takes, on_first_takes, on_second_takes, on_both_takes, fanned_takes, PrimitiveTakes, bare_takes, probe_takes, never_takes, value_takes, timed_takes, selected_takes, accumulated_takes, arrow_takes, fused_takes, Takes, takes, FormTakes, primitive_takes, started_takes, call_takes, Collects, collects_none, collects_used, collects_added, collects_dropped, collects_kept, collects_chosen, ArgumentsFit, no_argument_fits, value_fits, process_fits, collection_fits, closed_fits, sequence_takes, parallel_takes, fan_takes, first_takes, second_takes, loop_takes, initialized_takes, replaced_takes, followed_takes, transformed_takes, switch_takes, keeping_takes, recurring_takes, gathered_takes, releasing_takes, editing_takes, stages_take}
+use Rattle.sf_mean.specs.Formulas.{timed_formula, occurring, next_value, accumulation, event_where, accumulated_formula, value_formula, side_replaced, apply_chain, formula, is_high}
+use Rattle.sf_mean.specs.Meaning.{Network, Outcome, gave, faulted, recorded, Cost, Made, value_made, process_made, members_made, argument_process, argued, process_called, referred, make, Watched, itself, observed, Takeover, Standing, waits, fired, stands_after, switched_value, body_of, event_beside, or_earlier, last_event, kept_before, since_event, what_runs, unless_faulted, edit_of, since_edit, edited, which_run, Gives, gives, Outputs, not_begun, and_gave, Sample, of_constants, of_form, of_resumed, Form, of_primitive, of_reference, of_join, of_side, of_loop, of_initialized, of_replaced, of_followed, of_transformed, of_switch, of_continuing, of_recurring, of_gathered, of_releasing, of_editing, of_stages, Next, goes_on, stops, Loops, no_loop, and_looped, Sees, beside_values, by_observer, Since, at_start, watched, had_fired, SwitchTurn, while_waiting, as_body, Switched, after_fault, after_value, Fires, no_event_yet, event_now, Each, no_more, one_more, Others, others_go_on, others_stop, Edited, no_edit, edit_failed, edit_now, observed_members, by_members_observer, Tables, no_tables, and_table}
+use Rattle.sf_mean.specs.Contexts.{Signature, signature_of, signature_named, parameters_inside, value, process, collection, Bindings, bindings_inside, bound_values, types_of_process, process_named, outer_context, Context, names_of_values}
+use Rattle.sf_mean.specs.Typing.{accumulated_argument, accumulated_kind, ChainTakes, lone_takes, chained_takes, on_first_takes, on_second_takes, on_both_takes, fanned_takes, PrimitiveTakes, bare_takes, probe_takes, never_takes, value_takes, timed_takes, selected_takes, accumulated_takes, arrow_takes, fused_takes, Takes, takes, FormTakes, primitive_takes, started_takes, call_takes, Collects, collects_none, collects_used, collects_added, collects_dropped, collects_kept, collects_chosen, ArgumentsFit, no_argument_fits, value_fits, process_fits, collection_fits, closed_fits, sequence_takes, parallel_takes, fan_takes, first_takes, second_takes, loop_takes, initialized_takes, replaced_takes, followed_takes, transformed_takes, switch_takes, continuing_takes, recurring_takes, gathered_takes, releasing_takes, editing_takes, stages_take}
 use Rattle.sf_mean.specs.Soundness.{NetworkIsTyped, Have, have_nothing, have_more, LifeHas, no_steps, more_steps, EnvironmentHas, has_nothing, has_value, has_process, has_members, ProcessTakes, closure_takes, resumed_takes, MembersTake, member_takes, OutcomeHas}
 use Rattle.sf_mean.proofs.TypedMembers.{bound_answer, frozen_takes, key_is, Gathers, gathers_none, gathers_added, gathers_dropped, gathers_kept, gathers_frozen, used_gathers, RowsOf, rows_of, no_rows_of, rows_typed, with_row_of}
 use Rattle.sf_mean.proofs.TypedPrimitives.{before_has, first_has, bare_typed, value_typed, timed_typed, selected_typed, event_comes, Comes, comes_none, comes_some, occurring_comes, event_has}
@@ -59,7 +59,7 @@ made_has {t = t} {v = v} (yields {d = d} h) e = subst (λ w. HasKind w t) (ap (m
 made_has fails e = absurd cc
 
 -- the values of an environment have the types of their names, and functions keep theirs
-pub environment_scope : {n : Network} (φ : AnswersByName) (fs : TypesByName) {e : Environment} {bs : Bindings} → KeepTheirTypes fs φ → EnvironmentHas n e bs → ScopeHas (scope_around φ e) (values_in fs bs)
+pub environment_scope : {n : Network} (φ : AnswersByName) (fs : TypesByName) {e : Environment} {bs : Bindings} → KeepTheirTypes fs φ → EnvironmentHas n e bs → ScopeHas (scope_around φ e) (bound_values fs bs)
 environment_scope φ fs K has_nothing = has_no_names K
 environment_scope φ fs K (has_value h E) = has_name h (environment_scope φ fs K E)
 environment_scope φ fs K (has_process P E) = has_other (environment_scope φ fs K E)
@@ -153,7 +153,7 @@ started_has Run k E h = process_has k E h
 started_has Fresh k E h = base_has (process_has k E h)
 
 -- a term as an argument has its types
-argument_has : {n : Network} {fs : TypesByName} {e : Environment} {bs : Bindings} {a b : Kind} → NetworkIsTyped fs n → EnvironmentHas n e bs → (t : Term) → Takes (context_with fs bs n.templates) t a b → ProcessTakes n (argument_process t e) a b
+argument_has : {n : Network} {fs : TypesByName} {e : Environment} {bs : Bindings} {a b : Kind} → NetworkIsTyped fs n → EnvironmentHas n e bs → (t : Term) → Takes (outer_context fs bs n.templates) t a b → ProcessTakes n (argument_process t e) a b
 argument_has K E (primitive p) T = closure_takes K E T
 argument_has K E (reference (started w k)) (takes p q (started_takes h)) = started_has w k E h
 argument_has K E (reference (call g vs)) T = closure_takes K E T
@@ -162,7 +162,7 @@ argument_has K E (sided d t) T = closure_takes K E T
 argument_has K E (headed h i t) T = closure_takes K E T
 argument_has K E (transformed f t) T = closure_takes K E T
 argument_has K E (switching w t p u) T = closure_takes K E T
-argument_has K E (keeping w t q k p u) T = closure_takes K E T
+argument_has K E (continuing w t q k p u) T = closure_takes K E T
 argument_has K E (gathered i) T = closure_takes K E T
 argument_has K E (releasing w i q k p u) T = closure_takes K E T
 argument_has K E (editing w i k p u) T = closure_takes K E T
@@ -172,9 +172,9 @@ argument_has K E (staged x f g) T = closure_takes K E T
 data WatchedTakes (n : Network) : Watched → Kind → Kind → Kind → Type 0 where
   itself_takes : {P : Process} {a b c : Kind} → ProcessTakes n P a (pair_kind b (event_kind c)) → WatchedTakes n (itself P) a b c
   observed_takes : {P : Process} {q : Term} {e : Environment} {fs : TypesByName} {bs : Bindings} {a b c : Kind} → ProcessTakes n P a b
-      → NetworkIsTyped fs n → EnvironmentHas n e bs → Takes (context_with fs bs n.templates) q (pair_kind a b) (event_kind c) → WatchedTakes n (observed P q e) a b c
+      → NetworkIsTyped fs n → EnvironmentHas n e bs → Takes (outer_context fs bs n.templates) q (pair_kind a b) (event_kind c) → WatchedTakes n (observed P q e) a b c
   observed_members_take : {ms : Members} {q : Term} {e : Environment} {fs : TypesByName} {bs : Bindings} {k : KeyKind} {a b c : Kind} → Gathers n k a b ms
-      → NetworkIsTyped fs n → EnvironmentHas n e bs → Takes (context_with fs bs n.templates) q (pair_kind a (table_kind k b)) (event_kind c) → WatchedTakes n (observed_members ms q e) a (table_kind k b) c
+      → NetworkIsTyped fs n → EnvironmentHas n e bs → Takes (outer_context fs bs n.templates) q (pair_kind a (table_kind k b)) (event_kind c) → WatchedTakes n (observed_members ms q e) a (table_kind k b) c
 
 -- what takes over has types, where it does so after a life of its inputs' type at a payload of its event's
 abbrev TakeoverHas : Network → Takeover → Kind → Kind → Kind → Type 0
@@ -258,8 +258,8 @@ module _ (n : Network) (eval_is : EvalsTyped) (apply_is : AppliesTyped) where
     chain_is : {f : Chain} {a b : Kind} (x : Data) → ChainTakes Γ f a b → HasKind x a → Yields b (apply_chain f x scope)
     chain_is x (lone_takes F) h = apply_is _ _ _ _ _ _ F h in_scope
     chain_is x (chained_takes {g = g} F G) h = next_yields (λ y. apply_chain g y scope) (chain_is x F h) (λ y k. chain_is y G k)
-    chain_is x (on_first_takes F) h = changed_yields (with_side First x) (λ y k. has_pair k (second_is h)) (chain_is _ F (first_is h))
-    chain_is x (on_second_takes F) h = changed_yields (with_side Second x) (λ y k. has_pair (first_is h) k) (chain_is _ F (second_is h))
+    chain_is x (on_first_takes F) h = changed_yields (side_replaced First x) (λ y k. has_pair k (second_is h)) (chain_is _ F (first_is h))
+    chain_is x (on_second_takes F) h = changed_yields (side_replaced Second x) (λ y k. has_pair (first_is h) k) (chain_is _ F (second_is h))
     chain_is x (on_both_takes {g = g} F G) h =
         next_yields (λ y. apply_chain g (second_of x) scope >>= λ z. answer (pair y z)) (chain_is _ F (first_is h)) (λ y k. changed_yields (pair y) (λ z l. has_pair k l) (chain_is _ G (second_is h)))
     chain_is x (fanned_takes {g = g} F G) h =
@@ -286,7 +286,7 @@ module _ (n : Network) (eval_is : EvalsTyped) (apply_is : AppliesTyped) where
 
   -- ## Collections
 
-  collect_has : {fs : TypesByName} {e : Environment} {bs : Bindings} {i : Collection} {k : KeyKind} {a b : Kind} {ms : Members} → NetworkIsTyped fs n → EnvironmentHas n e bs → Collects (context_with fs bs n.templates) i k a b
+  collect_has : {fs : TypesByName} {e : Environment} {bs : Bindings} {i : Collection} {k : KeyKind} {a b : Kind} {ms : Members} → NetworkIsTyped fs n → EnvironmentHas n e bs → Collects (outer_context fs bs n.templates) i k a b
       → collect n.functions i e ≡ answer ms → Gathers n k a b ms
   collect_has {k = k} {a} {b} K E collects_none h = subst (Gathers n k a b) (answers_one h) gathers_none
   collect_has {k = k} {a} {b} K E (collects_used {x = x} N) h = subst (Gathers n k a b) (answers_one h) (used_gathers x E N)
@@ -310,7 +310,7 @@ module _ (n : Network) (eval_is : EvalsTyped) (apply_is : AppliesTyped) where
       by_test false F G q = G q
 
   -- the environment of arguments has the parameters inside the names that were there
-  argued_has : {fs : TypesByName} {e d c : Environment} {bs cs : Bindings} {vs : Arguments} {qs : Bindings} → NetworkIsTyped fs n → EnvironmentHas n e bs → ArgumentsFit (context_with fs bs n.templates) vs qs
+  argued_has : {fs : TypesByName} {e d c : Environment} {bs cs : Bindings} {vs : Arguments} {qs : Bindings} → NetworkIsTyped fs n → EnvironmentHas n e bs → ArgumentsFit (outer_context fs bs n.templates) vs qs
       → EnvironmentHas n d cs → argued n.functions qs vs e d ≡ answer c → EnvironmentHas n c (parameters_inside qs cs)
   argued_has {cs = cs} K E no_argument_fits D h = subst (λ c. EnvironmentHas n c cs) (answers_one h) D
   argued_has {fs = fs} {e = e} {d = d} K E (value_fits {vs = vs} {x = x} {qs = qs} I F) D h =
@@ -325,12 +325,12 @@ module _ (n : Network) (eval_is : EvalsTyped) (apply_is : AppliesTyped) where
 
   -- what stands in the place of a call has the types of its template
   call_has : {fs : TypesByName} {e : Environment} {bs : Bindings} (g : Name) (vs : Arguments) {s : Signature} {P : Process} → NetworkIsTyped fs n → EnvironmentHas n e bs → signature_named g (map signature_of n.templates) ≡ Some s
-      → ArgumentsFit (context_with fs bs n.templates) vs s.parameters → referred n (call g vs) e ≡ answer P → ProcessTakes n P s.input s.output
+      → ArgumentsFit (outer_context fs bs n.templates) vs s.parameters → referred n (call g vs) e ≡ answer P → ProcessTakes n P s.input s.output
   call_has {fs = fs} {e = e} {bs = bs} g vs {s = s} {P = P} K E h F q =
       let found = template_found g n.templates s h in
       let t = found.template in
       let made = closed_of (argued n.functions t.parameters vs e empty) (λ d. closure t.body d) (sym (ap (λ o. process_called n.functions o vs e) found.named) ∙ q) in
-      let fit = subst (λ (u : Signature). ArgumentsFit (context_with fs bs n.templates) vs u.parameters) (sym found.header) F in
+      let fit = subst (λ (u : Signature). ArgumentsFit (outer_context fs bs n.templates) vs u.parameters) (sym found.header) F in
       let typed = K.templates found.place t found.there in
       let whole : ProcessTakes n (closure t.body made.0) t.input t.output = closure_takes K (argued_has K E fit has_nothing made.1) typed.body in
       subst (λ (u : Signature). ProcessTakes n P u.input u.output) found.header (subst (λ P. ProcessTakes n P t.input t.output) made.2 whole)
@@ -342,7 +342,7 @@ module _ (n : Network) (eval_is : EvalsTyped) (apply_is : AppliesTyped) where
 
   -- an edit of members with these types has them
   module _ {fs : TypesByName} {bs : Bindings} {e : Environment} {x : Name} {p : Pattern} {u : Collection} {k : KeyKind} {a b c : Kind} {S : Names} (K : NetworkIsTyped fs n) (E : EnvironmentHas n e bs)
-      (B : AddsNames p c (values_in fs ((x, collection k a b) ∷ bs)) S) (U : Collects (context_with fs (bindings_inside p c ((x, collection k a b) ∷ bs)) n.templates) u k a b) where
+      (B : AddsNames p c (bound_values fs ((x, collection k a b) ∷ bs)) S) (U : Collects (outer_context fs (bindings_inside p c ((x, collection k a b) ∷ bs)) n.templates) u k a b) where
     edit_has : {M : Life} (s : Step) {ms qs : Members} (v : Data) → LifeHas M a → Gathers n k a b ms → HasKind v c → edit_of n.functions x p u e M s ms v ≡ answer qs → Gathers n k a b qs
     edit_has s v l g h q = let typed = gathers_frozen (wait_of s) g l in collect_has K (bind_has B h (has_members typed.0 typed.1 E)) U q
 
@@ -374,7 +374,7 @@ module _ (n : Network) (eval_is : EvalsTyped) (apply_is : AppliesTyped) where
     sample_has (of_form h F) (closure_takes K E (takes x y T)) l = form_has F h K E T l
     sample_has (of_resumed {d = d} A) (resumed_takes p h) l = gives_has A p (after_has d h l)
 
-    form_has : {t : Term} {e : Environment} {fs : TypesByName} {bs : Bindings} {m : Made} {s : Step} {L : Life} {o : Outcome} {c : Cost} {a b : Kind} → Form n t e m s L o c → make n t e (input_at_first s L) ≡ answer m → NetworkIsTyped fs n → EnvironmentHas n e bs → FormTakes (context_with fs bs n.templates) t a b → LifeHas (s ∷ L) a → OutcomeHas o b
+    form_has : {t : Term} {e : Environment} {fs : TypesByName} {bs : Bindings} {m : Made} {s : Step} {L : Life} {o : Outcome} {c : Cost} {a b : Kind} → Form n t e m s L o c → make n t e (first_input s L) ≡ answer m → NetworkIsTyped fs n → EnvironmentHas n e bs → FormTakes (outer_context fs bs n.templates) t a b → LifeHas (s ∷ L) a → OutcomeHas o b
     form_has {fs = fs} (of_primitive {p = p} {s = s} h) q K E (primitive_takes T) (more_steps i l) = outcome_is (recorded p s) (formula_is _ (environment_scope n.functions fs K.functions E) s T i l) h
     form_has {a = a} {b = b} (of_reference {P = P} A) q K E (started_takes {w = w} {k = k} h) l = gives_has A (subst (λ P. ProcessTakes n P a b) (ap (made_process P) q) (started_has w k E h)) l
     form_has (of_reference A) q K E (call_takes {g = g} {vs = vs} h F) l = gives_has A (call_has g vs K E h F (referred_as q)) l
@@ -415,7 +415,7 @@ module _ (n : Network) (eval_is : EvalsTyped) (apply_is : AppliesTyped) where
     form_has (of_switch S T) q K E (switch_takes A B U) (more_steps {s = s} i l) =
         let body : TakeoverHas n _ _ _ _ = λ s M v m h. closure_takes K (bind_has B.adds h E) U in
         turn_has T (itself_takes (closure_takes K E A)) body (more_steps {s = s} i l) (since_has S (itself_takes (closure_takes K E A)) body l)
-    form_has (of_keeping S T) q K E (keeping_takes A H B U) (more_steps {s = s} i l) =
+    form_has (of_continuing S T) q K E (continuing_takes A H B U) (more_steps {s = s} i l) =
         let source = closure_takes K E A in
         let body : TakeoverHas n _ _ _ _ = λ s M v m h. closure_takes K (bind_has B.adds h (has_process (frozen_takes (wait_of s) source m) E)) U in
         turn_has T (observed_takes source K E H) body (more_steps {s = s} i l) (since_has S (observed_takes source K E H) body l)
@@ -440,7 +440,7 @@ module _ (n : Network) (eval_is : EvalsTyped) (apply_is : AppliesTyped) where
         let j : OutcomeHas o' d = next_has C K E H (relay_if o h (more_steps {s = s} i l) (outputs_have A (closure_takes K E F) l)) in
         combined_has o o' (λ v w x y. y) h j
 
-    next_has : {q : Outcome} {t : Term} {e : Environment} {fs : TypesByName} {bs : Bindings} {L : Life} {o : Outcome} {c : Cost} {a b : Kind} → Next n q t e L o c → NetworkIsTyped fs n → EnvironmentHas n e bs → Takes (context_with fs bs n.templates) t a b → LifeIf q L a → OutcomeHas o b
+    next_has : {q : Outcome} {t : Term} {e : Environment} {fs : TypesByName} {bs : Bindings} {L : Life} {o : Outcome} {c : Cost} {a b : Kind} → Next n q t e L o c → NetworkIsTyped fs n → EnvironmentHas n e bs → Takes (outer_context fs bs n.templates) t a b → LifeIf q L a → OutcomeHas o b
     next_has (goes_on A) K E T l = gives_has A (closure_takes K E T) l
     next_has stops K E T l = tt
 

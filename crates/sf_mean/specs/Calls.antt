@@ -7,7 +7,7 @@ use Rattle.sf_term.specs.declared.form.Side.{Side}
 use Rattle.sf_term.specs.declared.form.Heading.{Heading}
 use Rattle.sf_term.specs.declared.form.Observation.{Observation}
 use Rattle.sf_term.specs.declared.form.Switching.{Switching}
-use Rattle.sf_term.specs.Trees.{Extent, Term, reference, call, Arguments, value_argument, process_argument, collection_argument, closed_argument, joined, sided, headed, transformed, switching, keeping, gathered, releasing, editing, staged, Collection, added, dropped, kept, chosen, Template, Templates, template_named}
+use Rattle.sf_term.specs.Trees.{Extent, Term, reference, call, Arguments, value_argument, process_argument, collection_argument, closed_argument, joined, sided, headed, transformed, switching, continuing, gathered, releasing, editing, staged, Collection, added, dropped, kept, chosen, Template, Templates, template_named}
 
 mutual
   -- A term calls the template of a name, outside the bodies of switches and of edits; the terms of arguments and of collections
@@ -21,8 +21,8 @@ mutual
     headed_calls : {w : Heading} {i : Expression} {t : Term} {h : Name} → Calls t h → Calls (headed w i t) h
     transformed_calls : {f : Function} {t : Term} {h : Name} → Calls t h → Calls (transformed f t) h
     switch_calls : {w : Switching} {t u : Term} {p : Pattern} {h : Name} → Calls t h → Calls (switching w t p u) h
-    source_calls : {w : Observation} {t q u : Term} {k : Name} {p : Pattern} {h : Name} → Calls t h → Calls (keeping w t q k p u) h
-    observer_calls : {w : Observation} {t q u : Term} {k : Name} {p : Pattern} {h : Name} → Calls q h → Calls (keeping w t q k p u) h
+    source_calls : {w : Observation} {t q u : Term} {k : Name} {p : Pattern} {h : Name} → Calls t h → Calls (continuing w t q k p u) h
+    observer_calls : {w : Observation} {t q u : Term} {k : Name} {p : Pattern} {h : Name} → Calls q h → Calls (continuing w t q k p u) h
     gathered_calls : {i : Collection} {h : Name} → CollectionCalls i h → Calls (gathered i) h
     members_call : {w : Observation} {i : Collection} {q u : Term} {k : Name} {p : Pattern} {h : Name} → CollectionCalls i h → Calls (releasing w i q k p u) h
     their_observer_calls : {w : Observation} {i : Collection} {q u : Term} {k : Name} {p : Pattern} {h : Name} → Calls q h → Calls (releasing w i q k p u) h

@@ -3,7 +3,7 @@ use Rattle.std.specs.Prelude.{cond, pos, unwrap_or}
 use Rattle.sf_value.specs.Values.{KeyData, number_key, Data, table, row}
 use Rattle.sf_value.specs.Keys.{equal_keys}
 use Rattle.sf_func.specs.Registries.{AnswersByName}
-use Rattle.sf_operator.specs.Operations.{key_in}
+use Rattle.sf_operator.specs.Operations.{key_held}
 use Rattle.sf_operator.specs.FunctionForms.{value_of_key}
 use Rattle.sf_expr.specs.Evaluation.{Evaluated, answer, ◌>>=◌, eval, apply}
 use Rattle.sf_term.specs.Trees.{Collection, without_members, used, added, dropped, kept, chosen}
@@ -12,7 +12,7 @@ use Rattle.sf_mean.specs.Formulas.{is_high}
 
 -- the key that a value is; what is none is the key 0
 abbrev pub as_key : Data → KeyData
-as_key d = unwrap_or (key_in d) (number_key (pos 0))
+as_key d = unwrap_or (key_held d) (number_key (pos 0))
 
 -- members with one more: at their end, or in the place of the one under its key
 abbrev pub add : KeyData → Process → Members → Members
@@ -40,6 +40,6 @@ collect φ (kept i f) e = collect φ i e >>= λ ms. keep (λ x. apply f x (scope
 collect φ (chosen j a b) e = eval j (scope_around φ e) >>= λ v. cond (is_high v) (collect φ a e) (collect φ b e)
 
 -- a table with a row before its others
-abbrev pub with_row : KeyData → Data → Data → Data
-with_row k y (table rs) = table (row k y rs)
-with_row k y d = d
+abbrev pub leading_row : KeyData → Data → Data → Data
+leading_row k y (table rs) = table (row k y rs)
+leading_row k y d = d

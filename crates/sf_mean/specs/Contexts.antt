@@ -31,8 +31,8 @@ pub record Context : Type 0 where
   pub functions : TypesByName
 
 -- the names that are bound, over the signatures of templates and functions of these types
-abbrev pub context_with : TypesByName → Bindings → Templates → Context
-context_with fs bs ts = record { bindings = bs; signatures = map signature_of ts; functions = fs }
+abbrev pub outer_context : TypesByName → Bindings → Templates → Context
+outer_context fs bs ts = record { bindings = bs; signatures = map signature_of ts; functions = fs }
 
 -- parameters inside other names, the last one innermost
 abbrev pub parameters_inside : (parameters around : Bindings) → Bindings
@@ -40,8 +40,8 @@ parameters_inside [] bs = bs
 parameters_inside (q ∷ qs) bs = parameters_inside qs (q ∷ bs)
 
 -- what the body of a template with these parameters is typed under
-abbrev pub context_of : TypesByName → Bindings → Templates → Context
-context_of fs qs ts = context_with fs (parameters_inside qs []) ts
+abbrev pub template_context : TypesByName → Bindings → Templates → Context
+template_context fs qs ts = outer_context fs (parameters_inside qs []) ts
 
 -- the names of a pattern before others, each with the type of its part of a type; none for what doesn't fit the type
 abbrev pub bindings_inside : Pattern → Kind → Bindings → Bindings
@@ -91,10 +91,10 @@ with_name_of x (process a b) R = untyped_name x R
 with_name_of x (collection k a b) R = untyped_name x R
 
 -- the names that are bound, those that stand for values with their types, and functions of these types
-abbrev pub values_in : TypesByName → Bindings → Names
-values_in fs [] = only_functions fs
-values_in fs (b ∷ bs) = with_name_of b.0 b.1 (values_in fs bs)
+abbrev pub bound_values : TypesByName → Bindings → Names
+bound_values fs [] = only_functions fs
+bound_values fs (b ∷ bs) = with_name_of b.0 b.1 (bound_values fs bs)
 
 -- what expressions are typed under
 abbrev pub names_of_values : Context → Names
-names_of_values Γ = values_in Γ.functions Γ.bindings
+names_of_values Γ = bound_values Γ.functions Γ.bindings

@@ -2,7 +2,7 @@
 use Rattle.std.specs.Prelude.{ℕ, suc, nat_le, [], ◌∷◌, Bool, true, false, not, ◌&&◌, cond, ℤ, pos, ◌+ℤ◌, negsuc, ◌*ℤ◌, int_le, ◌-◌, ◌/◌, nat_lt, Option, Some, None, unwrap_or}
 use Rattle.sf_value.specs.Values.{Data, unit, truth, number, pair, no_event, event, first_of, second_of}
 use Rattle.sf_operator.specs.Outcomes.{tested}
-use Rattle.sf_operator.specs.Operations.{truth_in, number_in, payload_in, payload_or}
+use Rattle.sf_operator.specs.Operations.{truth_held, number_held, payload_held, payload_or}
 use Rattle.sf_expr.specs.Expressions.{Function}
 use Rattle.sf_expr.specs.Evaluation.{Evaluated, answer, ◌>>=◌, Scope, eval, apply}
 use Rattle.sf_term.specs.declared.form.Bare.{Bare}
@@ -33,13 +33,13 @@ at_first [] a b = a
 at_first (s ∷ L) a b = b
 
 -- a life with this input at the first step in the place of its own
-abbrev pub with_first : Data → Life → Life
-with_first v [] = []
-with_first v (s ∷ L) = step (wait_of s) (at_first L v (input_of s)) ∷ with_first v L
+abbrev pub first_replaced : Data → Life → Life
+first_replaced v [] = []
+first_replaced v (s ∷ L) = step (wait_of s) (at_first L v (input_of s)) ∷ first_replaced v L
 
 -- the number that an input is
 abbrev pub level : Data → ℤ
-level d = unwrap_or (number_in d) (pos 0)
+level d = unwrap_or (number_held d) (pos 0)
 
 -- the sum of the inputs before, each by the time to the next step; before the first step nothing is summed
 abbrev pub area : Life → ℤ
@@ -48,10 +48,10 @@ area (s ∷ L) = area L +ℤ (pos (wait_of s) *ℤ level (before (number (pos 0)
 
 -- whether a value is the truth true, and whether it is false
 abbrev pub is_high : Data → Bool
-is_high d = unwrap_or (truth_in d) false
+is_high d = unwrap_or (truth_held d) false
 
 abbrev pub is_low : Data → Bool
-is_low d = not (unwrap_or (truth_in d) true)
+is_low d = not (unwrap_or (truth_held d) true)
 
 -- an event of the unit where this holds, else none
 abbrev pub event_if : Bool → Data
@@ -67,7 +67,7 @@ risen x y = event_if (rises x y)
 
 -- the payload of a value, if it is an event that occurs
 abbrev pub occurring : Data → Option Data
-occurring d = unwrap_or (payload_in d) None
+occurring d = unwrap_or (payload_held d) None
 
 -- one more where there is a payload
 abbrev pub count_up : Option Data → ℕ → ℕ
@@ -180,15 +180,15 @@ side_of First x = first_of x
 side_of Second x = second_of x
 
 -- the input with the part's value on its side
-abbrev pub with_side : Side → Data → Data → Data
-with_side First x y = pair y (second_of x)
-with_side Second x y = pair (first_of x) y
+abbrev pub side_replaced : Side → Data → Data → Data
+side_replaced First x y = pair y (second_of x)
+side_replaced Second x y = pair (first_of x) y
 
 -- what functions made into one answer to a value: the first before the second
 abbrev pub apply_chain : Chain → Data → Scope → Evaluated Data
 apply_chain (lone f) x scope = apply f x scope
 apply_chain (chained f g) x scope = apply_chain f x scope >>= λ y. apply_chain g y scope
-apply_chain (on_side d f) x scope = apply_chain f (side_of d x) scope >>= λ y. answer (with_side d x y)
+apply_chain (on_side d f) x scope = apply_chain f (side_of d x) scope >>= λ y. answer (side_replaced d x y)
 apply_chain (on_both f g) x scope = apply_chain f (first_of x) scope >>= λ y. apply_chain g (second_of x) scope >>= λ z. answer (pair y z)
 apply_chain (fanned f g) x scope = apply_chain f x scope >>= λ y. apply_chain g x scope >>= λ z. answer (pair y z)
 

@@ -10,7 +10,7 @@ use Rattle.sf_term.specs.declared.form.Side.{Side}
 use Rattle.sf_term.specs.declared.form.Side.TheVariants.{First, Second}
 use Rattle.sf_term.specs.declared.form.Heading.{Heading}
 use Rattle.sf_term.specs.declared.form.Heading.TheVariants.{LoopPre, Initialized, Replaced, Followed}
-use Rattle.sf_term.specs.Trees.{Chain, lone, chained, on_side, on_both, fanned, Primitive, bare, probe, never, with_value, timed, selected, arrow, accumulated, fused, Term, primitive, Reference, reference, started, call, Arguments, no_arguments, value_argument, process_argument, collection_argument, closed_argument, joined, sided, headed, transformed, switching, keeping, gathered, releasing, editing, staged, Collection, without_members, used, added, dropped, kept, chosen}
+use Rattle.sf_term.specs.Trees.{Chain, lone, chained, on_side, on_both, fanned, Primitive, bare, probe, never, with_value, timed, selected, arrow, accumulated, fused, Term, primitive, Reference, reference, started, call, Arguments, no_arguments, value_argument, process_argument, collection_argument, closed_argument, joined, sided, headed, transformed, switching, continuing, gathered, releasing, editing, staged, Collection, without_members, used, added, dropped, kept, chosen}
 use Rattle.sf_term.specs.declared.form.Switching.{Switching}
 use Rattle.sf_term.specs.declared.form.Switching.TheVariants.{Basic, Recurring}
 use Rattle.sf_term.specs.Parameters.{NameKind, value, process, collection, Bindings}
@@ -69,8 +69,8 @@ switch_output Γ (Basic w) p source body a = found_then (found_then (source a) p
 switch_output Γ (Recurring w) p source body x = found_then (parts_of x) (λ k. found_then (payload_of k.1) (λ c. found_then (source k.0) (λ b. body_output Γ p body c k.0 b)))
 
 -- the output of a switch that keeps its source under a name: its event is what the observer gives to inputs beside the source's values
-abbrev pub keeping_output : Context → Name → Pattern → Finds → Finds → (Context → Finds) → Finds
-keeping_output Γ k p source observer body a =
+abbrev pub continuing_output : Context → Name → Pattern → Finds → Finds → (Context → Finds) → Finds
+continuing_output Γ k p source observer body a =
     found_then (source a) (λ b. found_then (observer (pair_kind a b)) (λ e. found_then (payload_of e) (λ c. body_output (inside_process k a b Γ) p body c a b)))
 
 -- What finds what a collection gives for inputs of a type, if its members take them: a type of tables.
@@ -79,16 +79,16 @@ abbrev pub used_output : Option (KeyKind × Kind × Kind) → Finds
 used_output o a = found_then o (λ c. only a c.1 (Some (table_kind c.0 c.2)))
 
 -- a type of tables, where this is the type of its keys
-abbrev pub with_key : Option Kind → Kind → Option Kind
-with_key key t = found_then (columns_of t) (λ c. found_then key (λ k. only k (kind_of_keys c.0) (Some t)))
+abbrev pub keyed_table : Option Kind → Kind → Option Kind
+keyed_table key t = found_then (columns_of t) (λ c. found_then key (λ k. only k (kind_of_keys c.0) (Some t)))
 
 -- the same where a member has this output
 abbrev pub with_member : (key output : Option Kind) → Kind → Option Kind
 with_member key output t = found_then (columns_of t) (λ c. found_then key (λ k. only k (kind_of_keys c.0) (found_then output (λ b. only b c.1 (Some t)))))
 
 -- the same where a function takes its keys to truths
-abbrev pub with_kept : Finds → Kind → Option Kind
-with_kept f t = found_then (columns_of t) (λ c. found_then (f (kind_of_keys c.0)) (λ b. only b bool_kind (Some t)))
+abbrev pub finds_kept : Finds → Kind → Option Kind
+finds_kept f t = found_then (columns_of t) (λ c. found_then (f (kind_of_keys c.0)) (λ b. only b bool_kind (Some t)))
 
 -- the same for both of two, of which a truth chooses
 abbrev pub one_of_both : Option Kind → Option Kind → Option Kind → Option Kind
@@ -134,8 +134,8 @@ primitive_output Γ (accumulated k e f) a =
 primitive_output Γ (fused f) a = found_then (chain_output Γ f a) fitting
 
 -- inputs and outputs have types of at most 256 nodes
-abbrev pub with_fitting : Finds → Finds
-with_fitting f a = cond (nat_le (nodes a) 256) (found_then (f a) fitting) None
+abbrev pub finds_fitting : Finds → Finds
+finds_fitting f a = cond (nat_le (nodes a) 256) (found_then (f a) fitting) None
 
 -- a type was found, and it is this one
 abbrev pub is_found : Option Kind → Kind → Bool
@@ -170,16 +170,16 @@ abbrev mutual
   pub form_output : Context → Term → Finds
   form_output Γ (primitive p) a = primitive_output Γ p a
   form_output Γ (reference r) a = reference_output Γ r a
-  form_output Γ (joined j f g) a = join_output j (with_fitting (form_output Γ f)) (with_fitting (form_output Γ g)) a
-  form_output Γ (sided d t) a = side_output d (with_fitting (form_output Γ t)) a
-  form_output Γ (headed h e t) a = heading_output h (expression_type (names_of_values Γ) e) (with_fitting (form_output Γ t)) a
-  form_output Γ (transformed f t) a = transformed_output (function_output (names_of_values Γ) f a) (with_fitting (form_output Γ t)) a
-  form_output Γ (switching w t p u) a = switch_output Γ w p (with_fitting (form_output Γ t)) (λ Δ. with_fitting (form_output Δ u)) a
-  form_output Γ (keeping w t q k p u) a = keeping_output Γ k p (with_fitting (form_output Γ t)) (with_fitting (form_output Γ q)) (λ Δ. with_fitting (form_output Δ u)) a
+  form_output Γ (joined j f g) a = join_output j (finds_fitting (form_output Γ f)) (finds_fitting (form_output Γ g)) a
+  form_output Γ (sided d t) a = side_output d (finds_fitting (form_output Γ t)) a
+  form_output Γ (headed h e t) a = heading_output h (expression_type (names_of_values Γ) e) (finds_fitting (form_output Γ t)) a
+  form_output Γ (transformed f t) a = transformed_output (function_output (names_of_values Γ) f a) (finds_fitting (form_output Γ t)) a
+  form_output Γ (switching w t p u) a = switch_output Γ w p (finds_fitting (form_output Γ t)) (λ Δ. finds_fitting (form_output Δ u)) a
+  form_output Γ (continuing w t q k p u) a = continuing_output Γ k p (finds_fitting (form_output Γ t)) (finds_fitting (form_output Γ q)) (λ Δ. finds_fitting (form_output Δ u)) a
   form_output Γ (gathered i) a = collection_output Γ i a
-  form_output Γ (releasing w i q k p u) a = releasing_output Γ k p (collection_output Γ i) (with_fitting (form_output Γ q)) (λ Δ. with_fitting (form_output Δ u)) a
+  form_output Γ (releasing w i q k p u) a = releasing_output Γ k p (collection_output Γ i) (finds_fitting (form_output Γ q)) (λ Δ. finds_fitting (form_output Δ u)) a
   form_output Γ (editing w i k p u) a = editing_output Γ k p (collection_output Γ i) (λ Δ. collection_output Δ u) a
-  form_output Γ (staged x f g) a = join_output InSequence (with_fitting (form_output Γ f)) (with_fitting (form_output Γ g)) a
+  form_output Γ (staged x f g) a = join_output InSequence (finds_fitting (form_output Γ f)) (finds_fitting (form_output Γ g)) a
 
   -- the output of what is referred to
   pub reference_output : Context → Reference → Finds
@@ -190,9 +190,9 @@ abbrev mutual
   pub collection_output : Context → Collection → Finds
   collection_output Γ (without_members k b) a = Some (table_kind k b)
   collection_output Γ (used x) a = used_output (collection_named x Γ.bindings) a
-  collection_output Γ (added i j t) a = found_then (collection_output Γ i a) (with_member (expression_type (names_of_values Γ) j) (with_fitting (form_output Γ t) a))
-  collection_output Γ (dropped i j) a = found_then (collection_output Γ i a) (with_key (expression_type (names_of_values Γ) j))
-  collection_output Γ (kept i f) a = found_then (collection_output Γ i a) (with_kept (function_output (names_of_values Γ) f))
+  collection_output Γ (added i j t) a = found_then (collection_output Γ i a) (with_member (expression_type (names_of_values Γ) j) (finds_fitting (form_output Γ t) a))
+  collection_output Γ (dropped i j) a = found_then (collection_output Γ i a) (keyed_table (expression_type (names_of_values Γ) j))
+  collection_output Γ (kept i f) a = found_then (collection_output Γ i a) (finds_kept (function_output (names_of_values Γ) f))
   collection_output Γ (chosen j i h) a = one_of_both (expression_type (names_of_values Γ) j) (collection_output Γ i a) (collection_output Γ h a)
 
   -- arguments are as many as parameters, and each is one for its parameter
@@ -202,12 +202,12 @@ abbrev mutual
   arguments_fit Γ (value_argument i vs) [] = false
   arguments_fit Γ (value_argument i vs) (q ∷ qs) = value_is_argument (expression_type (names_of_values Γ) i) q.1 && arguments_fit Γ vs qs
   arguments_fit Γ (process_argument t vs) [] = false
-  arguments_fit Γ (process_argument t vs) (q ∷ qs) = process_is_argument (with_fitting (form_output Γ t)) q.1 && arguments_fit Γ vs qs
+  arguments_fit Γ (process_argument t vs) (q ∷ qs) = process_is_argument (finds_fitting (form_output Γ t)) q.1 && arguments_fit Γ vs qs
   arguments_fit Γ (collection_argument i vs) [] = false
   arguments_fit Γ (collection_argument i vs) (q ∷ qs) = collection_is_argument (collection_output Γ i) q.1 && arguments_fit Γ vs qs
   arguments_fit Γ (closed_argument t vs) [] = false
-  arguments_fit Γ (closed_argument t vs) (q ∷ qs) = process_is_argument (with_fitting (form_output Γ t)) q.1 && arguments_fit Γ vs qs
+  arguments_fit Γ (closed_argument t vs) (q ∷ qs) = process_is_argument (finds_fitting (form_output Γ t)) q.1 && arguments_fit Γ vs qs
 
 -- the type of the outputs of a term for inputs of a type, if it takes them
 abbrev pub term_output : Context → Term → Finds
-term_output Γ t = with_fitting (form_output Γ t)
+term_output Γ t = finds_fitting (form_output Γ t)

@@ -13,11 +13,11 @@ use Rattle.sf_term.specs.declared.form.Heading.TheVariants.{LoopPre, Initialized
 use Rattle.sf_term.specs.declared.form.Observation.{Observation}
 use Rattle.sf_term.specs.declared.form.Observation.TheVariants.{Immediate, Delayed}
 use Rattle.sf_term.specs.declared.form.Switching.TheVariants.{Basic, Recurring}
-use Rattle.sf_term.specs.Trees.{Primitive, bare, probe, never, with_value, timed, selected, arrow, accumulated, fused, Extent, whole, rest, Term, primitive, Reference, reference, started, call, Arguments, no_arguments, value_argument, process_argument, collection_argument, closed_argument, joined, sided, headed, transformed, switching, keeping, gathered, releasing, editing, staged, Collection, without_members, used, added, dropped, kept, chosen, Template, Templates, template_named}
+use Rattle.sf_term.specs.Trees.{Primitive, bare, probe, never, with_value, timed, selected, arrow, accumulated, fused, Extent, whole, rest, Term, primitive, Reference, reference, started, call, Arguments, no_arguments, value_argument, process_argument, collection_argument, closed_argument, joined, sided, headed, transformed, switching, continuing, gathered, releasing, editing, staged, Collection, without_members, used, added, dropped, kept, chosen, Template, Templates, template_named}
 use Rattle.sf_term.specs.Parameters.{Bindings}
-use Rattle.sf_mean.specs.Lives.{Step, step, wait_of, input_of, Life, Process, closure, resumed, passing, Environment, empty, known, running, collected, Members, no_members, member, process_started, scope_around, bind, after, frozen, each_frozen, with_inputs, relay, observed_life, fed, first_input as input_at_first}
-use Rattle.sf_mean.specs.Collections.{with_row, collect}
-use Rattle.sf_mean.specs.Formulas.{at_first, with_first, occurring, side_of, with_side, formula}
+use Rattle.sf_mean.specs.Lives.{Step, step, wait_of, input_of, Life, Process, closure, resumed, passing, Environment, empty, known, running, collected, Members, no_members, member, process_started, scope_around, bind, after, frozen, each_frozen, with_inputs, relay, observed_life, fed, first_input}
+use Rattle.sf_mean.specs.Collections.{leading_row, collect}
+use Rattle.sf_mean.specs.Formulas.{at_first, first_replaced, occurring, side_of, side_replaced, formula}
 
 -- A network: its templates, and what its stored functions answer.
 pub record Network : Type 0 where
@@ -47,9 +47,9 @@ combined f (gave y r) (faulted x) = faulted x
 combined f (faulted x) o = faulted x
 
 -- the value of an outcome (a fault has none that is looked at)
-abbrev pub value_in : Outcome → Data
-value_in (gave y r) = y
-value_in (faulted x) = number (pos 0)
+abbrev pub outcome_value : Outcome → Data
+outcome_value (gave y r) = y
+outcome_value (faulted x) = number (pos 0)
 
 -- an answer, as an outcome with these readings
 abbrev pub as_outcome : Evaluated Data → Readings → Outcome
@@ -124,7 +124,7 @@ abbrev mutual
   text_cost (headed h e t) = over (text_cost t)
   text_cost (transformed f t) = over (text_cost t)
   text_cost (switching w t p u) = over (text_cost t)
-  text_cost (keeping w t q k p u) = over (both_costs (text_cost t) (text_cost q))
+  text_cost (continuing w t q k p u) = over (both_costs (text_cost t) (text_cost q))
   text_cost (gathered i) = over (collection_cost i)
   text_cost (releasing w i q k p u) = over (both_costs (collection_cost i) (text_cost q))
   text_cost (editing w i k p u) = over (collection_cost i)
@@ -161,7 +161,7 @@ entered_cost (sided d t) = text_cost (sided d t)
 entered_cost (headed h i t) = text_cost (headed h i t)
 entered_cost (transformed f t) = text_cost (transformed f t)
 entered_cost (switching w t p u) = text_cost (switching w t p u)
-entered_cost (keeping w t q k p u) = text_cost (keeping w t q k p u)
+entered_cost (continuing w t q k p u) = text_cost (continuing w t q k p u)
 entered_cost (gathered i) = one_term
 entered_cost (releasing w i q k p u) = over (text_cost q)
 entered_cost (editing w i k p u) = one_term
@@ -189,7 +189,7 @@ argument_process (sided d t) e = closure (sided d t) e
 argument_process (headed h i t) e = closure (headed h i t) e
 argument_process (transformed f t) e = closure (transformed f t) e
 argument_process (switching w t p u) e = closure (switching w t p u) e
-argument_process (keeping w t q k p u) e = closure (keeping w t q k p u) e
+argument_process (continuing w t q k p u) e = closure (continuing w t q k p u) e
 argument_process (gathered i) e = closure (gathered i) e
 argument_process (releasing w i q k p u) e = closure (releasing w i q k p u) e
 argument_process (editing w i k p u) e = closure (editing w i k p u) e
@@ -233,7 +233,7 @@ make n (sided d t) e x = answer nothing_made
 make n (headed h i t) e x = head_made h (eval i (scope_around n.functions e))
 make n (transformed f t) e x = apply f x (scope_around n.functions e) >>= λ v. answer (value_made v)
 make n (switching w t p u) e x = answer nothing_made
-make n (keeping w t q k p u) e x = answer nothing_made
+make n (continuing w t q k p u) e x = answer nothing_made
 make n (gathered i) e x = collect n.functions i e >>= λ ms. answer (members_made ms)
 make n (releasing w i q k p u) e x = collect n.functions i e >>= λ ms. answer (members_made ms)
 make n (editing w i k p u) e x = collect n.functions i e >>= λ ms. answer (members_made ms)
@@ -277,8 +277,8 @@ abbrev pub whenever : (Data → Process) → Takeover
 whenever B s L = B
 
 -- the body of a switch that keeps its source, frozen before the step of the event, under a name; the pattern hides it
-abbrev pub body_with : Name → Process → Pattern → Term → Environment → Takeover
-body_with k P p u e s L v = closure u (bind p v (running k (frozen P L (wait_of s)) e))
+abbrev pub continuing_body : Name → Process → Pattern → Term → Environment → Takeover
+continuing_body k P p u e s L v = closure u (bind p v (running k (frozen P L (wait_of s)) e))
 
 -- the same where what was kept are members, each frozen
 abbrev pub body_with_members : Name → Members → Pattern → Term → Environment → Takeover
@@ -380,7 +380,7 @@ mutual
         → make n t e (input_of s) ≡ failed x
         → Sample n (closure t e) s [] (faulted x) (entered_cost t)
     of_form : {t : Term} {e : Environment} {s : Step} {L : Life} {m : Made} {o : Outcome} {c : Cost}
-        → make n t e (input_at_first s L) ≡ answer m
+        → make n t e (first_input s L) ≡ answer m
         → Form n t e m s L o c
         → Sample n (closure t e) s L o c
     -- a frozen process goes on
@@ -402,12 +402,12 @@ mutual
     of_join : {j : Join} {f g : Term} {e : Environment} {m : Made} {s : Step} {L : Life} {ys : List Data} {o o' : Outcome} {c c' : Cost}
         → Outputs n (closure f e) (left_life j L) ys
         → Gives n (closure f e) (left_life j (s ∷ L)) o c
-        → Next n o g e (right_life j (s ∷ L) (value_in o ∷ ys)) o' c'
+        → Next n o g e (right_life j (s ∷ L) (outcome_value o ∷ ys)) o' c'
         → Form n (joined j f g) e m s L (combined (join_value j) o o') (over (both_costs c c'))
     -- one side goes through the part, the other is passed
     of_side : {d : Side} {t : Term} {e : Environment} {m : Made} {s : Step} {L : Life} {o : Outcome} {c : Cost}
         → Gives n (closure t e) (with_inputs (side_of d) (s ∷ L)) o c
-        → Form n (sided d t) e m s L (changed (with_side d (input_of s)) o) (over c)
+        → Form n (sided d t) e m s L (changed (side_replaced d (input_of s)) o) (over c)
     -- `loopPre`: the second part of the output is the second part of the input one step later
     of_loop : {i : Expression} {t : Term} {e : Environment} {v : Data} {s : Step} {L : Life} {zs : List Data} {o : Outcome} {c : Cost}
         → Loops n v (closure t e) L zs
@@ -419,7 +419,7 @@ mutual
         → Form n (headed Initialized i t) e (value_made v) s L (changed (at_first L v) o) (over c)
     -- `>--`: the part's values, where the constant stands in the place of its first input
     of_replaced : {i : Expression} {t : Term} {e : Environment} {v : Data} {s : Step} {L : Life} {o : Outcome} {c : Cost}
-        → Gives n (closure t e) (with_first v (s ∷ L)) o c
+        → Gives n (closure t e) (first_replaced v (s ∷ L)) o c
         → Form n (headed Replaced i t) e (value_made v) s L o (over c)
     -- `fby`: the part's value of the step before; at the first step the constant, which comes after the part
     of_followed : {i : Expression} {t : Term} {e : Environment} {m : Made} {s : Step} {L : Life} {ys : List Data} {o : Outcome} {c : Cost}
@@ -428,7 +428,7 @@ mutual
         → Form n (headed Followed i t) e m s L (answered_by (newest_or (eval i (scope_around n.functions e)) ys) o) (over c)
     -- `>=-`: the part's values, where what the function made of its first input stands in the place of that input
     of_transformed : {f : Function} {t : Term} {e : Environment} {v : Data} {s : Step} {L : Life} {o : Outcome} {c : Cost}
-        → Gives n (closure t e) (with_first v (s ∷ L)) o c
+        → Gives n (closure t e) (first_replaced v (s ∷ L)) o c
         → Form n (transformed f t) e (value_made v) s L o (over c)
     -- a switch gives what its standing says
     of_switch : {w : Observation} {t u : Term} {p : Pattern} {e : Environment} {m : Made} {s : Step} {L : Life} {st : Standing} {o : Outcome} {c : Cost}
@@ -442,10 +442,10 @@ mutual
         → Fires n w (body_of p u e) (without_event s) o (unless_faulted o (event_beside s)) o' c'
         → Form n (switching (Recurring w) t p u) e m s L o' (over (both_costs c c'))
     -- a switch that keeps its source, under an observer
-    of_keeping : {w : Observation} {t q u : Term} {k : Name} {p : Pattern} {e : Environment} {m : Made} {s : Step} {L : Life} {st : Standing} {o : Outcome} {c : Cost}
-        → Since n (observed (closure t e) q e) (body_with k (closure t e) p u e) L st
-        → SwitchTurn n w (observed (closure t e) q e) (body_with k (closure t e) p u e) s L st o c
-        → Form n (keeping w t q k p u) e m s L o c
+    of_continuing : {w : Observation} {t q u : Term} {k : Name} {p : Pattern} {e : Environment} {m : Made} {s : Step} {L : Life} {st : Standing} {o : Outcome} {c : Cost}
+        → Since n (observed (closure t e) q e) (continuing_body k (closure t e) p u e) L st
+        → SwitchTurn n w (observed (closure t e) q e) (continuing_body k (closure t e) p u e) s L st o c
+        → Form n (continuing w t q k p u) e m s L o c
     -- the members of a collection
     of_gathered : {i : Collection} {e : Environment} {ms : Members} {s : Step} {L : Life} {o : Outcome} {c : Cost}
         → Each n ms s L o c
@@ -466,7 +466,7 @@ mutual
     of_stages : {x : Extent} {f g : Term} {e : Environment} {m : Made} {s : Step} {L : Life} {ys : List Data} {o o' : Outcome} {c c' : Cost}
         → Outputs n (closure f e) L ys
         → Gives n (closure f e) (s ∷ L) o c
-        → Next n o g e (relay (s ∷ L) (value_in o ∷ ys)) o' c'
+        → Next n o g e (relay (s ∷ L) (outcome_value o ∷ ys)) o' c'
         → Form n (staged x f g) e m s L (combined (join_value InSequence) o o') (over_stages x (both_costs c c'))
 
   -- The part that stands next. After a fault it isn't stepped, and the terms in its text count.
@@ -493,12 +493,12 @@ mutual
     by_observer : {P : Process} {q : Term} {e : Environment} {s : Step} {L : Life} {ys : List Data} {o o' : Outcome} {c c' : Cost}
         → Outputs n P L ys
         → Gives n P (s ∷ L) o c
-        → Next n o q e (observed_life (s ∷ L) (value_in o ∷ ys)) o' c'
+        → Next n o q e (observed_life (s ∷ L) (outcome_value o ∷ ys)) o' c'
         → Sees n (observed P q e) s L (combined pair o o') (both_costs c c')
     by_members_observer : {ms : Members} {q : Term} {e : Environment} {s : Step} {L : Life} {ys : List Data} {o o' : Outcome} {c c' : Cost}
         → Tables n ms L ys
         → Each n ms s L o c
-        → Next n o q e (observed_life (s ∷ L) (value_in o ∷ ys)) o' c'
+        → Next n o q e (observed_life (s ∷ L) (outcome_value o ∷ ys)) o' c'
         → Sees n (observed_members ms q e) s L (combined pair o o') (both_costs c c')
 
   -- Where a switch stands after a life of what it watches, where B takes over.
@@ -549,7 +549,7 @@ mutual
     one_more : {k : KeyData} {P : Process} {ms : Members} {s : Step} {L : Life} {o o' : Outcome} {c c' : Cost}
         → Gives n P (s ∷ L) o c
         → Others n o ms s L o' c'
-        → Each n (member k P ms) s L (combined (with_row k) o o') (both_costs c c')
+        → Each n (member k P ms) s L (combined (leading_row k) o o') (both_costs c c')
 
   -- The members after one. After a fault they aren't stepped.
   pub data Others (n : Network) : Outcome → Members → Step → Life → Outcome → Cost → Type 0 where

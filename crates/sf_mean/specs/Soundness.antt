@@ -2,10 +2,10 @@
 use Rattle.std.specs.Prelude.{◌≡◌, ℕ, List, [], ◌∷◌, ⊤, Bool, true, false, ◌&&◌, IsTrue, Some, slice_get}
 use Rattle.sf_value.specs.Values.{Name, KeyKind, Kind, KeyData, IsOneOf, HasKeyKind, Data, HasKind}
 use Rattle.sf_func.specs.Registries.{TypesByName, KeepTheirTypes}
-use Rattle.sf_term.specs.Trees.{Term, primitive, reference, started, call, joined, sided, headed, transformed, switching, keeping, gathered, releasing, editing, staged, Collection, without_members, used, added, dropped, kept, chosen, Template}
+use Rattle.sf_term.specs.Trees.{Term, primitive, reference, started, call, joined, sided, headed, transformed, switching, continuing, gathered, releasing, editing, staged, Collection, without_members, used, added, dropped, kept, chosen, Template}
 use Rattle.sf_mean.specs.Lives.{Step, input_of, Life, Environment, empty, known, running, collected, Members, no_members, member, Process, closure, resumed}
 use Rattle.sf_mean.specs.Meaning.{Network, Outcome, gave, faulted, Outputs}
-use Rattle.sf_mean.specs.Contexts.{value, process, collection, Bindings, context_with}
+use Rattle.sf_mean.specs.Contexts.{value, process, collection, Bindings, outer_context}
 use Rattle.sf_mean.specs.Typing.{Takes, IsTyped}
 
 -- Each value of a list has a type.
@@ -41,7 +41,7 @@ mutual
   -- under which, and under the headers of the network, its term takes them; what was frozen has lived such inputs.
   pub data ProcessTakes (n : Network) : Process → Kind → Kind → Type 0 where
     closure_takes : {t : Term} {e : Environment} {fs : TypesByName} {bs : Bindings} {a b : Kind}
-        → NetworkIsTyped fs n → EnvironmentHas n e bs → Takes (context_with fs bs n.templates) t a b → ProcessTakes n (closure t e) a b
+        → NetworkIsTyped fs n → EnvironmentHas n e bs → Takes (outer_context fs bs n.templates) t a b → ProcessTakes n (closure t e) a b
     resumed_takes : {P : Process} {h : Life} {d : ℕ} {a b : Kind} → ProcessTakes n P a b → LifeHas h a → ProcessTakes n (resumed P h d) a b
 
   -- Members have keys of a type, and each takes inputs of one type to outputs of another.
@@ -78,7 +78,7 @@ abbrev mutual
   is_without_calls (headed h i t) = is_without_calls t
   is_without_calls (transformed f t) = is_without_calls t
   is_without_calls (switching w t p u) = is_without_calls t && is_without_calls u
-  is_without_calls (keeping w t q k p u) = is_without_calls t && (is_without_calls q && is_without_calls u)
+  is_without_calls (continuing w t q k p u) = is_without_calls t && (is_without_calls q && is_without_calls u)
   is_without_calls (gathered i) = collects_without_calls i
   is_without_calls (releasing w i q k p u) = collects_without_calls i && (is_without_calls q && is_without_calls u)
   is_without_calls (editing w i k p u) = collects_without_calls i && collects_without_calls u

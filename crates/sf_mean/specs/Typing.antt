@@ -17,13 +17,13 @@ use Rattle.sf_term.specs.declared.form.Accumulation.TheVariants.{EdgeBy, AccumBy
 use Rattle.sf_term.specs.declared.form.Join.TheVariants.{InSequence, InParallel, FannedOut}
 use Rattle.sf_term.specs.declared.form.Side.TheVariants.{First, Second}
 use Rattle.sf_term.specs.declared.form.Heading.TheVariants.{LoopPre, Initialized, Replaced, Followed}
-use Rattle.sf_term.specs.Trees.{Chain, lone, chained, on_side, on_both, fanned, Primitive, bare, probe, never, with_value, timed, selected, arrow, accumulated, fused, Extent, Term, primitive, reference, started, call, Arguments, no_arguments, value_argument, process_argument, collection_argument, closed_argument, joined, sided, headed, transformed, switching, keeping, gathered, releasing, editing, staged, Collection, without_members, used, added, dropped, kept, chosen, Template, Templates}
+use Rattle.sf_term.specs.Trees.{Chain, lone, chained, on_side, on_both, fanned, Primitive, bare, probe, never, with_value, timed, selected, arrow, accumulated, fused, Extent, Term, primitive, reference, started, call, Arguments, no_arguments, value_argument, process_argument, collection_argument, closed_argument, joined, sided, headed, transformed, switching, continuing, gathered, releasing, editing, staged, Collection, without_members, used, added, dropped, kept, chosen, Template, Templates}
 use Rattle.sf_term.specs.Parameters.{NameKind, value, process, collection, Bindings}
 use Rattle.sf_term.specs.declared.form.Observation.{Observation}
 use Rattle.sf_term.specs.declared.form.Start.{Start}
 use Rattle.sf_term.specs.declared.form.Switching.TheVariants.{Basic, Recurring}
 use Rattle.sf_mean.specs.Networks.{main_of}
-use Rattle.sf_mean.specs.Contexts.{Context, Signature, signature_named, names_of_values, context_of, inside_pattern, inside_process, inside_collection, process_named, collection_named}
+use Rattle.sf_mean.specs.Contexts.{Context, Signature, signature_named, names_of_values, template_context, inside_pattern, inside_process, inside_collection, process_named, collection_named}
 use Rattle.sf_mean.specs.Calls.{ReachesTemplate}
 
 -- Functions made into one take inputs of one type to outputs of another.
@@ -137,10 +137,10 @@ mutual
         → Takes Γ t a (pair_kind b (event_kind c)) → Binds p c (names_of_values Γ) (names_of_values (inside_pattern p c Γ)) → Takes (inside_pattern p c Γ) u a b → FormTakes Γ (switching (Basic w) t p u) a b
     recurring_takes : {Γ : Context} {w : Observation} {t u : Term} {p : Pattern} {a b c : Kind}
         → Takes Γ t a b → Binds p c (names_of_values Γ) (names_of_values (inside_pattern p c Γ)) → Takes (inside_pattern p c Γ) u a b → FormTakes Γ (switching (Recurring w) t p u) (pair_kind a (event_kind c)) b
-    keeping_takes : {Γ : Context} {w : Observation} {t q u : Term} {k : Name} {p : Pattern} {a b c : Kind}
+    continuing_takes : {Γ : Context} {w : Observation} {t q u : Term} {k : Name} {p : Pattern} {a b c : Kind}
         → Takes Γ t a b → Takes Γ q (pair_kind a b) (event_kind c)
         → Binds p c (names_of_values (inside_process k a b Γ)) (names_of_values (inside_pattern p c (inside_process k a b Γ)))
-        → Takes (inside_pattern p c (inside_process k a b Γ)) u a b → FormTakes Γ (keeping w t q k p u) a b
+        → Takes (inside_pattern p c (inside_process k a b Γ)) u a b → FormTakes Γ (continuing w t q k p u) a b
     gathered_takes : {Γ : Context} {i : Collection} {k : KeyKind} {a b : Kind} → Collects Γ i k a b → FormTakes Γ (gathered i) a (table_kind k b)
     releasing_takes : {Γ : Context} {w : Observation} {i : Collection} {q u : Term} {x : Name} {p : Pattern} {k : KeyKind} {a b c : Kind}
         → Collects Γ i k a b → Takes Γ q (pair_kind a (table_kind k b)) (event_kind c)
@@ -187,7 +187,7 @@ ParameterFits (collection k a b) = Fits a × Fits b
 -- and its term takes its header's input to its header's output.
 pub record IsTyped (fs : TypesByName) (ts : Templates) (t : Template) : Type 0 where
   pub parameters : All (λ (q : Name × NameKind). ParameterFits q.1) t.parameters
-  pub body : Takes (context_of fs t.parameters ts) t.body t.input t.output
+  pub body : Takes (template_context fs t.parameters ts) t.body t.input t.output
 
 -- With stored functions of these types, a network is accepted where its templates have different names, each has different
 -- names of its parameters and a term of its header's types, one is `main` and has no parameters, and none reaches itself by

@@ -7,7 +7,7 @@ use Rattle.sf_operator.specs.declared.operator.Folding.TheVariants as folding
 use Rattle.sf_operator.specs.Outcomes.{Evaluated, answer, ◌>>=◌, known}
 use Rattle.sf_operator.specs.Answers.{Yields, yields, fails}
 use Rattle.sf_operator.specs.Kinds.{kind_of_keys, only, payload_of, columns_of}
-use Rattle.sf_operator.specs.Operations.{payload_in}
+use Rattle.sf_operator.specs.Operations.{payload_held}
 use Rattle.sf_operator.specs.FunctionForms.{kept_payload, mapped_payload, matched_payload, merged_by, value_of_key, folded_rows}
 use Rattle.sf_operator.specs.Laws.{EachMappingYields, EachFoldingYields}
 use Rattle.sf_operator.proofs.SameKinds.{only_is, found_is, payload_is, columns_is}
@@ -64,7 +64,7 @@ folding_yields folding.Merge t u a v w d other f h l e g k =
     let of = payload_is t found.1 in
     let argument : pair_kind found.0 found.0 ≡ a = let is = found.2 in cc in
     yields_as (ap (λ (t : Kind). Some t) (sym of) ∙ second.1)
-    (and_yields l (λ c q. of_payload (λ p. known (payload_in c) (λ s. merged_by p s f)) of h (λ p r.
+    (and_yields l (λ c q. of_payload (λ p. known (payload_held c) (λ s. merged_by p s f)) of h (λ p r.
     of_payload (λ s. merged_by p s f) (sym first.0 ∙ of) q (λ s m. merged_by_yields f (sym one ∙ second.0) argument r m k))))
 folding_yields folding.Fold t u a v w d other f h l e g k =
     let found = found_is (columns_of t) (λ c. Some (pair_kind u (pair_kind (kind_of_keys c.0) c.1))) e in

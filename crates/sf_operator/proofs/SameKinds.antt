@@ -4,7 +4,7 @@ use Rattle.std.specs.Prelude.{Option, nat_le, map}
 use Rattle.std.proofs.lemmas.Slice.Eq.{bytes_eq-Decides}
 use mathlib.Core.Path.{ap₂}
 use Rattle.sf_value.specs.Values.{KeyKind, Kind, unit_kind, bool_kind, int_kind, text_kind, pair_kind, event_kind, table_kind}
-use Rattle.sf_value.specs.KindCodes.{KindMark, is_unit, is_bool, is_int, is_text, is_pair, is_event, is_int_table, is_text_table, kind_marks_of, kind_from, kind_from-kind_marks_of}
+use Rattle.sf_value.specs.KindCodes.{KindMark, is_unit, is_bool, is_int, is_text, is_pair, is_event, is_int_table, is_text_table, kind_marks_of, decoded_kind, decoded_kind-kind_marks_of}
 use Rattle.sf_operator.specs.Kinds.{mark_number, same_kind, found_then, only, parts_of, payload_of, columns_of, conditional_kind}
 
 same_mark : (m n : KindMark) → mark_number m ≡ mark_number n → m ≡ n
@@ -34,7 +34,7 @@ same_marks (m ∷ ms) (n ∷ ns) h =
 
 -- types with the same marks are the same
 pub same_is : (t u : Kind) → same_kind t u ≡ true → t ≡ u
-same_is t u h = sym (kind_from-kind_marks_of t) ∙ ap kind_from (same_marks (kind_marks_of t) (kind_marks_of u) ((bytes_eq-Decides (map mark_number (kind_marks_of t)) (map mark_number (kind_marks_of u))).0 h)) ∙ kind_from-kind_marks_of u
+same_is t u h = sym (decoded_kind-kind_marks_of t) ∙ ap decoded_kind (same_marks (kind_marks_of t) (kind_marks_of u) ((bytes_eq-Decides (map mark_number (kind_marks_of t)) (map mark_number (kind_marks_of u))).0 h)) ∙ decoded_kind-kind_marks_of u
 
 pub is_same : (t : Kind) → same_kind t t ≡ true
 is_same t = let ns = map mark_number (kind_marks_of t) in (bytes_eq-Decides ns ns).1 refl

@@ -3,7 +3,7 @@ use Rattle.std.proofs.Common.{◌≡◌, ℤ, pos, negsuc, zero, suc, Bool, true
 use Rattle.std.specs.Prelude.{Option, option_map, is_some, ◌+ℤ◌, ◌-ℤ◌, ◌*ℤ◌}
 use Rattle.std.specs.declared.cmp.Ordering.{Ordering}
 use Rattle.sf_value.specs.Values.{KeyKind, int_keys, text_keys, Kind, bool_kind, int_kind, pair_kind, event_kind, table_kind, KeyData, Data, truth, number, pair, no_event, Rows, is_narrow, HasKind, has_bool, has_int, has_text, has_pair, has_no_event, has_event, has_table, HasRowKinds, has_no_rows, has_row}
-use Rattle.sf_value.specs.Lookups.{equal_keys, value_under}
+use Rattle.sf_value.specs.Lookups.{equal_keys, row_value}
 use Rattle.sf_value.specs.declared.fault.ValueFault.TheVariants.{Overflow}
 use Rattle.sf_operator.specs.declared.operator.Unary.TheVariants.{Not, Event, First, Second, IsEvent, Size}
 use Rattle.sf_operator.specs.declared.operator.Operator.TheVariants.{Arithmetic, Equality, Comparison, Logic, Tag, Attach, FromEvent, Gate, Merge, Get}
@@ -16,7 +16,7 @@ use Rattle.sf_operator.specs.declared.operator.Merge.TheVariants.{Left, Right, E
 use Rattle.sf_operator.specs.Outcomes.{Evaluated, answer, failed, known, tested}
 use Rattle.sf_operator.specs.Answers.{Yields, yields, fails}
 use Rattle.sf_operator.specs.Kinds.{kind_of_keys, is_ordered, only, parts_of, payload_of, columns_of}
-use Rattle.sf_operator.specs.Operations.{truth_in, number_in, halves_in, payload_in, rows_in, key_in, event_of, payload_or, row_count, quotient, remainder, divide, of_numbers, of_comparison, order_of, merged, decided, operated}
+use Rattle.sf_operator.specs.Operations.{truth_held, number_held, halves_held, payload_held, rows_held, key_held, event_of, payload_or, row_count, quotient, remainder, divide, of_numbers, of_comparison, order_of, merged, decided, operated}
 use Rattle.sf_operator.specs.Laws.{EachUnaryYields, EachOperatorYields, EachDecisionYields}
 use Rattle.sf_operator.proofs.SameKinds.{only_is, found_is, parts_is, payload_is, columns_is}
 
@@ -29,22 +29,22 @@ yields_as {o} {t} {u} e h = let is : t ≡ u = cc in subst (λ (t : Kind). Yield
 
 -- ## What is made of the part of a value that its type has
 
-pub of_truth : {d : Data} {t u : Kind} (f : Bool → Evaluated Data) → t ≡ bool_kind → HasKind d t → ((b : Bool) → Yields u (f b)) → Yields u (known (truth_in d) f)
+pub of_truth : {d : Data} {t u : Kind} (f : Bool → Evaluated Data) → t ≡ bool_kind → HasKind d t → ((b : Bool) → Yields u (f b)) → Yields u (known (truth_held d) f)
 of_truth {u = u} f e h = each (as_kind e h)
   where
-    each : {d : Data} → HasKind d bool_kind → ((b : Bool) → Yields u (f b)) → Yields u (known (truth_in d) f)
+    each : {d : Data} → HasKind d bool_kind → ((b : Bool) → Yields u (f b)) → Yields u (known (truth_held d) f)
     each (has_bool {b = b}) k = k b
 
-of_number : {d : Data} {t u : Kind} (f : ℤ → Evaluated Data) → t ≡ int_kind → HasKind d t → ((z : ℤ) → Yields u (f z)) → Yields u (known (number_in d) f)
+of_number : {d : Data} {t u : Kind} (f : ℤ → Evaluated Data) → t ≡ int_kind → HasKind d t → ((z : ℤ) → Yields u (f z)) → Yields u (known (number_held d) f)
 of_number {u = u} f e h = each (as_kind e h)
   where
-    each : {d : Data} → HasKind d int_kind → ((z : ℤ) → Yields u (f z)) → Yields u (known (number_in d) f)
+    each : {d : Data} → HasKind d int_kind → ((z : ℤ) → Yields u (f z)) → Yields u (known (number_held d) f)
     each (has_int {z = z} n) k = k z
 
-of_halves : {d : Data} {t a b u : Kind} (f : Data × Data → Evaluated Data) → t ≡ pair_kind a b → HasKind d t → ((x y : Data) → HasKind x a → HasKind y b → Yields u (f (x, y))) → Yields u (known (halves_in d) f)
+of_halves : {d : Data} {t a b u : Kind} (f : Data × Data → Evaluated Data) → t ≡ pair_kind a b → HasKind d t → ((x y : Data) → HasKind x a → HasKind y b → Yields u (f (x, y))) → Yields u (known (halves_held d) f)
 of_halves {a = a} {b = b} {u = u} f e h = each (as_kind e h)
   where
-    each : {d : Data} → HasKind d (pair_kind a b) → ((x y : Data) → HasKind x a → HasKind y b → Yields u (f (x, y))) → Yields u (known (halves_in d) f)
+    each : {d : Data} → HasKind d (pair_kind a b) → ((x y : Data) → HasKind x a → HasKind y b → Yields u (f (x, y))) → Yields u (known (halves_held d) f)
     each (has_pair {x = x} {y = y} h l) k = k x y h l
 
 -- a payload has a type, where there is one
@@ -52,23 +52,23 @@ pub data HasPayload (a : Kind) : Option Data → Type 0 where
   has_none : HasPayload a None
   has_some : {x : Data} → HasKind x a → HasPayload a (Some x)
 
-pub of_payload : {d : Data} {t a u : Kind} (f : Option Data → Evaluated Data) → t ≡ event_kind a → HasKind d t → ((e : Option Data) → HasPayload a e → Yields u (f e)) → Yields u (known (payload_in d) f)
+pub of_payload : {d : Data} {t a u : Kind} (f : Option Data → Evaluated Data) → t ≡ event_kind a → HasKind d t → ((e : Option Data) → HasPayload a e → Yields u (f e)) → Yields u (known (payload_held d) f)
 of_payload {a = a} {u = u} f e h = each (as_kind e h)
   where
-    each : {d : Data} → HasKind d (event_kind a) → ((e : Option Data) → HasPayload a e → Yields u (f e)) → Yields u (known (payload_in d) f)
+    each : {d : Data} → HasKind d (event_kind a) → ((e : Option Data) → HasPayload a e → Yields u (f e)) → Yields u (known (payload_held d) f)
     each has_no_event k = k None has_none
     each (has_event {x = x} h) k = k (Some x) (has_some h)
 
-pub of_rows : {d : Data} {t a u : Kind} {k : KeyKind} (f : Rows → Evaluated Data) → t ≡ table_kind k a → HasKind d t → ((rs : Rows) → HasRowKinds rs k a → Yields u (f rs)) → Yields u (known (rows_in d) f)
+pub of_rows : {d : Data} {t a u : Kind} {k : KeyKind} (f : Rows → Evaluated Data) → t ≡ table_kind k a → HasKind d t → ((rs : Rows) → HasRowKinds rs k a → Yields u (f rs)) → Yields u (known (rows_held d) f)
 of_rows {a = a} {u = u} {k = k} f e h = each (as_kind e h)
   where
-    each : {d : Data} → HasKind d (table_kind k a) → ((rs : Rows) → HasRowKinds rs k a → Yields u (f rs)) → Yields u (known (rows_in d) f)
+    each : {d : Data} → HasKind d (table_kind k a) → ((rs : Rows) → HasRowKinds rs k a → Yields u (f rs)) → Yields u (known (rows_held d) f)
     each (has_table {rs = rs} h n) g = g rs h
 
-of_key : {d : Data} {t u : Kind} (k : KeyKind) (f : KeyData → Evaluated Data) → t ≡ kind_of_keys k → HasKind d t → ((l : KeyData) → Yields u (f l)) → Yields u (known (key_in d) f)
+of_key : {d : Data} {t u : Kind} (k : KeyKind) (f : KeyData → Evaluated Data) → t ≡ kind_of_keys k → HasKind d t → ((l : KeyData) → Yields u (f l)) → Yields u (known (key_held d) f)
 of_key {u = u} k f e h = each k (as_kind e h)
   where
-    each : {d : Data} (k : KeyKind) → HasKind d (kind_of_keys k) → ((l : KeyData) → Yields u (f l)) → Yields u (known (key_in d) f)
+    each : {d : Data} (k : KeyKind) → HasKind d (kind_of_keys k) → ((l : KeyData) → Yields u (f l)) → Yields u (known (key_held d) f)
     each int_keys (has_int n) g = g _
     each text_keys (has_text n) g = g _
 
@@ -124,11 +124,11 @@ pub gated_has : {d : Data} {a : Kind} (c : Bool) → HasKind d (event_kind a) �
 gated_has true h = h
 gated_has false h = has_no_event
 
-found_has : (k : KeyData) {rs : Rows} {l : KeyKind} {a : Kind} → HasRowKinds rs l a → HasPayload a (value_under k rs)
+found_has : (k : KeyData) {rs : Rows} {l : KeyKind} {a : Kind} → HasRowKinds rs l a → HasPayload a (row_value k rs)
 found_has k has_no_rows = has_none
 found_has k {a = a} (has_row {l = l} {x = x} {rs = rs} i h m) = each (equal_keys k l) (found_has k m)
   where
-    each : (b : Bool) → HasPayload a (value_under k rs) → HasPayload a (cond b (Some x) (value_under k rs))
+    each : (b : Bool) → HasPayload a (row_value k rs) → HasPayload a (cond b (Some x) (row_value k rs))
     each true later = has_some h
     each false later = later
 
@@ -156,7 +156,7 @@ pub operator_yields : EachOperatorYields
 operator_yields (Arithmetic o) t u v d c h l e =
     let g = only_is t int_kind (only u int_kind (Some int_kind)) e in
     let k = only_is u int_kind (Some int_kind) g.1 in
-    yields_as k.1 (of_number (λ x. known (number_in c) (of_numbers o x)) g.0 h (λ x. of_number (of_numbers o x) k.0 l (numbers_yield o x)))
+    yields_as k.1 (of_number (λ x. known (number_held c) (of_numbers o x)) g.0 h (λ x. of_number (of_numbers o x) k.0 l (numbers_yield o x)))
 operator_yields (Equality o) t u v d c h l e = yields_as (only_is t u (Some bool_kind) e).1 (yields has_bool)
 operator_yields (Comparison o) t u v d c h l e =
     let g = only_is t u (cond (is_ordered t) (Some bool_kind) None) e in
@@ -188,11 +188,11 @@ operator_yields (Merge m) t u v d c h l e =
     let g = found_is (payload_of t) (λ a. only t u (Some t)) e in
     let k = only_is t u (Some t) g.2 in
     let is = payload_is t g.1 in
-    yields_as (ap Some (sym is) ∙ k.1) (of_payload (λ e. known (payload_in c) (merged m e)) is h (λ x p. of_payload (merged m x) (sym k.0 ∙ is) l (λ y q. merged_yields m p q)))
+    yields_as (ap Some (sym is) ∙ k.1) (of_payload (λ e. known (payload_held c) (merged m e)) is h (λ x p. of_payload (merged m x) (sym k.0 ∙ is) l (λ y q. merged_yields m p q)))
 operator_yields Get t u v d c h l e =
     let g = found_is (columns_of t) (λ k. only u (kind_of_keys k.0) (Some (event_kind k.1))) e in
     let k = only_is u (kind_of_keys g.0.0) (Some (event_kind g.0.1)) g.2 in
-    yields_as k.1 (of_rows (λ rs. known (key_in c) (λ k. answer (event_of (value_under k rs)))) (columns_is t g.1) h (λ rs p. of_key g.0.0 (λ k. answer (event_of (value_under k rs))) k.0 l (λ i. yields (event_has (found_has i p)))))
+    yields_as k.1 (of_rows (λ rs. known (key_held c) (λ k. answer (event_of (row_value k rs)))) (columns_is t g.1) h (λ rs p. of_key g.0.0 (λ k. answer (event_of (row_value k rs))) k.0 l (λ i. yields (event_has (found_has i p)))))
 
 decision_has : (o : logic.Logic) (d c : Data) → decided (Logic o) d ≡ Some c → HasKind c bool_kind
 decision_has And (truth false) c e = let is : truth false ≡ c = cc in subst (λ (c : Data). HasKind c bool_kind) is has_bool

@@ -4,7 +4,7 @@ use Rattle.std.specs.declared.cmp.Ordering.{Ordering}
 use Rattle.std.specs.Ordering.{is_lt, is_le, is_gt, is_ge, nat_cmp, int_cmp, int_eq}
 use Rattle.std.specs.Cmp.Lexicographic.{slice_cmp}
 use Rattle.sf_value.specs.Values.{KeyData, number_key, text_key, Data, unit, truth, number, text, pair, no_event, event, table, Rows, no_rows, row}
-use Rattle.sf_value.specs.Lookups.{equal_keys, value_under}
+use Rattle.sf_value.specs.Lookups.{equal_keys, row_value}
 use Rattle.sf_value.specs.declared.fault.ValueFault.TheVariants.{DivideByZero, Clash}
 use Rattle.sf_operator.specs.declared.operator.Unary.{Unary}
 use Rattle.sf_operator.specs.declared.operator.Unary.TheVariants.{Not, Event, First, Second, IsEvent, Size}
@@ -23,32 +23,32 @@ use Rattle.sf_operator.specs.Outcomes.{Evaluated, answer, failed, known, tested}
 
 -- The parts of values of each type.
 
-abbrev pub truth_in : Data → Option Bool
-truth_in (truth b) = Some b
-truth_in d = None
+abbrev pub truth_held : Data → Option Bool
+truth_held (truth b) = Some b
+truth_held d = None
 
-abbrev pub number_in : Data → Option ℤ
-number_in (number z) = Some z
-number_in d = None
+abbrev pub number_held : Data → Option ℤ
+number_held (number z) = Some z
+number_held d = None
 
-abbrev pub halves_in : Data → Option (Data × Data)
-halves_in (pair a b) = Some (a, b)
-halves_in d = None
+abbrev pub halves_held : Data → Option (Data × Data)
+halves_held (pair a b) = Some (a, b)
+halves_held d = None
 
 -- the payload of an event that occurs, and none of one that doesn't
-abbrev pub payload_in : Data → Option (Option Data)
-payload_in no_event = Some None
-payload_in (event x) = Some (Some x)
-payload_in d = None
+abbrev pub payload_held : Data → Option (Option Data)
+payload_held no_event = Some None
+payload_held (event x) = Some (Some x)
+payload_held d = None
 
-abbrev pub rows_in : Data → Option Rows
-rows_in (table rs) = Some rs
-rows_in d = None
+abbrev pub rows_held : Data → Option Rows
+rows_held (table rs) = Some rs
+rows_held d = None
 
-abbrev pub key_in : Data → Option KeyData
-key_in (number z) = Some (number_key z)
-key_in (text s) = Some (text_key s)
-key_in d = None
+abbrev pub key_held : Data → Option KeyData
+key_held (number z) = Some (number_key z)
+key_held (text s) = Some (text_key s)
+key_held d = None
 
 -- the event of a payload, if there is one
 abbrev pub event_of : Option Data → Data
@@ -139,12 +139,12 @@ merged Exclusive (Some x) (Some y) = failed Clash
 
 -- an operator on a value
 abbrev pub unary_value : Unary → Data → Evaluated Data
-unary_value Not d = known (truth_in d) (λ b. answer (truth (not b)))
+unary_value Not d = known (truth_held d) (λ b. answer (truth (not b)))
 unary_value Event d = answer (event d)
-unary_value First d = known (halves_in d) (λ h. answer h.0)
-unary_value Second d = known (halves_in d) (λ h. answer h.1)
-unary_value IsEvent d = known (payload_in d) (λ e. answer (truth (is_some e)))
-unary_value Size d = known (rows_in d) (λ rs. tested (pos (row_count rs)))
+unary_value First d = known (halves_held d) (λ h. answer h.0)
+unary_value Second d = known (halves_held d) (λ h. answer h.1)
+unary_value IsEvent d = known (payload_held d) (λ e. answer (truth (is_some e)))
+unary_value Size d = known (rows_held d) (λ rs. tested (pos (row_count rs)))
 
 -- what the first operand decides alone: false decides `and`, true `or`
 abbrev pub decided : Operator → Data → Option Data
@@ -154,13 +154,13 @@ decided op d = None
 
 -- an operator on two values; the second is the answer where the first doesn't decide
 abbrev pub operated : Operator → Data → Data → Evaluated Data
-operated (Arithmetic o) a b = known (number_in a) (λ x. known (number_in b) (of_numbers o x))
+operated (Arithmetic o) a b = known (number_held a) (λ x. known (number_held b) (of_numbers o x))
 operated (Equality o) a b = answer (truth (of_equality o (same_data a b)))
 operated (Comparison o) a b = known (order_of a b) (λ r. answer (truth (of_comparison o r)))
 operated (Logic o) a b = answer b
-operated Tag a b = known (payload_in a) (λ e. answer (event_of (option_map (λ x. b) e)))
-operated Attach a b = known (payload_in a) (λ e. answer (event_of (option_map (λ x. pair x b) e)))
-operated FromEvent a b = known (payload_in a) (λ e. answer (payload_or e b))
-operated Gate a b = known (truth_in b) (λ c. answer (cond c a no_event))
-operated (Merge m) a b = known (payload_in a) (λ e. known (payload_in b) (merged m e))
-operated Get a b = known (rows_in a) (λ rs. known (key_in b) (λ k. answer (event_of (value_under k rs))))
+operated Tag a b = known (payload_held a) (λ e. answer (event_of (option_map (λ x. b) e)))
+operated Attach a b = known (payload_held a) (λ e. answer (event_of (option_map (λ x. pair x b) e)))
+operated FromEvent a b = known (payload_held a) (λ e. answer (payload_or e b))
+operated Gate a b = known (truth_held b) (λ c. answer (cond c a no_event))
+operated (Merge m) a b = known (payload_held a) (λ e. known (payload_held b) (merged m e))
+operated Get a b = known (rows_held a) (λ rs. known (key_held b) (λ k. answer (event_of (row_value k rs))))

@@ -1,7 +1,8 @@
 //! Arithmetic within signed 64 bits.
 ghost use Rattle.std.specs.Prelude.{◌≡◌, ◌≢◌, ◌<ℤ◌, pos, FitsSigned};
 ghost use Rattle.std.specs.Int.{w64};
-ghost use Rattle.sf_operator.specs.Operations.{of_numbers, quotient as quotient_of, remainder as remainder_of};
+ghost use Rattle.sf_operator.specs.Operations.{of_numbers};
+ghost use Rattle.sf_operator.specs.Operations;
 ghost use Rattle.sf_operator.specs.Outcomes.{tested};
 ghost use Rattle.sf_operator.specs.Answers.{Computes};
 
@@ -40,7 +41,7 @@ fn quotient(left: i128, right: i128) -> i128
     requires left_narrow { FitsSigned w64 left }
     requires right_narrow { FitsSigned w64 right }
     requires divisor { right ≢ pos 0 }
-    ensures { result ≡ quotient_of left right }
+    ensures { result ≡ Operations.quotient left right }
 {
     if 0 < right {
         left.div_euclid(right)
@@ -55,7 +56,7 @@ fn remainder(left: i128, right: i128) -> i128
     requires left_narrow { FitsSigned w64 left }
     requires right_narrow { FitsSigned w64 right }
     requires divisor { right ≢ pos 0 }
-    ensures { result ≡ remainder_of left right }
+    ensures { result ≡ Operations.remainder left right }
 {
     if 0 < right {
         left.rem_euclid(right)

@@ -1,9 +1,10 @@
 //! The parts of values of each type.
 ghost use Rattle.std.specs.Prelude.{◌≡◌, IfOk, IfSome, map, length};
 ghost use Rattle.std.specs.Option.{option_map};
-ghost use Rattle.sf_value.specs.View.{key_of, rows_under};
-ghost use Rattle.sf_operator.specs.Operations.{truth_in, number_in as a_number_in, halves_in as the_halves_in, payload_in as the_payload_in, rows_in as the_rows_in, key_in as a_key_in, order_of as the_order_of};
-ghost use Rattle.sf_operator.specs.FunctionForms.{value_of_key as the_value_of_key};
+ghost use Rattle.sf_value.specs.View.{key_of, keyed_rows};
+ghost use Rattle.sf_operator.specs.Operations.{truth_held, number_held, halves_held, payload_held, rows_held, key_held};
+ghost use Rattle.sf_operator.specs.Operations;
+ghost use Rattle.sf_operator.specs.FunctionForms;
 
 use sf_value::{Form, Key, Rows, Value};
 use std::alloc::AllocError;
@@ -12,7 +13,7 @@ use std::rc::Rc;
 
 /// The truth that a value is, if it is one.
 pub fn is_true(value: &Value) -> Option<bool>
-    ensures { result ≡ truth_in value.now }
+    ensures { result ≡ truth_held value.now }
 {
     match value.form() {
         Form::Bool(truth) => Some(*truth),
@@ -22,7 +23,7 @@ pub fn is_true(value: &Value) -> Option<bool>
 
 /// The number that a value is, if it is one.
 pub fn number_in(value: &Value) -> Option<i64>
-    ensures { result ≡ a_number_in value.now }
+    ensures { result ≡ number_held value.now }
 {
     match value.form() {
         Form::Int(number) => Some(*number),
@@ -32,7 +33,7 @@ pub fn number_in(value: &Value) -> Option<i64>
 
 /// The halves of a pair; none of another value.
 pub(crate) fn halves_in(value: &Value) -> Option<(&Value, &Value)>
-    ensures { option_map (λ h. (h.0.now, h.1.now)) result ≡ the_halves_in value.now }
+    ensures { option_map (λ h. (h.0.now, h.1.now)) result ≡ halves_held value.now }
 {
     match value.form() {
         Form::Pair(halves) => Some((&halves.first, &halves.second)),
@@ -42,7 +43,7 @@ pub(crate) fn halves_in(value: &Value) -> Option<(&Value, &Value)>
 
 /// The payload of an event, if it occurs; none of another value.
 pub fn payload_in(value: &Value) -> Option<Option<&Rc<Value>>>
-    ensures { option_map (λ e. option_map (λ x. x.now.value) e) result ≡ the_payload_in value.now }
+    ensures { option_map (λ e. option_map (λ x. x.now.value) e) result ≡ payload_held value.now }
 {
     match value.form() {
         Form::NoEvent => Some(None),
@@ -53,7 +54,7 @@ pub fn payload_in(value: &Value) -> Option<Option<&Rc<Value>>>
 
 /// The rows of a table, which has a value for each of its keys; none of another value.
 pub fn rows_in(value: &Value) -> Option<Rows<'_>>
-    ensures rows { option_map (λ rs. rows_under (map key_of rs.keys.now) rs.values.now) result ≡ the_rows_in value.now }
+    ensures rows { option_map (λ rs. keyed_rows (map key_of rs.keys.now) rs.values.now) result ≡ rows_held value.now }
     ensures as_many { IfSome result (λ rs. length rs.keys.now ≡ length rs.values.now) }
 {
     match value.form() {
@@ -64,7 +65,7 @@ pub fn rows_in(value: &Value) -> Option<Rows<'_>>
 
 /// The key that a value is, if it is one. A text is shared.
 pub(crate) fn key_in(value: &Value) -> Result<Option<Key>, AllocError>
-    ensures { IfOk result (λ k. option_map key_of k ≡ a_key_in value.now) }
+    ensures { IfOk result (λ k. option_map key_of k ≡ key_held value.now) }
 {
     match value.form() {
         Form::Int(number) => Ok(Some(Key::Int(*number))),
@@ -75,7 +76,7 @@ pub(crate) fn key_in(value: &Value) -> Result<Option<Key>, AllocError>
 
 /// A key, as a value. A text is shared; the error is too many owners of it.
 pub fn value_of_key(key: &Key) -> Result<Value, AllocError>
-    ensures { IfOk result (λ v. v ≡ the_value_of_key (key_of key.now)) }
+    ensures { IfOk result (λ v. v ≡ FunctionForms.value_of_key (key_of key.now)) }
 {
     match key {
         Key::Int(number) => Ok(Value::int(*number)),
@@ -85,7 +86,7 @@ pub fn value_of_key(key: &Key) -> Result<Value, AllocError>
 
 /// How two numbers or two texts stand in order; none of other values.
 pub(crate) fn order_of(left: &Value, right: &Value) -> Option<Ordering>
-    ensures { result ≡ the_order_of left.now right.now }
+    ensures { result ≡ Operations.order_of left.now right.now }
 {
     match left.form() {
         Form::Int(left) => match right.form() {

@@ -1,8 +1,9 @@
 //! What operators make of values.
 ghost use Rattle.std.specs.Prelude.{◌≡◌, Result, pos, map, length};
 ghost use Rattle.sf_value.specs.Values.{event};
-ghost use Rattle.sf_value.specs.View.{key_of, rows_under};
-ghost use Rattle.sf_operator.specs.Outcomes.{answer, nonsense as the_nonsense, tested};
+ghost use Rattle.sf_value.specs.View.{key_of, keyed_rows};
+ghost use Rattle.sf_operator.specs.Outcomes.{answer, tested};
+ghost use Rattle.sf_operator.specs.Outcomes;
 ghost use Rattle.sf_operator.specs.Operations.{unary_value, decided, operated, row_count, same_data, of_equality, of_comparison};
 ghost use Rattle.sf_operator.specs.Answers.{Evaluates};
 
@@ -16,7 +17,7 @@ use std::cmp::Ordering;
 
 /// What stands where an operator makes no sense.
 fn nonsense() -> Value
-    ensures { result ≡ the_nonsense }
+    ensures { result ≡ Outcomes.nonsense }
 {
     Value::int(0)
 }
@@ -70,7 +71,7 @@ pub fn operate_on(alloc: Global, operator: Unary, value: &Value) -> Result<Value
 #[tactic(auto, using(crate::proofs::Counting::rows_counted))]
 fn size(rows: Rows) -> Result<Value, EvalFault>
     requires { length rows.keys.now ≡ length rows.values.now }
-    ensures { Evaluates result (tested (pos (row_count (rows_under (map key_of rows.entry.keys.now) rows.entry.values.now)))) }
+    ensures { Evaluates result (tested (pos (row_count (keyed_rows (map key_of rows.entry.keys.now) rows.entry.values.now)))) }
 {
     Ok(Value::int(narrow(rows.values.len() as i128)?))
 }

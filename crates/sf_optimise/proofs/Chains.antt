@@ -6,7 +6,7 @@ use Rattle.sf_expr.specs.declared.exprs.Exprs.{Exprs}
 use Rattle.sf_term.specs.Trees.{Term}
 use Rattle.sf_law.specs.declared.node.PlanChain.{PlanChain}
 use Rattle.sf_rewrite.specs.Normal.{is_arr, may_meet}
-use Rattle.sf_optimise.specs.Making.{ChainIn, chain_in, no_chain, ChainsIn, chains_in, not_both}
+use Rattle.sf_optimise.specs.Making.{TermChain, chain_in, no_chain, ChainsIn, chains_in, not_both}
 
 pub meets_left : (a b : Bool) → a ≡ false → IsTrue (may_meet a b)
 meets_left true b h = absurd (true≢false h)
@@ -18,11 +18,11 @@ meets_right true false h = refl
 meets_right false b h = refl
 
 -- where one of two neighbours is no `arr`
-pub first_no_arr : {x : Exprs} {t u : Term} → ChainIn x t None → ChainsIn x t u None
+pub first_no_arr : {x : Exprs} {t u : Term} → TermChain x t None → ChainsIn x t u None
 first_no_arr {x} {t} {u} (no_chain h) = not_both (meets_left (is_arr t) (is_arr u) h)
 
-pub second_no_arr : {x : Exprs} {t u : Term} → ChainIn x u None → ChainsIn x t u None
+pub second_no_arr : {x : Exprs} {t u : Term} → TermChain x u None → ChainsIn x t u None
 second_no_arr {x} {t} {u} (no_chain h) = not_both (meets_right (is_arr t) (is_arr u) h)
 
-pub both_arr : {x : Exprs} {t u : Term} {c d : Rc PlanChain Global} → ChainIn x t (Some c) → ChainIn x u (Some d) → ChainsIn x t u (Some (c, d))
+pub both_arr : {x : Exprs} {t u : Term} {c d : Rc PlanChain Global} → TermChain x t (Some c) → TermChain x u (Some d) → ChainsIn x t u (Some (c, d))
 both_arr (chain_in C) (chain_in D) = chains_in C D

@@ -9,7 +9,7 @@ use Rattle.sf_expr.specs.declared.exprs.Exprs.{Exprs}
 use Rattle.sf_expr.specs.Arena.{function_at}
 use Rattle.sf_term.specs.declared.form.Join.{Join}
 use Rattle.sf_term.specs.declared.form.Side.{Side}
-use Rattle.sf_term.specs.Trees.{Extent, whole, rest, bare, arrow, Term, primitive, reference, joined, sided, headed, transformed, switching, keeping, gathered, releasing, editing, staged}
+use Rattle.sf_term.specs.Trees.{Extent, whole, rest, bare, arrow, Term, primitive, reference, joined, sided, headed, transformed, switching, continuing, gathered, releasing, editing, staged}
 use Rattle.sf_term.specs.declared.form.Bare.{Bare}
 use Rattle.sf_term.specs.declared.form.Bare.TheVariants.{Identity, LocalTime, Integral, Edge, NotYet, Once, Count, Pre}
 use Rattle.sf_law.specs.declared.node.PlanId.{PlanId}
@@ -21,12 +21,13 @@ use Rattle.sf_law.specs.declared.node.PlanChain.{PlanChain}
 use Rattle.sf_law.specs.declared.node.PlanChain.TheVariants as chains
 use Rattle.sf_law.specs.declared.plan.Plan.{Plan}
 use Rattle.sf_law.specs.Entries.{stages, pipeline, chain_over, primitive_over, IsCodedPrimitive, IsCodedChain}
-use Rattle.sf_law.specs.Arena.{plan_tree, plan_expressions, trees_at, BuildsPlan, builds_primitive, builds_started, builds_probe, builds_call, builds_joined, builds_sided, builds_headed, builds_transformed, builds_switching, builds_keeping, builds_gathered, builds_releasing, builds_editing, builds_pipeline}
-use Rattle.sf_law.proofs.Kept.{builds}
+use Rattle.sf_law.specs.Arena.{plan_tree, plan_expressions, plan_trees, BuildsPlan, builds_primitive, builds_started, builds_probe, builds_call, builds_joined, builds_sided, builds_headed, builds_transformed, builds_switching, builds_continuing, builds_gathered, builds_releasing, builds_editing, builds_pipeline}
+use Rattle.sf_law.proofs.Extended.{builds}
 use Rattle.sf_rewrite.specs.Laws.{Laws, arr, unchanged, arr_as_chain}
-use Rattle.sf_rewrite.specs.Normal.{is_arr, is_stage, may_meet, IsPlan, plan_join, plan_pipeline, IsRest, last_stage, more_stages as more_rest}
+use Rattle.sf_rewrite.specs.Normal.{is_arr, is_stage, may_meet, IsPlan, plan_join, plan_pipeline, IsRest, last_stage}
+use Rattle.sf_rewrite.specs.Normal
 use Rattle.sf_optimise.specs.Lists.{is_identity_form, is_identity_term, AreStages, one_stage, more_stages}
-use Rattle.sf_optimise.specs.Making.{ChainIn, chain_in, MeetsAs, on_one_side, in_exchange}
+use Rattle.sf_optimise.specs.Making.{TermChain, chain_in, MeetsAs, on_one_side, in_exchange}
 use Rattle.sf_optimise.specs.declared.sequence.Meeting.TheVariants as meetings
 use Rattle.sf_rewrite.specs.Quiet.{is_quiet}
 use Rattle.sf_term.specs.declared.form.Join.TheVariants.{InParallel}
@@ -56,15 +57,15 @@ pub record IsPipeline (p : Plan) (v : Vec PlanId Global) (t : Term) : Type 0 whe
   pub second : PlanId
   pub others : List PlanId
   pub ids : v.items ≡ first ∷ second ∷ others
-  pub term : t ≡ staged whole (plan_tree p first) (stages rest (plan_tree p second) (trees_at p others))
+  pub term : t ≡ staged whole (plan_tree p first) (stages rest (plan_tree p second) (plan_trees p others))
 
 pub pipeline_built : {p : Plan} {v : Vec PlanId Global} {t : Term} → BuildsPlan p (nodes.Pipeline v) t → IsPipeline p v t
 pipeline_built {p = p} {v = v} (builds_pipeline h) = by v.items refl h
   where
-    by : (ids : List PlanId) → v.items ≡ ids → IsTrue (nat_le 2 (length ids)) → IsPipeline p v (pipeline (trees_at p v.items))
+    by : (ids : List PlanId) → v.items ≡ ids → IsTrue (nat_le 2 (length ids)) → IsPipeline p v (pipeline (plan_trees p v.items))
     by [] is h = absurd cc
     by (a ∷ []) is h = absurd cc
-    by (a ∷ b ∷ ids) is h = record { first = a; second = b; others = ids; ids = is; term = ap (λ ids. pipeline (trees_at p ids)) is }
+    by (a ∷ b ∷ ids) is h = record { first = a; second = b; others = ids; ids = is; term = ap (λ ids. pipeline (plan_trees p ids)) is }
 
 pub pipeline_no_arr : {p : Plan} {v : Vec PlanId Global} {t : Term} → BuildsPlan p (nodes.Pipeline v) t → is_arr t ≡ false
 pipeline_no_arr B = ap is_arr (pipeline_built B).term
@@ -82,14 +83,14 @@ identity_built {p} node form is B = built (built_as (node ∙ ap nodes.Primitive
 -- `arr` of one function
 pub arrow_chain : {x : Exprs} {f : FunctionId} (code : Rc OpenCode Global) {shared : Rc OpenCode Global} {c : Rc PlanChain Global} → c.value ≡ chains.Lone f shared
     → shared.value ≡ code.value → IsCodedPrimitive x (primitives.Arrow f code)
-    → ChainIn x (primitive (primitive_over x (primitives.Arrow f code))) (Some c)
+    → TermChain x (primitive (primitive_over x (primitives.Arrow f code))) (Some c)
 arrow_chain {x} {f} code {shared} {c} is same k = chain_in (record {
   coded = subst (IsCodedChain x) (sym is) (rw same k);
   law = subst (λ (d : PlanChain). Laws (primitive (arrow (function_at x f))) (arr (chain_over x d))) (sym is) arr_as_chain;
   is = refl;
 })
 
-pub fused_chain : {x : Exprs} (r : Rc PlanChain Global) {c : Rc PlanChain Global} → c.value ≡ r.value → IsCodedPrimitive x (primitives.Fused r) → ChainIn x (primitive (primitive_over x (primitives.Fused r))) (Some c)
+pub fused_chain : {x : Exprs} (r : Rc PlanChain Global) {c : Rc PlanChain Global} → c.value ≡ r.value → IsCodedPrimitive x (primitives.Fused r) → TermChain x (primitive (primitive_over x (primitives.Fused r))) (Some c)
 fused_chain {x} r {c} is k = chain_in (record {
   coded = subst (IsCodedChain x) (sym is) k;
   law = subst (λ (d : PlanChain). Laws (arr (chain_over x r.value)) (arr (chain_over x d))) (sym is) unchanged;
@@ -97,7 +98,7 @@ fused_chain {x} r {c} is k = chain_in (record {
 })
 
 -- what a primitive's functions are, those of its term are
-pub primitive_chain : {p : Plan} {q : PlanPrimitive} {t : Term} {o : Option (Rc PlanChain Global)} → BuildsPlan p (nodes.Primitive q) t → ((x : Exprs) → IsCodedPrimitive x q → ChainIn x (primitive (primitive_over x q)) o) → ChainIn (plan_expressions p) t o
+pub primitive_chain : {p : Plan} {q : PlanPrimitive} {t : Term} {o : Option (Rc PlanChain Global)} → BuildsPlan p (nodes.Primitive q) t → ((x : Exprs) → IsCodedPrimitive x q → TermChain x (primitive (primitive_over x q)) o) → TermChain (plan_expressions p) t o
 primitive_chain {p = p} (builds_primitive k) h = h (plan_expressions p) k
 
 -- ## The stages of a plan
@@ -115,7 +116,7 @@ is_rest (sided d t) = false
 is_rest (headed h i t) = false
 is_rest (transformed f t) = false
 is_rest (switching w t p u) = false
-is_rest (keeping w t q k p u) = false
+is_rest (continuing w t q k p u) = false
 is_rest (gathered i) = false
 is_rest (releasing w i q k p u) = false
 is_rest (editing w i k p u) = false
@@ -131,7 +132,7 @@ never_rest builds_sided = refl
 never_rest (builds_headed k) = refl
 never_rest (builds_transformed k) = refl
 never_rest builds_switching = refl
-never_rest builds_keeping = refl
+never_rest builds_continuing = refl
 never_rest (builds_gathered k) = refl
 never_rest (builds_releasing k) = refl
 never_rest (builds_editing k) = refl
@@ -140,19 +141,19 @@ never_rest (builds_pipeline {v = v} h) = ap is_rest (pipeline_built (builds_pipe
 -- the last stage of a pipeline
 last_of : {f t : Term} → is_rest t ≡ false → IsRest f t → IsTrue (may_meet (is_arr f) (is_arr t)) × IsPlan t × IsTrue (is_stage t)
 last_of h (last_stage P S m) = (m, P, S)
-last_of h (more_rest P S m R) = absurd (true≢false h)
+last_of h (Normal.more_stages P S m R) = absurd (true≢false h)
 
-rest_stages : (p : Plan) (f : Term) (b : PlanId) (ids : List PlanId) → IsRest f (stages rest (plan_tree p b) (trees_at p ids)) → IsTrue (may_meet (is_arr f) (is_arr (plan_tree p b))) × AreStages (trees_at p (b ∷ ids))
+rest_stages : (p : Plan) (f : Term) (b : PlanId) (ids : List PlanId) → IsRest f (stages rest (plan_tree p b) (plan_trees p ids)) → IsTrue (may_meet (is_arr f) (is_arr (plan_tree p b))) × AreStages (plan_trees p (b ∷ ids))
 rest_stages p f b [] R = let l = last_of (never_rest (builds p b)) R in (l.0, one_stage l.1 l.2)
 rest_stages p f b (c ∷ ids) (last_stage P S m) = absurd cc
-rest_stages p f b (c ∷ ids) (more_rest P S m R) = let l = rest_stages p (plan_tree p b) c ids R in (m, more_stages P S l.0 l.1)
+rest_stages p f b (c ∷ ids) (Normal.more_stages P S m R) = let l = rest_stages p (plan_tree p b) c ids R in (m, more_stages P S l.0 l.1)
 
-pub pipeline_stages : {p : Plan} {v : Vec PlanId Global} {t : Term} → BuildsPlan p (nodes.Pipeline v) t → IsPlan t → AreStages (trees_at p v.items)
+pub pipeline_stages : {p : Plan} {v : Vec PlanId Global} {t : Term} → BuildsPlan p (nodes.Pipeline v) t → IsPlan t → AreStages (plan_trees p v.items)
 pipeline_stages {p} {v} {t} B P =
     let k = pipeline_built B in
-    subst (λ ids. AreStages (trees_at p ids)) (sym k.ids) (by k.first k.second k.others (subst IsPlan k.term P))
+    subst (λ ids. AreStages (plan_trees p ids)) (sym k.ids) (by k.first k.second k.others (subst IsPlan k.term P))
   where
-    by : (a b : PlanId) (ids : List PlanId) → IsPlan (staged whole (plan_tree p a) (stages rest (plan_tree p b) (trees_at p ids))) → AreStages (trees_at p (a ∷ b ∷ ids))
+    by : (a b : PlanId) (ids : List PlanId) → IsPlan (staged whole (plan_tree p a) (stages rest (plan_tree p b) (plan_trees p ids))) → AreStages (plan_trees p (a ∷ b ∷ ids))
     by a b ids (plan_pipeline P S R) = let l = rest_stages p (plan_tree p a) b ids R in more_stages P S l.0 l.1
 
 -- the two stages of a pipeline that has no more
@@ -208,12 +209,12 @@ single_stage builds_sided other h P = refl
 single_stage (builds_headed k) other h P = refl
 single_stage (builds_transformed k) other h P = refl
 single_stage builds_switching other h P = refl
-single_stage builds_keeping other h P = refl
+single_stage builds_continuing other h P = refl
 single_stage (builds_gathered k) other h P = refl
 single_stage (builds_releasing k) other h P = refl
 single_stage (builds_editing k) other h P = refl
 single_stage (builds_pipeline {v = v} h) other g P = absurd (other v refl)
 
 -- the only stage of a term
-pub alone : (p : Plan) {ids : List PlanId} {a : PlanId} → ids ≡ a ∷ [] → IsPlan (plan_tree p a) → IsTrue (is_stage (plan_tree p a)) → AreStages (trees_at p ids)
-alone p is P S = subst (λ ids. AreStages (trees_at p ids)) (sym is) (one_stage P S)
+pub alone : (p : Plan) {ids : List PlanId} {a : PlanId} → ids ≡ a ∷ [] → IsPlan (plan_tree p a) → IsTrue (is_stage (plan_tree p a)) → AreStages (plan_trees p ids)
+alone p is P S = subst (λ ids. AreStages (plan_trees p ids)) (sym is) (one_stage P S)

@@ -1,11 +1,11 @@
 -- A term behind another.
 use Rattle.std.proofs.Common.{◌≡◌, ◌<◌, ◌≤◌, List, [], ◌∷◌, ◌++◌, length, slice_index_or, drop, true, true≢false, IsTrue, refl, sym, ◌∙◌, ap, subst, append_assoc, arith}
 use Rattle.sf_term.specs.declared.form.Bare.TheVariants.{Identity, LocalTime, Integral, Edge, NotYet, Once, Count, Pre}
-use Rattle.sf_term.specs.Trees.{whole, bare, probe, never, with_value, timed, selected, arrow, accumulated, fused, Term, primitive, reference, joined, sided, headed, transformed, switching, keeping, gathered, releasing, editing, staged}
+use Rattle.sf_term.specs.Trees.{whole, bare, probe, never, with_value, timed, selected, arrow, accumulated, fused, Term, primitive, reference, joined, sided, headed, transformed, switching, continuing, gathered, releasing, editing, staged}
 use Rattle.sf_law.specs.declared.node.PlanId.{PlanId}
 use Rattle.sf_law.specs.declared.plan.Plan.{Plan}
 use Rattle.sf_law.specs.Entries.{pipeline, ids_end}
-use Rattle.sf_law.specs.Arena.{node_count, plan_tree, trees_at}
+use Rattle.sf_law.specs.Arena.{node_count, plan_tree, plan_trees}
 use Rattle.sf_rewrite.specs.Laws.{Laws, identity, in_turn, identity_before, identity_after}
 use Rattle.sf_rewrite.specs.Normal.{is_stage, IsPlan}
 use Rattle.sf_optimise.specs.Lists.{is_identity_term, AreStages, one_stage, more_stages}
@@ -39,7 +39,7 @@ identity_is (sided d t) h = absurd (true≢false (sym h))
 identity_is (headed k i t) h = absurd (true≢false (sym h))
 identity_is (transformed f t) h = absurd (true≢false (sym h))
 identity_is (switching w t p u) h = absurd (true≢false (sym h))
-identity_is (keeping w t q k p u) h = absurd (true≢false (sym h))
+identity_is (continuing w t q k p u) h = absurd (true≢false (sym h))
 identity_is (gathered i) h = absurd (true≢false (sym h))
 identity_is (releasing w i q k p u) h = absurd (true≢false (sym h))
 identity_is (editing w i k p u) h = absurd (true≢false (sym h))
@@ -61,7 +61,7 @@ put_pipeline : (ts : List Term) (u : Term) (us : List Term) → 0 < length ts �
 put_pipeline [] u us h = let no : ⊥ = omega (arith, h) in absurd no
 put_pipeline (t ∷ ts) u us h = put_before t ts u us
 
-pub length_trees : (p : Plan) (ids : List PlanId) → 0 < length ids → 0 < length (trees_at p ids)
+pub length_trees : (p : Plan) (ids : List PlanId) → 0 < length ids → 0 < length (plan_trees p ids)
 length_trees p [] h = h
 length_trees p (a ∷ ids) h = omega arith
 
@@ -76,18 +76,18 @@ first_stage t (u ∷ us) (more_stages P S m A) = (P, S)
 
 -- what was made of the stages of both
 module _ (p q r : Plan) (a b : PlanId) (left behind more : List PlanId) (last head : PlanId)
-    (first : pipeline (trees_at p left) ≡ plan_tree p a) (some : 0 < length left) (first_stages : AreStages (trees_at p left))
-    (second : pipeline (trees_at p (last ∷ behind)) ≡ plan_tree p b) (second_stages : AreStages (trees_at p (last ∷ behind))) (second_held : ids_end (last ∷ behind) ≤ node_count p)
-    (m : Meets (trees_at p left) (plan_tree p last) (trees_at q more) (plan_tree q head)) (g : GrowsPlan p q) where
-  trees_made : trees_at q ((more ++ head ∷ []) ++ behind) ≡ trees_at q more ++ plan_tree q head ∷ trees_at p behind
+    (first : pipeline (plan_trees p left) ≡ plan_tree p a) (some : 0 < length left) (first_stages : AreStages (plan_trees p left))
+    (second : pipeline (plan_trees p (last ∷ behind)) ≡ plan_tree p b) (second_stages : AreStages (plan_trees p (last ∷ behind))) (second_held : ids_end (last ∷ behind) ≤ node_count p)
+    (m : Meets (plan_trees p left) (plan_tree p last) (plan_trees q more) (plan_tree q head)) (g : GrowsPlan p q) where
+  trees_made : plan_trees q ((more ++ head ∷ []) ++ behind) ≡ plan_trees q more ++ plan_tree q head ∷ plan_trees p behind
   trees_made =
-      trees_both q (more ++ head ∷ []) behind ∙ ap (λ (l : List Term). l ++ trees_at q behind) (trees_both q more (head ∷ [])) ∙ append_assoc (trees_at q more) (plan_tree q head ∷ []) (trees_at q behind)
-      ∙ ap (λ (l : List Term). trees_at q more ++ plan_tree q head ∷ l) (trees_still g behind (omega (arith, second_held)))
+      trees_both q (more ++ head ∷ []) behind ∙ ap (λ (l : List Term). l ++ plan_trees q behind) (trees_both q more (head ∷ [])) ∙ append_assoc (plan_trees q more) (plan_tree q head ∷ []) (plan_trees q behind)
+      ∙ ap (λ (l : List Term). plan_trees q more ++ plan_tree q head ∷ l) (trees_still g behind (omega (arith, second_held)))
 
-  pub both_made : {c : PlanId} → HoldsTree (pipeline (trees_at q ((more ++ head ∷ []) ++ behind))) r c → MakesPlan (staged whole (plan_tree p a) (plan_tree p b)) r c
+  pub both_made : {c : PlanId} → HoldsTree (pipeline (plan_trees q ((more ++ head ∷ []) ++ behind))) r c → MakesPlan (staged whole (plan_tree p a) (plan_tree p b)) r c
   both_made {c} h =
-      let us : List Term = trees_at q more ++ plan_tree q head ∷ trees_at p behind in
-      let law : Laws (staged whole (pipeline (trees_at p left)) (pipeline (trees_at p (last ∷ behind)))) (pipeline us) =
-      in_turn (put_pipeline (trees_at p left) (plan_tree p last) (trees_at p behind) (length_trees p left some)) (m.law (trees_at p behind)) in
-      let whole_law : Laws (staged whole (plan_tree p a) (plan_tree p b)) (pipeline us) = subst (λ t. Laws (staged whole (plan_tree p a) t) (pipeline us)) second (subst (λ t. Laws (staged whole t (pipeline (trees_at p (last ∷ behind)))) (pipeline us)) first law) in
-      makes_held (whole_normal (trees_at q more) (plan_tree q head) (trees_at p behind) (m.stages (trees_at p behind) first_stages second_stages)) whole_law (record { held = h.held; is = h.is ∙ ap pipeline trees_made })
+      let us : List Term = plan_trees q more ++ plan_tree q head ∷ plan_trees p behind in
+      let law : Laws (staged whole (pipeline (plan_trees p left)) (pipeline (plan_trees p (last ∷ behind)))) (pipeline us) =
+      in_turn (put_pipeline (plan_trees p left) (plan_tree p last) (plan_trees p behind) (length_trees p left some)) (m.law (plan_trees p behind)) in
+      let whole_law : Laws (staged whole (plan_tree p a) (plan_tree p b)) (pipeline us) = subst (λ t. Laws (staged whole (plan_tree p a) t) (pipeline us)) second (subst (λ t. Laws (staged whole t (pipeline (plan_trees p (last ∷ behind)))) (pipeline us)) first law) in
+      makes_held (whole_normal (plan_trees q more) (plan_tree q head) (plan_trees p behind) (m.stages (plan_trees p behind) first_stages second_stages)) whole_law (record { held = h.held; is = h.is ∙ ap pipeline trees_made })

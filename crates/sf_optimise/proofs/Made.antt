@@ -16,7 +16,7 @@ use Rattle.sf_law.specs.Entries.{chain_over}
 use Rattle.sf_law.specs.Arena.{plan_number, node_count, plan_tree, AddsNode}
 use Rattle.sf_rewrite.specs.Laws.{Laws, arr, constant, constant_after, unchanged, in_turn, in_join, in_side, in_stages, arr_on_side, arr_in_parallel, arr_fanned_out, arr_composed}
 use Rattle.sf_rewrite.specs.Normal.{is_arr, is_stage, is_left, IsPlan, plan_primitive, plan_join, plan_side}
-use Rattle.sf_optimise.specs.Making.{HoldsTree, IsNormal, MakesPlan, ChainIn, chain_in, ChainsIn, chains_in, not_both, IsConstant, Merges, merges, stays}
+use Rattle.sf_optimise.specs.Making.{HoldsTree, IsNormal, MakesPlan, TermChain, chain_in, ChainsIn, chains_in, not_both, IsConstant, Merges, merges, stays}
 use Rattle.sf_rewrite.specs.Quiet.{is_quiet}
 use Rattle.sf_optimise.proofs.Forms.{sided_built, joined_built}
 
@@ -28,7 +28,7 @@ makes_held {t = t} P law h = record { held = h.held; normal = subst IsPlan (sym 
 pub held_new : {old new : Plan} {a : PlanId} {n : PlanNode} → AddsNode old new a n → plan_number a < node_count new
 held_new A = omega (arith, A.next, A.counted)
 
-pub side_fused : {x : Exprs} {t : Term} {c : Rc PlanChain Global} {d : Side} {p : Plan} {a : PlanId} → ChainIn x t (Some c) → HoldsTree (arr (on_side d (chain_over x c.value))) p a → MakesPlan (sided d t) p a
+pub side_fused : {x : Exprs} {t : Term} {c : Rc PlanChain Global} {d : Side} {p : Plan} {a : PlanId} → TermChain x t (Some c) → HoldsTree (arr (on_side d (chain_over x c.value))) p a → MakesPlan (sided d t) p a
 side_fused (chain_in C) h = makes_held plan_primitive (in_turn (in_side C.law) arr_on_side) h
 
 pub side_added : {old new : Plan} {d : Side} {t a : PlanId} → IsNormal old t → AddsNode old new a (nodes.Sided d t) → MakesPlan (sided d (plan_tree old t)) new a

@@ -5,7 +5,7 @@ use Rattle.sf_law.specs.declared.node.PlanId.{PlanId}
 use Rattle.sf_law.specs.declared.node.PlanNode.TheVariants as nodes
 use Rattle.sf_law.specs.declared.plan.Plan.{Plan}
 use Rattle.sf_law.specs.Entries.{stages, pipeline, ids_end}
-use Rattle.sf_law.specs.Arena.{plan_tree, trees_at, BuildsPlan, builds_pipeline}
+use Rattle.sf_law.specs.Arena.{plan_tree, plan_trees, BuildsPlan, builds_pipeline}
 use Rattle.std.specs.Prelude.{Vec}
 use Rattle.std.specs.declared.alloc.Global.{Global}
 use Rattle.sf_rewrite.specs.Quiet.{is_quiet}
@@ -26,9 +26,9 @@ stages_quiet x t [] = and_true (is_quiet t)
 stages_quiet x t (u ∷ us) = ap (λ b. is_quiet t && b) (stages_quiet rest u us)
 
 -- a pipeline is quiet where all stages are
-pub pipeline_quiet : {p : Plan} {v : Vec PlanId Global} {t : Term} → BuildsPlan p (nodes.Pipeline v) t → all_quiet (trees_at p v.items) ≡ is_quiet t
+pub pipeline_quiet : {p : Plan} {v : Vec PlanId Global} {t : Term} → BuildsPlan p (nodes.Pipeline v) t → all_quiet (plan_trees p v.items) ≡ is_quiet t
 pipeline_quiet {p = p} {v = v} (builds_pipeline h) = by v.items
   where
-    by : (ids : List PlanId) → all_quiet (trees_at p ids) ≡ is_quiet (pipeline (trees_at p ids))
+    by : (ids : List PlanId) → all_quiet (plan_trees p ids) ≡ is_quiet (pipeline (plan_trees p ids))
     by [] = refl
-    by (a ∷ ids) = sym (stages_quiet whole (plan_tree p a) (trees_at p ids))
+    by (a ∷ ids) = sym (stages_quiet whole (plan_tree p a) (plan_trees p ids))

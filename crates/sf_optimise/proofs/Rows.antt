@@ -4,7 +4,8 @@ use Rattle.sf_term.specs.Trees.{Extent, whole, rest, Term, staged}
 use Rattle.sf_term.specs.Entries.{identity_term}
 use Rattle.sf_law.specs.Entries.{stages, pipeline}
 use Rattle.sf_rewrite.specs.Laws.{Laws, unchanged, in_turn, in_stages, within_pipeline, associate_right, associate_left}
-use Rattle.sf_rewrite.specs.Normal.{is_arr, is_stage, may_meet, IsPlan, plan_pipeline, IsRest, last_stage, more_stages as more_rest}
+use Rattle.sf_rewrite.specs.Normal.{is_arr, is_stage, may_meet, IsPlan, plan_pipeline, IsRest, last_stage}
+use Rattle.sf_rewrite.specs.Normal
 use Rattle.sf_optimise.specs.Lists.{AreStages, no_stages, one_stage, more_stages}
 
 -- stages as a whole pipeline, or as the rest of one
@@ -45,7 +46,7 @@ become_one before a b c after h =
 -- the rest of a pipeline
 rest_of : (t u : Term) (us : List Term) → IsTrue (may_meet (is_arr t) (is_arr u)) → AreStages (u ∷ us) → IsRest t (stages rest u us)
 rest_of t u [] m (one_stage P S) = last_stage P S m
-rest_of t u (v ∷ vs) m (more_stages P S n A) = more_rest P S m (rest_of u v vs n A)
+rest_of t u (v ∷ vs) m (more_stages P S n A) = Normal.more_stages P S m (rest_of u v vs n A)
 
 pub normal_row : (t : Term) (ts : List Term) → AreStages (t ∷ ts) → IsPlan (stages whole t ts)
 normal_row t [] (one_stage P S) = P

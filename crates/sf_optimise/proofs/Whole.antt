@@ -6,22 +6,22 @@ use Rattle.std.proofs.lemmas.List.{get_or_past, get_or_default}
 use Rattle.std.proofs.lemmas.List.Elements.{All-nil, All-cons}
 use Rattle.sf_term.specs.declared.node.TermId.{TermId}
 use Rattle.sf_term.specs.declared.program.Program.{Program}
-use Rattle.sf_term.specs.Headers.{Header as TermHeader}
+use Rattle.sf_term.specs.Headers.{Header}
 use Rattle.sf_term.specs.Trees.{Term, Template}
 use Rattle.sf_term.specs.Entries.{identity_term}
-use Rattle.sf_term.specs.Arena.{tree, term_number, term_count, template_in}
-use Rattle.sf_term.proofs.Kept.{term_past}
+use Rattle.sf_term.specs.Arena.{tree, term_number, term_count, term_template}
+use Rattle.sf_term.proofs.Extended.{term_past}
 use Rattle.sf_law.specs.declared.node.PlanId.{PlanId}
 use Rattle.sf_law.specs.declared.plan.Plan.{Plan}
 use Rattle.sf_law.specs.Headers.{PlanHeader, rebodied}
 use Rattle.sf_law.specs.Arena.{node_count, plan_tree, plan_expressions, plan_template}
 use Rattle.sf_law.specs.Copies.{CopiesTemplate}
-use Rattle.sf_law.proofs.Kept.{tree_past}
+use Rattle.sf_law.proofs.Extended.{tree_past}
 use Rattle.sf_law.proofs.Copied.{same_parameters}
 use Rattle.sf_rewrite.specs.Laws.{identity, unchanged}
 use Rattle.sf_rewrite.specs.Plans.{Plans, plans, of_primitive, PlansTemplate, PlansAll, no_templates, one_more}
 use Rattle.sf_rewrite.specs.Normal.{IsPlan, plan_primitive}
-use Rattle.sf_optimise.specs.Optimised.{plan_of, HoldsPlans}
+use Rattle.sf_optimise.specs.Optimised.{id_of_term, HoldsPlans}
 
 -- the plan of a term, which may stand under an id that isn't held
 abbrev IsPlanOf : Term → Term → Type 0
@@ -31,7 +31,7 @@ module _ (p : Program) (q : Plan) (ids : List PlanId) (holds : HoldsPlans p q id
   past : (t : TermId) → length ids ≤ term_number t → tree p t ≡ identity_term
   past t h = term_past p t (omega (arith, h, all))
 
-  pub anywhere : (t : TermId) (a : PlanId) → (term_number t < length ids → a ≡ plan_of ids t) → (length ids ≤ term_number t → plan_tree q a ≡ identity) → IsPlanOf (tree p t) (plan_tree q a)
+  pub anywhere : (t : TermId) (a : PlanId) → (term_number t < length ids → a ≡ id_of_term ids t) → (length ids ≤ term_number t → plan_tree q a ≡ identity) → IsPlanOf (tree p t) (plan_tree q a)
   anywhere t a found none = ⊎_elim within beyond (cases_lt (term_number t) (length ids))
     where
       within : term_number t < length ids → IsPlanOf (tree p t) (plan_tree q a)
@@ -50,7 +50,7 @@ module _ (p : Program) (q : Plan) (ids : List PlanId) (holds : HoldsPlans p q id
       (λ h. ap (plan_tree q) (get_or_past ids (term_number t) (record { 0 = node_count q }) h) ∙ tree_past q (record { 0 = node_count q }) (omega arith))
 
   module _ (r : Plan) (trees : (a : PlanId) → plan_tree r a ≡ plan_tree q a) where
-    template_planned : (h : TermHeader) (m : PlanHeader) → CopiesTemplate (plan_expressions r) h m → PlansTemplate (template_in p h) (plan_template r (rebodied ids (node_count q) m)) × IsPlan (plan_tree r (rebodied ids (node_count q) m).body)
+    template_planned : (h : Header) (m : PlanHeader) → CopiesTemplate (plan_expressions r) h m → PlansTemplate (term_template p h) (plan_template r (rebodied ids (node_count q) m)) × IsPlan (plan_tree r (rebodied ids (node_count q) m).body)
     template_planned h m z =
         let P = body_planned h.body in
         let is : plan_tree r (rebodied ids (node_count q) m).body ≡ plan_tree q (body_at h.body) = ap (λ (b : PlanId). plan_tree r (slice_index_or ids b.0 (record { 0 = node_count q }))) z.body ∙ trees (body_at h.body) in (
@@ -64,8 +64,8 @@ module _ (p : Program) (q : Plan) (ids : List PlanId) (holds : HoldsPlans p q id
           subst IsPlan (sym is) P.1,
         )
 
-    pub templates_planned : (hs : List TermHeader) (ms : List PlanHeader) → AllZip (CopiesTemplate (plan_expressions r)) hs ms
-        → PlansAll (map (template_in p) hs) (map (plan_template r) (map (rebodied ids (node_count q)) ms)) × All (λ (t : Template). IsPlan t.body) (map (plan_template r) (map (rebodied ids (node_count q)) ms))
+    pub templates_planned : (hs : List Header) (ms : List PlanHeader) → AllZip (CopiesTemplate (plan_expressions r)) hs ms
+        → PlansAll (map (term_template p) hs) (map (plan_template r) (map (rebodied ids (node_count q)) ms)) × All (λ (t : Template). IsPlan t.body) (map (plan_template r) (map (rebodied ids (node_count q)) ms))
     templates_planned [] [] z = (no_templates, All-nil (λ (t : Template). IsPlan t.body))
     templates_planned [] (m ∷ ms) z = absurd z
     templates_planned (h ∷ hs) [] z = absurd z

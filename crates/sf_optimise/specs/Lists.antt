@@ -2,7 +2,7 @@
 use Rattle.std.specs.Prelude.{List, [], ◌∷◌, Bool, true, false, ◌&&◌, IsTrue}
 use Rattle.sf_term.specs.declared.form.Bare.{Bare}
 use Rattle.sf_term.specs.declared.form.Bare.TheVariants.{Identity, LocalTime, Integral, Edge, NotYet, Once, Count, Pre}
-use Rattle.sf_term.specs.Trees.{bare, probe, never, with_value, timed, selected, arrow, accumulated, fused, Term, primitive, reference, joined, sided, headed, transformed, switching, keeping, gathered, releasing, editing, staged}
+use Rattle.sf_term.specs.Trees.{bare, probe, never, with_value, timed, selected, arrow, accumulated, fused, Term, primitive, reference, joined, sided, headed, transformed, switching, continuing, gathered, releasing, editing, staged}
 use Rattle.sf_rewrite.specs.Quiet.{is_quiet}
 use Rattle.sf_rewrite.specs.Normal.{IsPlan, is_stage, is_arr, may_meet}
 
@@ -34,7 +34,7 @@ is_identity_term (sided d t) = false
 is_identity_term (headed h i t) = false
 is_identity_term (transformed f t) = false
 is_identity_term (switching w t p u) = false
-is_identity_term (keeping w t q k p u) = false
+is_identity_term (continuing w t q k p u) = false
 is_identity_term (gathered i) = false
 is_identity_term (releasing w i q k p u) = false
 is_identity_term (editing w i k p u) = false

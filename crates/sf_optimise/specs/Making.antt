@@ -11,7 +11,7 @@ use Rattle.sf_law.specs.declared.node.PlanId.{PlanId}
 use Rattle.sf_law.specs.declared.node.PlanChain.{PlanChain}
 use Rattle.sf_law.specs.declared.plan.Plan.{Plan}
 use Rattle.sf_law.specs.Entries.{chain_over, IsCodedChain, pipeline}
-use Rattle.sf_law.specs.Arena.{plan_number, node_count, plan_tree, plan_headers, plan_main, KeepsPlan}
+use Rattle.sf_law.specs.Arena.{plan_number, node_count, plan_tree, plan_headers, plan_main, ExtendsPlan}
 use Rattle.sf_rewrite.specs.Quiet.{is_quiet_expression, is_quiet}
 use Rattle.sf_rewrite.specs.Laws.{Laws, arr, constant}
 use Rattle.sf_rewrite.specs.Normal.{IsPlan, is_stage, is_arr, may_meet}
@@ -21,7 +21,7 @@ use Rattle.sf_optimise.specs.Lists.{AreStages}
 
 -- a plan keeps its terms, and may have more of them
 pub record GrowsPlan (old new : Plan) : Type 0 where
-  pub keeps : KeepsPlan old new
+  pub keeps : ExtendsPlan old new
   pub templates : plan_headers new ≡ plan_headers old
   pub main : plan_main new ≡ plan_main old
 
@@ -48,9 +48,9 @@ pub record IsChain (x : Exprs) (t : Term) (c : Rc PlanChain Global) : Type 0 whe
   pub is : is_arr t ≡ true
 
 -- The functions of a term, where it is `arr`.
-pub data ChainIn (x : Exprs) (t : Term) : Option (Rc PlanChain Global) → Type 0 where
-  chain_in : {c : Rc PlanChain Global} → IsChain x t c → ChainIn x t (Some c)
-  no_chain : is_arr t ≡ false → ChainIn x t None
+pub data TermChain (x : Exprs) (t : Term) : Option (Rc PlanChain Global) → Type 0 where
+  chain_in : {c : Rc PlanChain Global} → IsChain x t c → TermChain x t (Some c)
+  no_chain : is_arr t ≡ false → TermChain x t None
 
 -- The functions of two neighbours, where both are `arr`.
 pub data ChainsIn (x : Exprs) (t u : Term) : Option (Rc PlanChain Global × Rc PlanChain Global) → Type 0 where

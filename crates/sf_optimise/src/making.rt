@@ -3,13 +3,13 @@ ghost use Rattle.std.specs.Prelude.{◌≡◌, ◌<◌, ◌≤◌, false, IfOk, 
 ghost use Rattle.sf_rewrite.specs.Normal.{IsPlan};
 ghost use Rattle.sf_term.specs.declared.form.Join.TheVariants.{InParallel, FannedOut};
 ghost use Rattle.sf_term.specs.declared.form.Side.TheVariants.{First};
-ghost use Rattle.sf_term.specs.Trees.{joined, sided, headed as headed_term, staged, whole};
+ghost use Rattle.sf_term.specs.Trees.{joined, sided, staged, whole};
+ghost use Rattle.sf_term.specs.Trees;
 ghost use Rattle.sf_rewrite.specs.Laws.{arr};
-ghost use Rattle.sf_law.specs.Arena.{plan_number, node_count, plan_tree, plan_expressions, plan_expression_at, trees_at};
-ghost use Rattle.sf_term.specs.Trees.{primitive as primitive_term};
+ghost use Rattle.sf_law.specs.Arena.{plan_number, node_count, plan_tree, plan_expressions, plan_expression_at, plan_trees};
 ghost use Rattle.sf_law.specs.Entries.{chain_over, pipeline, primitive_over, IsCodedPrimitive, IsCodedChain, ids_end};
 ghost use Rattle.sf_optimise.specs.Lists.{is_identity_term, AreStages};
-ghost use Rattle.sf_optimise.specs.Making.{GrowsPlan, HoldsTree, IsNormal, MakesPlan, ChainIn, ChainsIn, IsConstant};
+ghost use Rattle.sf_optimise.specs.Making.{GrowsPlan, HoldsTree, IsNormal, MakesPlan, TermChain, ChainsIn, IsConstant};
 
 use sf_code::expression_code;
 use sf_expr::{ExprId, Exprs};
@@ -80,7 +80,7 @@ pub(crate) fn headed(
     part: PlanId,
 ) -> Result<PlanId, AllocError>
     requires { plan_number part < node_count plan.old }
-    ensures ok { IfOk result (λ a. HoldsTree (headed_term heading (plan_expression_at plan.old value) (plan_tree plan.old part)) plan.new a) }
+    ensures ok { IfOk result (λ a. HoldsTree (Trees.headed heading (plan_expression_at plan.old value) (plan_tree plan.old part)) plan.new a) }
     ensures grows { GrowsPlan plan.old plan.new }
 {
     let code = expression_code(alloc, plan.expressions(), value)?;
@@ -90,7 +90,7 @@ pub(crate) fn headed(
 /// The functions of a term, where it is `arr`.
 #[tactic(auto, using(crate::specs::Making::no_chain))]
 fn chain_in(alloc: Global, plan: &Plan, id: PlanId) -> Result<Option<Rc<PlanChain>>, AllocError>
-    ensures { IfOk result (λ o. ChainIn (plan_expressions plan.now) (plan_tree plan.now id) o) }
+    ensures { IfOk result (λ o. TermChain (plan_expressions plan.now) (plan_tree plan.now id) o) }
 {
     match plan.node(id) {
         PlanNode::Primitive(primitive) => chain_of(alloc, primitive),
@@ -98,7 +98,7 @@ fn chain_in(alloc: Global, plan: &Plan, id: PlanId) -> Result<Option<Rc<PlanChai
         PlanNode::Joined(_, _, _) | PlanNode::Sided(_, _) => Ok(None),
         PlanNode::Headed(_, _, _, _) | PlanNode::Transformed(_, _, _) => Ok(None),
         PlanNode::Pipeline(_) => Ok(None),
-        PlanNode::Switching(_) | PlanNode::Keeping(_) => Ok(None),
+        PlanNode::Switching(_) | PlanNode::Continuation(_) => Ok(None),
         PlanNode::Gathered(_) | PlanNode::Releasing(_) | PlanNode::Editing(_) => Ok(None),
     }
 }
@@ -106,7 +106,7 @@ fn chain_in(alloc: Global, plan: &Plan, id: PlanId) -> Result<Option<Rc<PlanChai
 // The functions of a primitive.
 #[tactic(auto, using(crate::specs::Making::no_chain))]
 fn chain_of(alloc: Global, primitive: &PlanPrimitive) -> Result<Option<Rc<PlanChain>>, AllocError>
-    ensures { (x : Exprs) → IsCodedPrimitive x primitive.now → IfOk result (λ o. ChainIn x (primitive_term (primitive_over x primitive.now)) o) }
+    ensures { (x : Exprs) → IsCodedPrimitive x primitive.now → IfOk result (λ o. TermChain x (Trees.primitive (primitive_over x primitive.now)) o) }
 {
     match primitive {
         PlanPrimitive::Arrow(function, code) => {
@@ -155,7 +155,7 @@ pub(crate) fn fused(alloc: Global, plan: &mut Plan, chain: PlanChain) -> Result<
 pub(crate) fn in_a_row(plan: &mut Plan, stages: Vec<PlanId>) -> Result<PlanId, AllocError>
     requires some { 0 < vec_len stages }
     requires held { ids_end stages.items ≤ node_count plan.old }
-    ensures ok { IfOk result (λ a. HoldsTree (pipeline (trees_at plan.old stages.items)) plan.new a) }
+    ensures ok { IfOk result (λ a. HoldsTree (pipeline (plan_trees plan.old stages.items)) plan.new a) }
     ensures grows { GrowsPlan plan.old plan.new }
 {
     if stages.len() == 1 {
@@ -167,10 +167,10 @@ pub(crate) fn in_a_row(plan: &mut Plan, stages: Vec<PlanId>) -> Result<PlanId, A
 /// The stages of a term that is not the identity: those of a pipeline, or itself.
 pub(crate) fn stages_in(alloc: Global, plan: &Plan, id: PlanId) -> Result<Vec<PlanId>, AllocError>
     requires { is_identity_term (plan_tree plan.now id) ≡ false }
-    ensures is { IfOk result (λ v. pipeline (trees_at plan.now v.items) ≡ plan_tree plan.now id) }
+    ensures is { IfOk result (λ v. pipeline (plan_trees plan.now v.items) ≡ plan_tree plan.now id) }
     ensures held { plan_number id < node_count plan.now → IfOk result (λ v. ids_end v.items ≤ node_count plan.now) }
     ensures some { IfOk result (λ v. 0 < vec_len v) }
-    ensures stages { IsPlan (plan_tree plan.now id) → IfOk result (λ v. AreStages (trees_at plan.now v.items)) }
+    ensures stages { IsPlan (plan_tree plan.now id) → IfOk result (λ v. AreStages (plan_trees plan.now v.items)) }
 {
     let mut stages = Vec::new(alloc);
     if let PlanNode::Pipeline(others) = plan.node(id) {
@@ -192,7 +192,7 @@ pub(crate) fn is_identity(plan: &Plan, id: PlanId) -> bool
         PlanNode::Joined(_, _, _) | PlanNode::Sided(_, _) => false,
         PlanNode::Headed(_, _, _, _) | PlanNode::Transformed(_, _, _) => false,
         PlanNode::Pipeline(_) => false,
-        PlanNode::Switching(_) | PlanNode::Keeping(_) => false,
+        PlanNode::Switching(_) | PlanNode::Continuation(_) => false,
         PlanNode::Gathered(_) | PlanNode::Releasing(_) | PlanNode::Editing(_) => false,
     }
 }

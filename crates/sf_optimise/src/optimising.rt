@@ -1,12 +1,12 @@
 //! The optimised plan of a network: each term is made anew, from the innermost outwards, of the plans of its parts.
 ghost use Rattle.std.specs.Prelude.{◌≡◌, ◌<◌, ◌≤◌, true, IfOk, length};
 ghost use Rattle.sf_rewrite.specs.Laws.{identity};
-ghost use Rattle.sf_expr.specs.Arena.{Keeps};
-ghost use Rattle.sf_term.specs.Trees.{joined as joined_term, headed as headed_term};
-ghost use Rattle.sf_term.specs.Arena.{term_count, term_number, expressions_of, term_of, tree, TermPartsBelow, HoldsTermParts};
+ghost use Rattle.sf_expr.specs.Arena.{Extends};
+ghost use Rattle.sf_term.specs.Trees;
+ghost use Rattle.sf_term.specs.Arena.{term_count, term_number, program_expressions, term_of, tree, TermPartsBelow, HoldsTermParts};
 ghost use Rattle.sf_law.specs.Arena.{plan_tree, plan_expressions, plan_expression_at};
 ghost use Rattle.sf_optimise.specs.Making.{GrowsPlan, IsNormal, MakesPlan};
-ghost use Rattle.sf_optimise.specs.Optimised.{plan_of as id_of, keeps_form, HoldsPlan, HoldsPlans, IsOptimisedPlan};
+ghost use Rattle.sf_optimise.specs.Optimised.{keeps_form, HoldsPlan, HoldsPlans, IsOptimisedPlan, id_of_term};
 
 use crate::making::{fanned_out, headed, in_parallel, on_a_side};
 use crate::sequence::{in_loop, in_sequence};
@@ -31,7 +31,7 @@ pub fn optimise(alloc: Global, checked: &Checked) -> Result<Plan, AllocError>
 
 // The plan of a term; where there is none, one that passes its inputs on.
 fn plan_or_passing(plan: &Plan, plans: &[PlanId], term: TermId) -> PlanId
-    ensures found { term_number term < length plans.now → result ≡ id_of plans.now term }
+    ensures found { term_number term < length plans.now → result ≡ id_of_term plans.now term }
     ensures none { length plans.now ≤ term_number term → plan_tree plan.now result ≡ identity }
 {
     match plans.get(term.number()) {
@@ -46,7 +46,7 @@ fn rewritten_terms(
     plan: &mut Plan,
     program: &Program,
 ) -> Result<Vec<PlanId>, AllocError>
-    requires { Keeps (expressions_of program.now) (plan_expressions plan.old) }
+    requires { Extends (program_expressions program.now) (plan_expressions plan.old) }
     ensures plans { IfOk result (λ ids. HoldsPlans program.now plan.new ids.items) }
     ensures all { IfOk result (λ ids. length ids.items ≡ term_count program.now) }
     ensures grows { GrowsPlan plan.old plan.new }
@@ -68,7 +68,7 @@ fn rewritten(
     program: &Program,
     node: Node,
 ) -> Result<PlanId, AllocError>
-    requires kept { Keeps (expressions_of program.now) (plan_expressions plan.old) }
+    requires kept { Extends (program_expressions program.now) (plan_expressions plan.old) }
     requires held { HoldsTermParts program.now node }
     requires below { TermPartsBelow program.now node (length plans.now) }
     requires plans { HoldsPlans program.now plan.old plans.now }
@@ -92,7 +92,7 @@ fn rewritten(
         Node::Primitive(_) | Node::Named(_, _, _) | Node::Call(_, _) => {
             of_its_form(alloc, plan, plans, program, node)
         }
-        Node::Transformed(_, _) | Node::Switching(_) | Node::Keeping(_) => {
+        Node::Transformed(_, _) | Node::Switching(_) | Node::Continuation(_) => {
             of_its_form(alloc, plan, plans, program, node)
         }
         Node::Gathered(_) | Node::Releasing(_) | Node::Editing(_) => {
@@ -110,7 +110,7 @@ fn of_its_form(
     node: Node,
 ) -> Result<PlanId, AllocError>
     requires keeps { keeps_form node ≡ true }
-    requires kept { Keeps (expressions_of program.now) (plan_expressions plan.old) }
+    requires kept { Extends (program_expressions program.now) (plan_expressions plan.old) }
     requires held { HoldsTermParts program.now node }
     requires below { TermPartsBelow program.now node (length plans.now) }
     requires plans { HoldsPlans program.now plan.old plans.now }
@@ -125,7 +125,7 @@ fn of_its_form(
 // The plan of a term.
 fn plan_of(plans: &[PlanId], term: TermId) -> PlanId
     requires { term_number term < length plans.now }
-    ensures { result ≡ id_of plans.now term }
+    ensures { result ≡ id_of_term plans.now term }
 {
     plans[term.number()]
 }
@@ -140,7 +140,7 @@ fn joined(
 ) -> Result<PlanId, AllocError>
     requires first { IsNormal plan.old first }
     requires second { IsNormal plan.old second }
-    ensures ok { IfOk result (λ a. MakesPlan (joined_term join (plan_tree plan.old first) (plan_tree plan.old second)) plan.new a) }
+    ensures ok { IfOk result (λ a. MakesPlan (Trees.joined join (plan_tree plan.old first) (plan_tree plan.old second)) plan.new a) }
     ensures grows { GrowsPlan plan.old plan.new }
 {
     match join {
@@ -159,7 +159,7 @@ fn with_head(
     part: PlanId,
 ) -> Result<PlanId, AllocError>
     requires { IsNormal plan.old part }
-    ensures ok { IfOk result (λ a. MakesPlan (headed_term heading (plan_expression_at plan.old value) (plan_tree plan.old part)) plan.new a) }
+    ensures ok { IfOk result (λ a. MakesPlan (Trees.headed heading (plan_expression_at plan.old value) (plan_tree plan.old part)) plan.new a) }
     ensures grows { GrowsPlan plan.old plan.new }
 {
     match heading {

@@ -3,9 +3,9 @@ ghost use Rattle.std.specs.Prelude.{◌≡◌, map};
 ghost use Rattle.sf_expr.specs.Arena.{expression, function_at};
 ghost use Rattle.sf_term.specs.Arena.{tree, term_of};
 ghost use Rattle.sf_term.specs.declared.node.Node.TheVariants.{Primitive as primitive_node};
-ghost use Rattle.sf_law.specs.Arena.{plan_tree, plan_expressions, trees_at};
+ghost use Rattle.sf_law.specs.Arena.{plan_tree, plan_expressions, plan_trees};
 ghost use Rattle.sf_law.specs.Entries.{chain_over, primitive_over};
-ghost use Rattle.sf_rewrite.specs.Quiet.{is_quiet_unary as quiet_unary, is_quiet_operator as quiet_operator, is_quiet_expression as quiet_expression, is_quiet_function as quiet_function, is_quiet_chain as quiet_chain, is_quiet_bare as quiet_bare, is_quiet_primitive as quiet_primitive, is_quiet as quiet_term};
+ghost use Rattle.sf_rewrite.specs.Quiet as quiet_terms;
 ghost use Rattle.sf_optimise.specs.Lists.{all_quiet};
 
 use sf_expr::{ExprId, ExprNode, Exprs, FunctionId};
@@ -14,9 +14,9 @@ use sf_operator::{Merge, Operator, Unary};
 use sf_term::{Bare, Naming, Node, Primitive, Program, TermId};
 
 /// Whether a term of a network is quiet. It takes no memory, and goes no deeper than the term.
-#[tactic(auto, using(sf_term::proofs::Kept::expression_in, sf_term::proofs::Kept::function_at_in))]
+#[tactic(auto, using(sf_term::proofs::Extended::expression_in, sf_term::proofs::Extended::function_at_in))]
 pub fn quiet(program: &Program, id: TermId) -> bool
-    ensures { result ≡ quiet_term (tree program.now id) }
+    ensures { result ≡ quiet_terms.is_quiet (tree program.now id) }
 {
     match program.node(id) {
         Node::Primitive(primitive) => is_quiet_form(program, primitive),
@@ -29,15 +29,15 @@ pub fn quiet(program: &Program, id: TermId) -> bool
             is_quiet_function(program.expressions(), function) && quiet(program, part)
         }
         Node::Named(Naming::Probe, _, _) | Node::Named(Naming::Process(_), _, _) => false,
-        Node::Call(_, _) | Node::Switching(_) | Node::Keeping(_) => false,
+        Node::Call(_, _) | Node::Switching(_) | Node::Continuation(_) => false,
         Node::Gathered(_) | Node::Releasing(_) | Node::Editing(_) => false,
     }
 }
 
 // Whether a primitive of a network is quiet.
-#[tactic(auto, using(sf_term::proofs::Kept::expression_in, sf_term::proofs::Kept::function_at_in))]
+#[tactic(auto, using(sf_term::proofs::Extended::expression_in, sf_term::proofs::Extended::function_at_in))]
 fn is_quiet_form(program: &Program, primitive: Primitive) -> bool
-    ensures { result ≡ quiet_term (term_of program.now (primitive_node primitive)) }
+    ensures { result ≡ quiet_terms.is_quiet (term_of program.now (primitive_node primitive)) }
 {
     let exprs = program.expressions();
     match primitive {
@@ -56,7 +56,7 @@ fn is_quiet_form(program: &Program, primitive: Primitive) -> bool
 /// Whether a term of a plan is quiet.
 #[cycle(part)]
 pub(crate) fn is_quiet(plan: &Plan, id: PlanId) -> bool
-    ensures { result ≡ quiet_term (plan_tree plan.now id) }
+    ensures { result ≡ quiet_terms.is_quiet (plan_tree plan.now id) }
 {
     match plan.node(id) {
         PlanNode::Primitive(primitive) => is_quiet_primitive(plan.expressions(), primitive),
@@ -70,7 +70,7 @@ pub(crate) fn is_quiet(plan: &Plan, id: PlanId) -> bool
         }
         PlanNode::Pipeline(stages) => are_quiet(plan, stages),
         PlanNode::Started(_, _) | PlanNode::Probe(_) | PlanNode::Call(_, _, _) => false,
-        PlanNode::Switching(_) | PlanNode::Keeping(_) => false,
+        PlanNode::Switching(_) | PlanNode::Continuation(_) => false,
         PlanNode::Gathered(_) | PlanNode::Releasing(_) | PlanNode::Editing(_) => false,
     }
 }
@@ -78,7 +78,7 @@ pub(crate) fn is_quiet(plan: &Plan, id: PlanId) -> bool
 // Whether all of these terms are.
 #[cycle(part)]
 fn are_quiet(plan: &Plan, stages: &[PlanId]) -> bool
-    ensures { result ≡ all_quiet (trees_at plan.now stages.now) }
+    ensures { result ≡ all_quiet (plan_trees plan.now stages.now) }
 {
     for stage in stages {
         if !is_quiet(plan, *stage) {
@@ -90,7 +90,7 @@ fn are_quiet(plan: &Plan, stages: &[PlanId]) -> bool
 
 // Whether a primitive of a plan is.
 fn is_quiet_primitive(exprs: &Exprs, primitive: &PlanPrimitive) -> bool
-    ensures { result ≡ quiet_primitive (primitive_over exprs.now primitive.now) }
+    ensures { result ≡ quiet_terms.is_quiet_primitive (primitive_over exprs.now primitive.now) }
 {
     match primitive {
         PlanPrimitive::Bare(form) => is_quiet_bare(*form),
@@ -108,7 +108,7 @@ fn is_quiet_primitive(exprs: &Exprs, primitive: &PlanPrimitive) -> bool
 
 // Whether functions that are made into one are.
 fn is_quiet_chain(exprs: &Exprs, chain: &PlanChain) -> bool
-    ensures { result ≡ quiet_chain (chain_over exprs.now chain.now) }
+    ensures { result ≡ quiet_terms.is_quiet_chain (chain_over exprs.now chain.now) }
 {
     match chain {
         PlanChain::Lone(function, _) => is_quiet_function(exprs, *function),
@@ -123,7 +123,7 @@ fn is_quiet_chain(exprs: &Exprs, chain: &PlanChain) -> bool
 
 // Whether a primitive without constants is.
 fn is_quiet_bare(form: Bare) -> bool
-    ensures { result ≡ quiet_bare form }
+    ensures { result ≡ quiet_terms.is_quiet_bare form }
 {
     match form {
         Bare::Identity | Bare::Edge | Bare::NotYet | Bare::Once | Bare::Pre => true,
@@ -133,14 +133,14 @@ fn is_quiet_bare(form: Bare) -> bool
 
 // Whether a function is.
 fn is_quiet_function(exprs: &Exprs, function: FunctionId) -> bool
-    ensures { result ≡ quiet_function (function_at exprs.now function) }
+    ensures { result ≡ quiet_terms.is_quiet_function (function_at exprs.now function) }
 {
     is_quiet_expression(exprs, exprs.body(function))
 }
 
 /// Whether an expression is quiet.
 pub(crate) fn is_quiet_expression(exprs: &Exprs, id: ExprId) -> bool
-    ensures { result ≡ quiet_expression (expression exprs.now id) }
+    ensures { result ≡ quiet_terms.is_quiet_expression (expression exprs.now id) }
 {
     match exprs.node(id) {
         ExprNode::Unit | ExprNode::Truth(_) | ExprNode::Int(_) => true,
@@ -173,7 +173,7 @@ pub(crate) fn is_quiet_expression(exprs: &Exprs, id: ExprId) -> bool
 
 // Whether an operator on a value is.
 fn is_quiet_unary(operator: Unary) -> bool
-    ensures { result ≡ quiet_unary operator }
+    ensures { result ≡ quiet_terms.is_quiet_unary operator }
 {
     match operator {
         Unary::Size => false,
@@ -183,7 +183,7 @@ fn is_quiet_unary(operator: Unary) -> bool
 
 // Whether an operator on two values is.
 fn is_quiet_operator(operator: Operator) -> bool
-    ensures { result ≡ quiet_operator operator }
+    ensures { result ≡ quiet_terms.is_quiet_operator operator }
 {
     match operator {
         Operator::Arithmetic(_) | Operator::Merge(Merge::Exclusive) => false,

@@ -3,7 +3,7 @@ ghost use Rattle.std.specs.Prelude.{◌≡◌, ◌<◌, ◌≤◌, IfOk, IsTrue}
 ghost use Rattle.sf_term.specs.Trees.{staged, whole};
 ghost use Rattle.sf_rewrite.specs.Laws.{loop_pre, identity};
 ghost use Rattle.sf_rewrite.specs.Normal.{is_stage};
-ghost use Rattle.sf_law.specs.Arena.{plan_number, node_count, plan_tree, plan_expression_at, trees_at};
+ghost use Rattle.sf_law.specs.Arena.{plan_number, node_count, plan_tree, plan_expression_at, plan_trees};
 ghost use Rattle.sf_law.specs.Entries.{ids_end};
 ghost use Rattle.sf_optimise.specs.Making.{GrowsPlan, IsNormal, MakesPlan, Merges, Meets, MeetsAs, MovesOut};
 ghost use Rattle.sf_optimise.specs.Lists.{AreStages};
@@ -113,11 +113,11 @@ fn met(
     stages: &mut Vec<PlanId>,
     stage: PlanId,
 ) -> Result<PlanId, AllocError>
-    requires stages { AreStages (trees_at plan.old stages.old.items) }
+    requires stages { AreStages (plan_trees plan.old stages.old.items) }
     requires held { ids_end stages.old.items ≤ node_count plan.old }
     requires stage { IsNormal plan.old stage }
     requires is_stage { IsTrue (is_stage (plan_tree plan.old stage)) }
-    ensures ok { IfOk result (λ a. Meets (trees_at plan.old stages.old.items) (plan_tree plan.old stage) (trees_at plan.new stages.new.items) (plan_tree plan.new a)) }
+    ensures ok { IfOk result (λ a. Meets (plan_trees plan.old stages.old.items) (plan_tree plan.old stage) (plan_trees plan.new stages.new.items) (plan_tree plan.new a)) }
     ensures held { IfOk result (λ a. (plan_number a < node_count plan.new) × (ids_end stages.new.items ≤ node_count plan.new)) }
     ensures grows { GrowsPlan plan.old plan.new }
 {

@@ -13,9 +13,9 @@ use Rattle.sf_grammar.specs.declared.ty.Version.{Version}
 use Rattle.sf_grammar.specs.declared.ty.Version.TheVariants as versions
 use Rattle.sf_grammar.specs.Spelling.{spell, spell_type, spell_term, spell_listed, spell_parameter, spell_template, spell_templates, type_depth, HasWrittenTypes, IsWithinLimits}
 use Rattle.sf_grammar.specs.Reading.{Counts, parse_heading, parse_signature, parse_inner_type, parse_outer_type, parse_template, stop}
-use Rattle.sf_grammar.specs.Stopping.{counts_in, in_template}
+use Rattle.sf_grammar.specs.Stopping.{template_counts, in_template}
 use Rattle.sf_grammar.proofs.Unique.{Splits, limits_split}
-use Rattle.sf_place.specs.Places.{RefusedAt}
+use Rattle.sf_place.specs.Places.{IsRefusedToken}
 
 -- the tokens of a template up to a type of so many others, one inside another
 deep_front : ℕ → List Tok
@@ -39,7 +39,7 @@ not_empty : (n : ℕ) → deep_front n ++ [] ≡ [] → ⊥
 unfolding deep_front
 not_empty n is = cc
 
-pub beyond_refused : RefusedAt beyond []
+pub beyond_refused : IsRefusedToken beyond []
 unfolding beyond
 beyond_refused = in_template {rest = deep_front 64 ++ []} versions.One refl (record {
   read = [];
@@ -47,7 +47,7 @@ beyond_refused = in_template {rest = deep_front 64 ++ []} versions.One refl (rec
   spelled = refl;
   limited = nothing_limited;
   more = not_empty 64;
-  stopped = record { at = []; is = deep_stops (counts_in []); counted = refl };
+  stopped = record { at = []; is = deep_stops (template_counts []); counted = refl };
 })
 
 -- a type that begins with so many others is deeper

@@ -8,23 +8,23 @@ use Rattle.sf_refusal.specs.declared.refusal.Breach.{Breach}
 use Rattle.sf_lex.specs.Tokens.{Tok, Located}
 use Rattle.sf_lex.specs.Cutting.{Lexes, IsWrong, large, open_text, escape, nothing, HasFaultAt, no_text, wrong, BreaksLexis, too_long, at_fault}
 use Rattle.sf_grammar.specs.Spelling.{spell, spell_templates}
-use Rattle.sf_grammar.specs.Stopping.{counts_in, StopsIn, in_opening, in_template, StopsAt, BreaksText, no_tokens, no_network}
-use Rattle.sf_place.specs.Places.{RefusedAt, tokens_of, NoNetworkFrom}
+use Rattle.sf_grammar.specs.Stopping.{template_counts, NetworkStops, in_opening, in_template, ReadingStops, BreaksText, no_tokens, no_network}
+use Rattle.sf_place.specs.Places.{IsRefusedToken, tokens_of, NoNetworkFrom}
 use Rattle.sf_place.proofs.Local.{opening_local, template_local}
 use Rattle.sf_place.proofs.Stops.{stop_short}
 use Rattle.sf_place.proofs.Networks.{refused_leads, goes_no_further}
 
 -- reading stops no later than the tokens end
-stops_within : (tokens : List Tok) (left : ℕ) → StopsIn tokens Unexpected left → left ≤ length tokens
+stops_within : (tokens : List Tok) (left : ℕ) → NetworkStops tokens Unexpected left → left ≤ length tokens
 stops_within tokens left (in_opening s) = omega (arith, stop_short s.at (opening_local.gone (length tokens) tokens (omega arith)) s.is, s.counted)
 stops_within tokens left (in_template {rest = behind} v opened s) =
-    let short : length s.stopped.at ≤ length s.rest = stop_short s.stopped.at ((template_local v (counts_in s.read)).gone (length s.rest) s.rest (omega arith)) s.stopped.is in
+    let short : length s.stopped.at ≤ length s.rest = stop_short s.stopped.at ((template_local v (template_counts s.read)).gone (length s.rest) s.rest (omega arith)) s.stopped.is in
     omega (arith, short, s.stopped.counted, ap length opened, length-append (spell v []) behind, ap length s.spelled, length-append (spell_templates v s.read) s.rest)
 
 as_many : (ls : List Located) → length (tokens_of ls) ≡ length ls
 as_many ls = simp length-map
 
-stopped_from : (bytes : List ℕ) (place : Spot) → StopsAt bytes Unexpected place → NoNetworkFrom bytes place
+stopped_from : (bytes : List ℕ) (place : Spot) → ReadingStops bytes Unexpected place → NoNetworkFrom bytes place
 stopped_from bytes place s =
     let n : ℕ = length s.located - s.left in
     let front : List Located = take n s.located in
@@ -33,7 +33,7 @@ stopped_from bytes place s =
     let within : s.left ≤ length s.located = omega (arith, stops_within (tokens_of s.located) s.left s.stops, as_many s.located) in
     let counted : length (tokens_of at) ≡ s.left = as_many at ∙ omega (arith, length-drop n s.located, within) in
     let tokens : tokens_of s.located ≡ tokens_of front ++ tokens_of at = ap tokens_of (sym whole) ∙ map-append (λ (l : Located). l.token) front at in
-    let refused : RefusedAt (tokens_of front) (tokens_of at) = subst (λ (n : ℕ). StopsIn (tokens_of front ++ tokens_of at) Unexpected n) (sym counted) (subst (λ (ts : List Tok). StopsIn ts Unexpected s.left) tokens s.stops) in
+    let refused : IsRefusedToken (tokens_of front) (tokens_of at) = subst (λ (n : ℕ). NetworkStops (tokens_of front ++ tokens_of at) Unexpected n) (sym counted) (subst (λ (ts : List Tok). NetworkStops ts Unexpected s.left) tokens s.stops) in
     record {
       front = front;
       at = at;
@@ -60,4 +60,4 @@ lexis_is bytes b (at_fault first) = fault_is first.breaks
 
 pub refused_from : (bytes : List ℕ) (b : Breach) → BreaksText bytes b → b.rule ≡ Unexpected → NoNetworkFrom bytes b.spot
 refused_from bytes b (no_tokens breaks) is = absurd (lexis_is bytes b breaks is)
-refused_from bytes b (no_network s) is = stopped_from bytes b.spot (subst (λ (rule : Rule). StopsAt bytes rule b.spot) is s)
+refused_from bytes b (no_network s) is = stopped_from bytes b.spot (subst (λ (rule : Rule). ReadingStops bytes rule b.spot) is s)

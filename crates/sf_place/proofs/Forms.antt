@@ -17,7 +17,7 @@ use Rattle.sf_grammar.specs.declared.ty.Version.{Version}
 use Rattle.sf_grammar.specs.declared.head.CollectionHead.{CollectionHead}
 use Rattle.sf_grammar.specs.declared.head.CollectionHead.TheVariants as collection_heads
 use Rattle.sf_grammar.specs.Spelling.{in_brackets, spell_keys, spell_type, spell_expression, spell_function, spell_term, spell_collection, spell_arguments, spell_listed, spell_further, join_symbol}
-use Rattle.sf_grammar.specs.Reading.{Read, got, ◌and_then◌, Counts, counts_with_expression, counts_with_collection, behind_close, parse_further, parse_listed, listed_from, parse_name, parse_symbol, term_read, join_of, parse_body, collection_head, parse_empty, parse_used, parse_added, parse_dropped, parse_kept, parse_chosen, parse_behind_collection_head, parse_collection_form, begins_collection, parse_edit, Actual, actual_value, actual_process, actual_collection, with_actual, counts_with_actual, ArgumentWord, no_word, process_word, collection_word, argument_word, behind_first, argument_from, parse_argument, parse_arguments, parse_call, join_from, parse_join}
+use Rattle.sf_grammar.specs.Reading.{Read, got, ◌and_then◌, Counts, counts_with_expression, counts_with_collection, behind_close, parse_further, parse_listed, listed_read, parse_name, parse_symbol, term_read, join_of, parse_body, collection_head, parse_empty, parse_used, parse_added, parse_dropped, parse_kept, parse_chosen, parse_behind_collection_head, parse_collection_form, begins_collection, parse_edit, Actual, actual_value, actual_process, actual_collection, leading_actual, counts_with_actual, ArgumentWord, no_word, process_word, collection_word, argument_word, behind_first, argument_from, parse_argument, parse_arguments, parse_call, join_read, parse_join}
 use Rattle.sf_grammar.proofs.Words.{join_again, join_takes, close_takes, process_word_takes, collection_word_takes, no_close, no_argument_word, collection_token, collection_takes}
 use Rattle.sf_grammar.proofs.Parts.{spell_actual, further_long}
 use Rattle.sf_place.specs.Places.{IsPlain, ExpressionInTexts, FunctionInTexts, TermInTexts, CollectionInTexts, ArgumentsInTexts}
@@ -69,7 +69,7 @@ pub record JoinText (xs : List Tok) : Type 0 where
 join_exists : Exists JoinText
 join_exists = record { tokens = symbol symbols.InSequence ∷ []; are = record { value = joins.InSequence; spelled = refl }; plain = plain_one (symbol symbols.InSequence) tt }
 
-join_if : (s : Symbol) (u : List Tok) (o : Option Join) → join_of s ≡ o → TakesAt JoinText (join_from o s u) (symbol s ∷ u)
+join_if : (s : Symbol) (u : List Tok) (o : Option Join) → join_of s ≡ o → TakesAt JoinText (join_read o s u) (symbol s ∷ u)
 join_if s u (Some j) found = takes_as (λ xs only. record { value = j; spelled = only.is ∙ ap (λ s. symbol s ∷ []) (join_takes s j found) }) (token_takes (symbol s) j u)
 join_if s u None found = refused (symbol s ∷ u) join_exists
 
@@ -87,7 +87,7 @@ join_reads = record {
   some = join_exists;
   takes = join_at;
   fine = λ xs more are g. fine_as parse_join xs (symbol (join_symbol are.value) ∷ []) are.spelled
-      (subst (λ o. Fine more (join_from o (join_symbol are.value) more)) (sym (join_again are.value)) (fine_got are.value));
+      (subst (λ o. Fine more (join_read o (join_symbol are.value) more)) (sym (join_again are.value)) (fine_got are.value));
 }
 
 -- a pattern and what it stands in front of
@@ -221,7 +221,7 @@ collection_begins v (chosen e i j) = begins_with (keyword words.If) (spell_expre
 record ActualText (v : Version) (xs : List Tok) : Type 0 where
   pub value : Actual
   pub spelled : xs ≡ spell_actual v value
-  pub stands : ArgumentsInTexts v (with_actual value no_arguments)
+  pub stands : ArgumentsInTexts v (leading_actual value no_arguments)
 
 actual_exists : (v : Version) → Exists (ActualText v)
 actual_exists v =
@@ -241,7 +241,7 @@ argument_takes d v part members c collection_word tokens found l m =
     (behind_token (keyword words.Collection) (λ ys are. record { value = actual_collection are.value; spelled = ap (λ r. keyword words.Collection ∷ r) are.spelled; stands = (are.stands, tt) })
     (end_takes ((m c).takes (behind_first tokens)) (λ i. got_ends (actual_collection i))))
 
-argument_fine : (d : ℕ) (v : Version) (part : Counts → List Tok → Read Term) (members : Counts → List Tok → Read Collection) (c : Counts) (a : Actual) (more : List Tok) → ArgumentsInTexts v (with_actual a no_arguments) → TermsRead v part → MembersRead v members
+argument_fine : (d : ℕ) (v : Version) (part : Counts → List Tok → Read Term) (members : Counts → List Tok → Read Collection) (c : Counts) (a : Actual) (more : List Tok) → ArgumentsInTexts v (leading_actual a no_arguments) → TermsRead v part → MembersRead v members
     → Fine more (argument_from d v part members c (argument_word (spell_actual v a ++ more)) (spell_actual v a ++ more))
 argument_fine d v part members c (actual_value e) more stands l m =
     subst (λ w. Fine more (argument_from d v part members c w (spell_expression v e ++ more))) (sym (no_argument_word v e more))
@@ -280,7 +280,7 @@ record AnyText (v : Version) (xs : List Tok) : Type 0 where
 further_exists : (v : Version) → Exists (FurtherText v)
 further_exists v = record { tokens = symbol symbols.Close ∷ []; are = record { value = no_arguments; spelled = refl; stands = tt }; plain = plain_one (symbol symbols.Close) tt }
 
-any_from : (v : Version) (a : Actual) (vs : Arguments) (xs : List Tok) → xs ≡ spell_actual v a ++ spell_further (spell_arguments v vs) → ArgumentsInTexts v (with_actual a no_arguments) → ArgumentsInTexts v vs → AnyText v xs
+any_from : (v : Version) (a : Actual) (vs : Arguments) (xs : List Tok) → xs ≡ spell_actual v a ++ spell_further (spell_arguments v vs) → ArgumentsInTexts v (leading_actual a no_arguments) → ArgumentsInTexts v vs → AnyText v xs
 any_from v (actual_value e) vs xs split one others = record { value = value_argument e vs; spelled = split; further = refl; stands = (one.0, others) }
 any_from v (actual_process t) vs xs split one others = record { value = process_argument t vs; spelled = split; further = refl; stands = (one.0, others) }
 any_from v (actual_collection i) vs xs split one others = record { value = collection_argument i vs; spelled = split; further = refl; stands = (one.0, others) }
@@ -306,17 +306,17 @@ unfolding parse_arguments
 arguments_take zero d v part members c tokens l m = refused tokens (any_exists v)
 arguments_take (suc n) d v part members c tokens l m =
     takes_as (any_into v) (then_takes ((argument_reads d v part members c l m).takes tokens) (λ a rest.
-    end_takes (further_takes v (parse_arguments n d v part members (counts_with_actual c a)) rest (λ u. arguments_take n d v part members (counts_with_actual c a) u l m)) (λ vs. got_ends (with_actual a vs))) (further_exists v))
+    end_takes (further_takes v (parse_arguments n d v part members (counts_with_actual c a)) rest (λ u. arguments_take n d v part members (counts_with_actual c a) u l m)) (λ vs. got_ends (leading_actual a vs))) (further_exists v))
 
 -- an argument in front of others
-step_fine : (n d : ℕ) (v : Version) (part : Counts → List Tok → Read Term) (members : Counts → List Tok → Read Collection) (c : Counts) (a : Actual) (ys more : List Tok) → ArgumentsInTexts v (with_actual a no_arguments) → TermsRead v part → MembersRead v members
+step_fine : (n d : ℕ) (v : Version) (part : Counts → List Tok → Read Term) (members : Counts → List Tok → Read Collection) (c : Counts) (a : Actual) (ys more : List Tok) → ArgumentsInTexts v (leading_actual a no_arguments) → TermsRead v part → MembersRead v members
     → ((c : Counts) → Fine more (parse_further no_arguments (parse_arguments n d v part members c) (ys ++ more))) → Fine more (parse_arguments (suc n) d v part members c ((spell_actual v a ++ ys) ++ more))
 unfolding parse_arguments
 step_fine n d v part members c a ys more stands l m others =
-    let whole : Actual → List Tok → Read Arguments = λ a rest. parse_further no_arguments (parse_arguments n d v part members (counts_with_actual c a)) rest and_then λ vs rest. got (with_actual a vs) rest in
+    let whole : Actual → List Tok → Read Arguments = λ a rest. parse_further no_arguments (parse_arguments n d v part members (counts_with_actual c a)) rest and_then λ vs rest. got (leading_actual a vs) rest in
     subst (λ (u : List Tok). Fine more (parse_argument d v part members c u and_then whole)) (sym (append_assoc (spell_actual v a) ys more))
     (then_fine whole ((argument_reads d v part members c l m).fine (spell_actual v a) (ys ++ more) (record { value = a; spelled = refl; stands = stands }) tt) (λ b.
-    then_fine (λ vs rest. got (with_actual b vs) rest) (others (counts_with_actual c b)) (λ vs. fine_got (with_actual b vs))))
+    then_fine (λ vs rest. got (leading_actual b vs) rest) (others (counts_with_actual c b)) (λ vs. fine_got (leading_actual b vs))))
 
 further_fine : (vs : Arguments) (n d : ℕ) (v : Version) (part : Counts → List Tok → Read Term) (members : Counts → List Tok → Read Collection) (c : Counts) (more : List Tok) → length (spell_arguments v vs) ≤ n → ArgumentsInTexts v vs
     → TermsRead v part → MembersRead v members → Fine more (parse_further no_arguments (parse_arguments n d v part members c) (spell_further (spell_arguments v vs) ++ more))
@@ -333,7 +333,7 @@ further_fine (collection_argument i vs) (suc n) d v part members c more enough s
 further_fine (closed_argument t vs) n d v part members c more enough stands l m = absurd stands
 
 listed_takes : (v : Version) (parts : List Tok → Read Arguments) (o : Option (List Tok)) (tokens : List Tok) → behind_close tokens ≡ o → ((u : List Tok) → TakesAt (AnyText v) (parts u) u)
-    → TakesAt (ArgumentsText v) (listed_from no_arguments parts o tokens) tokens
+    → TakesAt (ArgumentsText v) (listed_read no_arguments parts o tokens) tokens
 listed_takes v parts (Some rest) tokens found l =
     subst (λ (ts : List Tok). TakesAt (ArgumentsText v) (got no_arguments rest) ts) (sym (close_takes tokens rest found))
     (takes_as (λ xs only. record { value = no_arguments; spelled = only.is; stands = tt }) (token_takes (symbol symbols.Close) no_arguments rest))
@@ -352,7 +352,7 @@ listed_fine d v part members c no_arguments more stands l m = fine_got no_argume
 listed_fine d v part members c (value_argument e vs) more stands l m =
     let further : List Tok = spell_further (spell_arguments v vs) in
     let tokens : List Tok = (spell_expression v e ++ further) ++ more in
-    subst (λ o. Fine more (listed_from no_arguments (λ tokens. parse_arguments (suc (length tokens)) d v part members c tokens) o tokens))
+    subst (λ o. Fine more (listed_read no_arguments (λ tokens. parse_arguments (suc (length tokens)) d v part members c tokens) o tokens))
     (sym (ap behind_close (append_assoc (spell_expression v e) further more) ∙ no_close v e (further ++ more)))
     (step_fine (length tokens) d v part members c (actual_value e) further more (stands.0, tt) l m (λ c. further_fine vs (length tokens) d v part members c more (long_enough (spell_expression v e) more (spell_arguments v vs)) stands.1 l m))
 listed_fine d v part members c (process_argument t vs) more stands l m =

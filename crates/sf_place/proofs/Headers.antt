@@ -4,7 +4,8 @@ use Rattle.std.specs.List.{All}
 use Rattle.std.proofs.lemmas.List.{append-nil, length-append, length-map}
 use Rattle.std.proofs.lemmas.List.Elements.{All-append, All-cons, All-head, All-nil, All-tail}
 use Rattle.sf_value.specs.Values.{Name, KeyKind, int_keys, text_keys, Kind}
-use Rattle.sf_term.specs.Parameters.{NameKind, value as value_kind, process as process_kind, collection as collection_kind, Bindings}
+use Rattle.sf_term.specs.Parameters.{NameKind, Bindings, collection}
+use Rattle.sf_term.specs.Parameters as parameter_kinds
 use Rattle.sf_term.specs.Trees.{Template}
 use Rattle.sf_lex.specs.declared.word.Keyword.TheVariants as words
 use Rattle.sf_lex.specs.declared.symbol.Symbol.TheVariants as symbols
@@ -12,7 +13,7 @@ use Rattle.sf_lex.specs.Tokens.{Tok, keyword, name, symbol}
 use Rattle.sf_grammar.specs.declared.ty.Version.{Version}
 use Rattle.sf_grammar.specs.declared.ty.Version.TheVariants as versions
 use Rattle.sf_grammar.specs.Spelling.{spell_keys, spell_type, spell_term, spell_further, spell_listed, spell_key_kind, spell_name_kind, spell_parameter, spell_heading, spell_signature, spell_template, WritesKeys}
-use Rattle.sf_grammar.specs.Reading.{Read, got, ◌and_then◌, Counts, parse_symbol, parse_type, parse_opening, behind_close, behind_leads, behind_list, parse_further, listed_from, parse_listed, parameter_kind_from, parse_key_kind, parse_collection_kind, parse_kind_from, parse_name_kind, parse_parameter, parse_parameters, parse_heading, parse_signature, template_of, parse_template}
+use Rattle.sf_grammar.specs.Reading.{Read, got, ◌and_then◌, Counts, parse_symbol, parse_type, parse_opening, behind_close, behind_leads, behind_list, parse_further, listed_read, parse_listed, parameter_kind_from, parse_key_kind, parse_collection_kind, parse_kind_from, parse_name_kind, parse_parameter, parse_parameters, parse_heading, parse_signature, template_of, parse_template}
 use Rattle.sf_grammar.proofs.Words.{close_takes, leads_takes, list_takes, no_list}
 use Rattle.sf_grammar.proofs.Parts.{no_leads, further_long}
 use Rattle.sf_place.specs.Places.{IsPlain, NameKindInTexts, TemplateInTexts}
@@ -71,7 +72,7 @@ CollectionKindText v = Both (KeyKindText v) (Both (TypeText v) (Both Leads (Both
 collection_kind_reads : (v : Version) → Reads Anything (CollectionKindText v) (parse_collection_kind v)
 unfolding parse_collection_kind
 collection_kind_reads v =
-    bind (key_kind_reads v) (λ k. bind (type_reads v) (λ t. bind leads (λ _. bind (type_reads v) (λ u. finish (symbol_reads symbols.CloseBracket (λ more. refl)) (λ _. got_ends (collection_kind k t u))))))
+    bind (key_kind_reads v) (λ k. bind (type_reads v) (λ t. bind leads (λ _. bind (type_reads v) (λ u. finish (symbol_reads symbols.CloseBracket (λ more. refl)) (λ _. got_ends (collection k t u))))))
 
 -- what stands behind the first type of a parameter
 data RestText (v : Version) (xs : List Tok) : Type 0 where
@@ -80,20 +81,20 @@ data RestText (v : Version) (xs : List Tok) : Type 0 where
 
 rest_takes : (v : Version) (t : Kind) (o : Option (List Tok)) (tokens : List Tok) → behind_leads tokens ≡ o → TakesAt (RestText v) (parameter_kind_from v t o tokens) tokens
 rest_takes v t (Some rest) tokens found =
-    subst (λ (ts : List Tok). TakesAt (RestText v) (parse_type v rest and_then λ u rest. got (process_kind t u) rest) ts) (sym (leads_takes tokens rest found))
-    (behind_token (symbol symbols.Leads) (λ ys are. leads_on (behind_one (symbol symbols.Leads) ys are)) (end_takes ((type_reads {F = Anything} v).takes rest) (λ u. got_ends (process_kind t u))))
-rest_takes v t None tokens found = takes_as (λ xs only. ends only) ((nothing {F = Anything} (got_ends (value_kind t))).takes tokens)
+    subst (λ (ts : List Tok). TakesAt (RestText v) (parse_type v rest and_then λ u rest. got (parameter_kinds.process t u) rest) ts) (sym (leads_takes tokens rest found))
+    (behind_token (symbol symbols.Leads) (λ ys are. leads_on (behind_one (symbol symbols.Leads) ys are)) (end_takes ((type_reads {F = Anything} v).takes rest) (λ u. got_ends (parameter_kinds.process t u))))
+rest_takes v t None tokens found = takes_as (λ xs only. ends only) ((nothing {F = Anything} (got_ends (parameter_kinds.value t))).takes tokens)
 
 rest_fine : (v : Version) (t : Kind) (xs more : List Tok) → RestText v xs → NoLeads more → Fine more (parameter_kind_from v t (behind_leads (xs ++ more)) (xs ++ more))
 rest_fine v t xs more (ends only) free =
-    fine_as (λ u. parameter_kind_from v t (behind_leads u) u) xs [] only.is (subst (λ o. Fine more (parameter_kind_from v t o more)) (sym free) (fine_got (value_kind t)))
+    fine_as (λ u. parameter_kind_from v t (behind_leads u) u) xs [] only.is (subst (λ o. Fine more (parameter_kind_from v t o more)) (sym free) (fine_got (parameter_kinds.value t)))
 rest_fine v t xs more (leads_on are) free =
     fine_as (λ u. parameter_kind_from v t (behind_leads u) u) xs (symbol symbols.Leads ∷ are.two) (cc)
-    (then_fine (λ u rest. got (process_kind t u) rest) ((type_reads {F = Anything} v).fine are.two more are.second tt) (λ u. fine_got (process_kind t u)))
+    (then_fine (λ u rest. got (parameter_kinds.process t u) rest) ((type_reads {F = Anything} v).fine are.two more are.second tt) (λ u. fine_got (parameter_kinds.process t u)))
 
 rest_reads : (v : Version) (t : Kind) → Reads NoLeads (RestText v) (λ u. parameter_kind_from v t (behind_leads u) u)
 rest_reads v t = record {
-  value = value_kind t;
+  value = parameter_kinds.value t;
   some = record { tokens = []; are = ends (record { is = refl }); plain = plain_none };
   takes = λ tokens. rest_takes v t (behind_leads tokens) tokens refl;
   fine = rest_fine v t;
@@ -111,18 +112,18 @@ record NameKindText (v : Version) (xs : List Tok) : Type 0 where
 name_kind_exists : (v : Version) → Exists (NameKindText v)
 name_kind_exists v =
     let t : Exists (TypeText v) = type_exists v in
-    record { tokens = t.tokens; are = record { value = value_kind t.are.value; spelled = t.are.spelled; stands = t.are.stands }; plain = t.plain }
+    record { tokens = t.tokens; are = record { value = parameter_kinds.value t.are.value; spelled = t.are.spelled; stands = t.are.stands }; plain = t.plain }
 
 collection_kind_into : (v : Version) (ys : List Tok) → CollectionKindText v ys → NameKindText v (symbol symbols.OpenBracket ∷ ys)
 collection_kind_into v ys are = record {
-  value = collection_kind are.first.value are.second.first.value are.second.second.second.first.value;
+  value = collection are.first.value are.second.first.value are.second.second.second.first.value;
   spelled = cc;
   stands = (are.first.stands, are.second.first.stands, are.second.second.second.first.stands);
 }
 
 inner_from : (v : Version) (t : Kind) (xs one two : List Tok) → xs ≡ one ++ two → one ≡ spell_type v t → TypeText v one → RestText v two → NameKindText v xs
-inner_from v t xs one two split _ first (ends only) = record { value = value_kind first.value; spelled = split ∙ ap (λ r. one ++ r) only.is ∙ append-nil one ∙ first.spelled; stands = first.stands }
-inner_from v t xs one two split _ first (leads_on are) = record { value = process_kind first.value are.second.value; spelled = cc; stands = (first.stands, are.second.stands) }
+inner_from v t xs one two split _ first (ends only) = record { value = parameter_kinds.value first.value; spelled = split ∙ ap (λ r. one ++ r) only.is ∙ append-nil one ∙ first.spelled; stands = first.stands }
+inner_from v t xs one two split _ first (leads_on are) = record { value = parameter_kinds.process first.value are.second.value; spelled = cc; stands = (first.stands, are.second.stands) }
 
 inner_into : (v : Version) (xs : List Tok) → Both (TypeText v) (RestText v) xs → NameKindText v xs
 inner_into v xs are = inner_from v are.first.value xs are.one are.two are.split are.first.spelled are.first are.second
@@ -133,15 +134,15 @@ name_kind_takes v (Some rest) tokens found =
 name_kind_takes v None tokens found = takes_as (inner_into v) ((inner_reads v).takes tokens)
 
 name_kind_fine : (v : Version) (k : NameKind) (more : List Tok) → NameKindInTexts v k → NoLeads more → Fine more (parse_kind_from v (behind_list (spell_name_kind v k ++ more)) (spell_name_kind v k ++ more))
-name_kind_fine v (value_kind t) more stands free =
+name_kind_fine v (parameter_kinds.value t) more stands free =
     subst (λ o. Fine more (parse_kind_from v o (spell_type v t ++ more))) (sym (no_list v t more))
     ((inner_reads v).fine (spell_type v t) more (record { one = spell_type v t; two = []; split = sym (append-nil (spell_type v t)); first = record { value = t; spelled = refl; stands = stands }; second = ends (record { is = refl }) }) free)
-name_kind_fine v (process_kind t u) more stands free =
+name_kind_fine v (parameter_kinds.process t u) more stands free =
     let two : List Tok = symbol symbols.Leads ∷ spell_type v u in
     subst (λ o. Fine more (parse_kind_from v o ((spell_type v t ++ two) ++ more))) (sym (ap behind_list (append_assoc (spell_type v t) two more) ∙ no_list v t (two ++ more)))
     ((inner_reads v).fine (spell_type v t ++ two) more (behind (spell_type v t) two (record { value = t; spelled = refl; stands = stands.0 })
     (leads_on (behind_one (symbol symbols.Leads) (spell_type v u) (record { value = u; spelled = refl; stands = stands.1 })))) free)
-name_kind_fine v (collection_kind k t u) more stands free =
+name_kind_fine v (collection k t u) more stands free =
     let last : List Tok = spell_type v u ++ (symbol symbols.CloseBracket ∷ []) in
     let middle : List Tok = spell_type v t ++ (symbol symbols.Leads ∷ last) in
     (collection_kind_reads v).fine (spell_key_kind v k ++ middle) more (behind (spell_key_kind v k) middle (record { value = k; spelled = refl; stands = stands.0 })
@@ -151,7 +152,7 @@ name_kind_fine v (collection_kind k t u) more stands free =
 name_kind_reads : (v : Version) → Reads NoLeads (NameKindText v) (parse_name_kind v)
 unfolding parse_name_kind
 name_kind_reads v = record {
-  value = value_kind (type_exists v).are.value;
+  value = parameter_kinds.value (type_exists v).are.value;
   some = name_kind_exists v;
   takes = λ tokens. name_kind_takes v (behind_list tokens) tokens refl;
   fine = λ xs more are free. fine_as (parse_name_kind v) xs (spell_name_kind v are.value) are.spelled (name_kind_fine v are.value more are.stands free);
@@ -251,7 +252,7 @@ further_fine (q ∷ qs) (suc n) v more enough stands =
 abbrev listed_parameters : Version → List Tok → Read Bindings
 listed_parameters v tokens = parse_listed [] (λ tokens. parse_parameters (suc (length tokens)) v tokens) tokens
 
-listed_takes : (v : Version) (o : Option (List Tok)) (tokens : List Tok) → behind_close tokens ≡ o → TakesAt (ParametersText v) (listed_from [] (λ tokens. parse_parameters (suc (length tokens)) v tokens) o tokens) tokens
+listed_takes : (v : Version) (o : Option (List Tok)) (tokens : List Tok) → behind_close tokens ≡ o → TakesAt (ParametersText v) (listed_read [] (λ tokens. parse_parameters (suc (length tokens)) v tokens) o tokens) tokens
 listed_takes v (Some rest) tokens found =
     subst (λ (ts : List Tok). TakesAt {A = Bindings} (ParametersText v) (got [] rest) ts) (sym (close_takes tokens rest found))
     (takes_as (λ xs only. record { value = []; spelled = only.is; stands = none_stand v }) (token_takes (symbol symbols.Close) [] rest))

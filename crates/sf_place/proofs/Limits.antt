@@ -3,14 +3,14 @@ use Rattle.std.proofs.Common.{ℕ, zero, suc, ◌≤◌, [], ◌∷◌, arith}
 use Rattle.std.specs.List.{All}
 use Rattle.std.proofs.lemmas.List.Elements.{All-cons, All-head, All-nil, All-tail}
 use Rattle.sf_value.specs.Values.{Name}
-use Rattle.sf_expr.specs.Expressions.{unit_literal, truth_literal, int_literal, text_literal, none_literal, Expression, variable, literal, paired, applied, operation, conditional, mapped, folded, called, depth as expression_depth, Function, function, function_depth}
-use Rattle.sf_term.specs.Parameters.{NameKind, value as value_kind, process as process_kind, collection as collection_kind, Bindings}
-use Rattle.sf_term.specs.Trees.{Term, primitive, reference, joined, sided, headed, transformed, switching, keeping, gathered, releasing, editing, staged, bare, probe, never, with_value, timed, selected, arrow, accumulated, fused, Collection, without_members, used, added, dropped, kept, chosen, started, call, Arguments, no_arguments, value_argument, process_argument, collection_argument, closed_argument, Template, Templates, term_depth, collection_depth, arguments_depth}
+use Rattle.sf_expr.specs.Expressions.{unit_literal, truth_literal, int_literal, text_literal, none_literal, Expression, variable, literal, paired, applied, operation, conditional, mapped, folded, called, Function, function, function_depth, depth}
+use Rattle.sf_term.specs.Parameters.{NameKind, Bindings, value, process, collection}
+use Rattle.sf_term.specs.Trees.{Term, primitive, reference, joined, sided, headed, transformed, switching, continuing, gathered, releasing, editing, staged, bare, probe, never, with_value, timed, selected, arrow, accumulated, fused, Collection, without_members, used, added, dropped, kept, chosen, started, call, Arguments, no_arguments, value_argument, process_argument, collection_argument, closed_argument, Template, Templates, term_depth, collection_depth, arguments_depth}
 use Rattle.sf_grammar.specs.declared.ty.Version.{Version}
 use Rattle.sf_grammar.specs.Spelling.{WritesExpression, WritesFunction, WritesTerm, WritesCollection, WritesArguments, WritesNameKind, HasWrittenTypes, IsWithinLimits}
 use Rattle.sf_place.specs.Places.{ExpressionInTexts, FunctionInTexts, TermInTexts, CollectionInTexts, ArgumentsInTexts, NameKindInTexts, TemplateInTexts}
 
-expression_stands : (v : Version) (e : Expression) (d : ℕ) → expression_depth e ≤ d → WritesExpression v d e → ExpressionInTexts v e
+expression_stands : (v : Version) (e : Expression) (d : ℕ) → depth e ≤ d → WritesExpression v d e → ExpressionInTexts v e
 expression_stands v (variable x) d deep known = tt
 expression_stands v (literal unit_literal) d deep known = tt
 expression_stands v (literal (truth_literal b)) d deep known = tt
@@ -48,7 +48,7 @@ mutual
       shallow (headed h e f) deep = absurd (omega arith)
       shallow (transformed h f) deep = absurd (omega arith)
       shallow (switching w f p g) deep = absurd (omega arith)
-      shallow (keeping w f g k p u) deep = absurd (omega arith)
+      shallow (continuing w f g k p u) deep = absurd (omega arith)
       shallow (gathered i) deep = absurd (omega arith)
       shallow (releasing w i g k p u) deep = absurd (omega arith)
       shallow (editing w i k p u) deep = absurd (omega arith)
@@ -69,7 +69,7 @@ mutual
   term_stands v (headed h e f) (suc d) small deep known = (known.0, expression_stands v e d (omega arith) known.1, term_stands v f d (omega arith) (omega arith) known.2)
   term_stands v (transformed h f) (suc d) small deep known = (function_stands v h d (omega arith) known.0, term_stands v f d (omega arith) (omega arith) known.1)
   term_stands v (switching w f p g) (suc d) small deep known = (term_stands v f d (omega arith) (omega arith) known.0, term_stands v g d (omega arith) (omega arith) known.1)
-  term_stands v (keeping w f g k p u) (suc d) small deep known =
+  term_stands v (continuing w f g k p u) (suc d) small deep known =
       (term_stands v f d (omega arith) (omega arith) known.0, term_stands v g d (omega arith) (omega arith) known.1, term_stands v u d (omega arith) (omega arith) known.2)
   term_stands v (gathered i) (suc d) small deep known = collection_stands v i d (omega arith) (omega arith) known
   term_stands v (releasing w i g k p u) (suc d) small deep known =
@@ -100,9 +100,9 @@ mutual
   arguments_stand v (closed_argument t vs) d small deep known = absurd (omega arith)
 
 name_kind_stands : (v : Version) (k : NameKind) → WritesNameKind v k → NameKindInTexts v k
-name_kind_stands v (value_kind t) known = known.known
-name_kind_stands v (process_kind t u) known = (known.0.known, known.1.known)
-name_kind_stands v (collection_kind k t u) known = (known.0, known.1.known, known.2.known)
+name_kind_stands v (value t) known = known.known
+name_kind_stands v (process t u) known = (known.0.known, known.1.known)
+name_kind_stands v (collection k t u) known = (known.0, known.1.known, known.2.known)
 
 parameters_stand : (v : Version) (qs : Bindings) → All (λ (q : Name × NameKind). WritesNameKind v q.1) qs → All (λ (q : Name × NameKind). NameKindInTexts v q.1) qs
 parameters_stand v [] known = All-nil (λ (q : Name × NameKind). NameKindInTexts v q.1)

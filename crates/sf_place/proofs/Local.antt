@@ -21,8 +21,9 @@ use Rattle.sf_term.specs.declared.form.Observation.{Observation}
 use Rattle.sf_term.specs.declared.form.Naming.{Naming}
 use Rattle.sf_term.specs.declared.form.Naming.TheVariants as namings
 use Rattle.sf_term.specs.declared.form.Start.TheVariants as starts
-use Rattle.sf_term.specs.Parameters.{value as value_kind, process as process_kind, collection as collection_kind}
-use Rattle.sf_term.specs.Trees.{Term, primitive, reference, joined, sided, transformed, switching, keeping, gathered, releasing, editing, Collection, without_members, used, added, dropped, kept, chosen, call, named_term, no_arguments, bare, never, with_value, timed, selected, arrow, accumulated, terms_in}
+use Rattle.sf_term.specs.Parameters.{value, collection}
+use Rattle.sf_term.specs.Parameters
+use Rattle.sf_term.specs.Trees.{Term, primitive, reference, joined, sided, transformed, switching, continuing, gathered, releasing, editing, Collection, without_members, used, added, dropped, kept, chosen, call, named_term, no_arguments, bare, never, with_value, timed, selected, arrow, accumulated, terms_in}
 use Rattle.sf_lex.specs.declared.word.Keyword.{Keyword}
 use Rattle.sf_lex.specs.declared.word.Keyword.TheVariants as words
 use Rattle.sf_lex.specs.declared.symbol.Symbol.{Symbol}
@@ -43,7 +44,7 @@ use Rattle.sf_grammar.specs.declared.head.ExpressionHead.{ExpressionHead}
 use Rattle.sf_grammar.specs.declared.head.ExpressionHead.TheVariants as expression_heads
 use Rattle.sf_grammar.specs.declared.head.Link.{Link}
 use Rattle.sf_grammar.specs.Spelling.{head_makes}
-use Rattle.sf_grammar.specs.Reading.{Read, got, stop, ◌and_then◌, parse_symbol, parse_keyword, parse_name, parse_version, too_deep, parse_parts, parse_pair_type, type_head, word_kind, parse_keys, parse_outer_type, parse_headed_type, type_from, parse_type_form, begins_type, parse_inner_type, parse_type, parse_opening, behind_close, behind_leads, parse_separator, further_from, parse_further, listed_from, parse_listed, parameter_kind_from, parse_key_kind, parse_collection_kind, behind_list, parse_kind_from, parse_name_kind, parse_parameter, parse_parameters, parse_heading, parse_signature, parse_pattern_pair, parse_pattern_form, begins_pattern, parse_pattern, Counts, counts_with_expression, counts_with_function, counts_with, counts_with_collection, expression_read, link_of, link_from, parse_link, linked, parse_linked, bracketed_from, parse_none, expression_head, parse_prefixed, parse_one_in_brackets, parse_two_in_brackets, parse_conditional, parse_mapping, parse_let, mapped_by, folded_by, parse_one_and_function, parse_two_and_function, parse_called, parse_worded_expression, parse_expression_form, begins_expression, parse_expression, parse_function, term_read, head_of, begins_fresh, head_at, join_of, parse_value, parse_number, parse_never, parse_timed, parse_selected, parse_arrow, parse_accumulated, parse_sided, parse_headed, parse_transformed, parse_body, parse_switching, parse_named, collection_head, parse_empty, parse_used, parse_added, parse_dropped, parse_kept, parse_chosen, parse_behind_collection_head, parse_collection_form, begins_collection, parse_gathered, parse_releasing, parse_edit, parse_editing, actual_value, actual_process, actual_collection, with_actual, counts_with_actual, no_word, argument_word, argument_from, parse_argument, parse_arguments, parse_call, parse_keeping, join_from, parse_join, parse_joined, parse_behind_head, parse_form, begins_term, parse_shallow, parse_term, parse_collection, template_of, parse_template}
+use Rattle.sf_grammar.specs.Reading.{Read, got, stop, ◌and_then◌, parse_symbol, parse_keyword, parse_name, parse_version, too_deep, parse_parts, parse_pair_type, type_head, word_kind, parse_keys, parse_outer_type, parse_headed_type, type_from, parse_type_form, begins_type, parse_inner_type, parse_type, parse_opening, behind_close, behind_leads, parse_separator, further_from, parse_further, listed_read, parse_listed, parameter_kind_from, parse_key_kind, parse_collection_kind, behind_list, parse_kind_from, parse_name_kind, parse_parameter, parse_parameters, parse_heading, parse_signature, parse_pattern_pair, parse_pattern_form, begins_pattern, parse_pattern, Counts, counts_with_expression, counts_with_function, counted_term, counts_with_collection, expression_read, link_of, link_read, parse_link, linked, parse_linked, bracketed_from, parse_none, expression_head, parse_prefixed, parse_one_in_brackets, parse_two_in_brackets, parse_conditional, parse_mapping, parse_let, mapped_by, folded_by, parse_one_and_function, parse_two_and_function, parse_called, parse_worded_expression, parse_expression_form, begins_expression, parse_expression, parse_function, term_read, head_of, begins_fresh, tokens_head, join_of, parse_value, parse_number, parse_never, parse_timed, parse_selected, parse_arrow, parse_accumulated, parse_sided, parse_headed, parse_transformed, parse_body, parse_switching, parse_named, collection_head, parse_empty, parse_used, parse_added, parse_dropped, parse_kept, parse_chosen, parse_behind_collection_head, parse_collection_form, begins_collection, parse_gathered, parse_releasing, parse_edit, parse_editing, actual_value, actual_process, actual_collection, leading_actual, counts_with_actual, no_word, argument_word, argument_from, parse_argument, parse_arguments, parse_call, parse_continuing, join_read, parse_join, parse_joined, parse_behind_head, parse_form, begins_term, parse_shallow, parse_term, parse_collection, template_of, parse_template}
 use Rattle.sf_grammar.proofs.Parts.{separator_takes}
 use Rattle.sf_place.proofs.Onward.{Onward, edge, next, Common, front, Past, stop_past, Alike, beyond, Local, bind, got_local, stop_local, Behind, behind, anew, behind_stop, AtToken, by_token, takes, stops, counted_local, met_behind, from_start, Peek, there, absent, peek_local, got_short, then_same}
 
@@ -112,15 +113,15 @@ separator_local : Local parse_separator parse_separator
 separator_local = by_token parse_separator parse_separator Unexpected refl separator_at
 
 link_if : (t : Tok) (o : Option Link) → link_of t ≡ o → AtToken parse_link parse_link t
-link_if t (Some l) is = takes l (λ u. ap (λ o. link_from o (t ∷ u) u) is)
-link_if t None is = stops Unexpected (λ u. ap (λ o. link_from o (t ∷ u) u) is)
+link_if t (Some l) is = takes l (λ u. ap (λ o. link_read o (t ∷ u) u) is)
+link_if t None is = stops Unexpected (λ u. ap (λ o. link_read o (t ∷ u) u) is)
 
 link_local : Local parse_link parse_link
 link_local = by_token parse_link parse_link Unexpected refl (λ t. link_if t (link_of t) refl)
 
 join_if : (s : Symbol) (o : Option Join) → join_of s ≡ o → AtToken parse_join parse_join (symbol s)
-join_if s (Some j) is = takes j (λ u. ap (λ o. join_from o s u) is)
-join_if s None is = stops Unexpected (λ u. ap (λ o. join_from o s u) is)
+join_if s (Some j) is = takes j (λ u. ap (λ o. join_read o s u) is)
+join_if s None is = stops Unexpected (λ u. ap (λ o. join_read o s u) is)
 
 join_at : (t : Tok) → AtToken parse_join parse_join t
 join_at (symbol s) = join_if s (join_of s) refl
@@ -222,14 +223,14 @@ further_local : {A : Type 0} (none : A) {one two : List Tok → Read A} → Loca
 further_local none l = bind separator_local (λ more. further_from_local none more l)
 
 listed_local : {A : Type 0} (none : A) {one two : List Tok → Read A} → Local one two → Local (parse_listed none one) (parse_listed none two)
-listed_local none {one} {two} l = peek_local behind_close {f = listed_from none one} {g = listed_from none two} refl close_peek (record { some = λ r u. refl; none = λ u. refl }) (record { some = λ r u. refl; none = λ u. refl }) (got_local none) l
+listed_local none {one} {two} l = peek_local behind_close {f = listed_read none one} {g = listed_read none two} refl close_peek (record { some = λ r u. refl; none = λ u. refl }) (record { some = λ r u. refl; none = λ u. refl }) (got_local none) l
 
 -- ## Headers
 
 parameter_kind_local : (v : Version) (t : Kind) → Local (λ u. parameter_kind_from v t (behind_leads u) u) (λ u. parameter_kind_from v t (behind_leads u) u)
 parameter_kind_local v t =
     peek_local behind_leads {f = parameter_kind_from v t} {g = parameter_kind_from v t} refl leads_peek (record { some = λ r u. refl; none = λ u. refl }) (record { some = λ r u. refl; none = λ u. refl })
-    (bind (type_local v) (λ u. got_local (process_kind t u))) (got_local (value_kind t))
+    (bind (type_local v) (λ u. got_local (Parameters.process t u))) (got_local (value t))
 
 key_kind_local : (v : Version) → Local (parse_key_kind v) (parse_key_kind v)
 key_kind_local versions.One = got_local int_keys
@@ -238,7 +239,7 @@ key_kind_local versions.Two = bind (keys_local versions.Two) (λ k. bind (symbol
 collection_kind_local : (v : Version) → Local (parse_collection_kind v) (parse_collection_kind v)
 unfolding parse_collection_kind
 collection_kind_local v =
-    bind (key_kind_local v) (λ k. bind (type_local v) (λ t. bind (symbol_local symbols.Leads) (λ _. bind (type_local v) (λ u. bind (symbol_local symbols.CloseBracket) (λ _. got_local (collection_kind k t u))))))
+    bind (key_kind_local v) (λ k. bind (type_local v) (λ t. bind (symbol_local symbols.Leads) (λ _. bind (type_local v) (λ u. bind (symbol_local symbols.CloseBracket) (λ _. got_local (collection k t u))))))
 
 name_kind_local : (v : Version) → Local (parse_name_kind v) (parse_name_kind v)
 unfolding parse_name_kind
@@ -490,21 +491,21 @@ body_local d c l = bind (pattern_local d) (λ p. bind (symbol_local symbols.Maps
 switching_local : {part : Counts → List Tok → Read Term} (d : ℕ) (c : Counts) (w : Switching) (start start' : List Tok) → TermsLocal part → Local (parse_switching d part c w start) (parse_switching d part c w start')
 unfolding parse_switching
 switching_local d c w start start' l =
-    bind (symbol_local symbols.Open) (λ _. parts (l c) (symbol_local symbols.Comma) (λ f. body_local d (counts_with c f) l) (λ f _ b. term_read_local c (switching w f b.0 b.1) start start'))
+    bind (symbol_local symbols.Open) (λ _. parts (l c) (symbol_local symbols.Comma) (λ f. body_local d (counted_term c f) l) (λ f _ b. term_read_local c (switching w f b.0 b.1) start start'))
 
 named_local : (w : Naming) (c : Counts) (start start' : List Tok) → Local (parse_named w c start) (parse_named w c start')
 unfolding parse_named
 named_local w c start start' = bind name_local (λ k. term_read_local c (named_term w k) start start')
 
-keeping_local : {part : Counts → List Tok → Read Term} (d : ℕ) (c : Counts) (w : Observation) (start start' : List Tok) → TermsLocal part → Local (parse_keeping d part c w start) (parse_keeping d part c w start')
-unfolding parse_keeping
-keeping_local d c w start start' l =
-    bind (symbol_local symbols.Open) (λ _. bind (l c) (λ f. bind (symbol_local symbols.Comma) (λ _. bind (l (counts_with c f)) (λ g. bind (symbol_local symbols.Comma) (λ _.
-    parts name_local (symbol_local symbols.Comma) (λ _. body_local d (counts_with (counts_with c f) g) l) (λ k _ b. term_read_local c (keeping w f g k b.0 b.1) start start'))))))
+continuing_local : {part : Counts → List Tok → Read Term} (d : ℕ) (c : Counts) (w : Observation) (start start' : List Tok) → TermsLocal part → Local (parse_continuing d part c w start) (parse_continuing d part c w start')
+unfolding parse_continuing
+continuing_local d c w start start' l =
+    bind (symbol_local symbols.Open) (λ _. bind (l c) (λ f. bind (symbol_local symbols.Comma) (λ _. bind (l (counted_term c f)) (λ g. bind (symbol_local symbols.Comma) (λ _.
+    parts name_local (symbol_local symbols.Comma) (λ _. body_local d (counted_term (counted_term c f) g) l) (λ k _ b. term_read_local c (continuing w f g k b.0 b.1) start start'))))))
 
 joined_local : {part : Counts → List Tok → Read Term} (c : Counts) (start start' : List Tok) → TermsLocal part → Local (parse_joined part c start) (parse_joined part c start')
 unfolding parse_joined
-joined_local c start start' l = parts (l c) join_local (λ f. l (counts_with c f)) (λ f j g. term_read_local c (joined j f g) start start')
+joined_local c start start' l = parts (l c) join_local (λ f. l (counted_term c f)) (λ f j g. term_read_local c (joined j f g) start start')
 
 -- ## Collections
 
@@ -567,7 +568,7 @@ releasing_local : {part : Counts → List Tok → Read Term} {members : Counts �
 unfolding parse_releasing
 releasing_local d c w start start' l m =
     bind (symbol_local symbols.Open) (λ _. bind (m c) (λ i. bind (symbol_local symbols.Comma) (λ _. bind (l (counts_with_collection c i)) (λ q. bind (symbol_local symbols.Comma) (λ _.
-    parts name_local (symbol_local symbols.Comma) (λ _. body_local d (counts_with (counts_with_collection c i) q) l) (λ k _ b. term_read_local c (releasing w i q k b.0 b.1) start start'))))))
+    parts name_local (symbol_local symbols.Comma) (λ _. body_local d (counted_term (counts_with_collection c i) q) l) (λ k _ b. term_read_local c (releasing w i q k b.0 b.1) start start'))))))
 
 edit_local : {members : Counts → List Tok → Read Collection} (d : ℕ) (c : Counts) → MembersLocal members → Local (parse_edit d members c) (parse_edit d members c)
 edit_local d c m = bind (pattern_local d) (λ p. bind (symbol_local symbols.MapsTo) (λ _. bind (m c) (λ i. got_local (p, i))))
@@ -627,7 +628,7 @@ arguments_local : (n d : ℕ) (v : Version) (part : Counts → List Tok → Read
 unfolding parse_arguments
 arguments_local zero d v part members c l m = stop_local Unexpected
 arguments_local (suc n) d v part members c l m =
-    bind (argument_local d v part members c l m) (λ a. bind (further_local no_arguments (arguments_local n d v part members (counts_with_actual c a) l m)) (λ vs. got_local (with_actual a vs)))
+    bind (argument_local d v part members c l m) (λ a. bind (further_local no_arguments (arguments_local n d v part members (counts_with_actual c a) l m)) (λ vs. got_local (leading_actual a vs)))
 
 -- as many arguments as there are tokens are enough
 arguments_same : (n m d : ℕ) (v : Version) (part : Counts → List Tok → Read Term) (members : Counts → List Tok → Read Collection) (c : Counts) → TermsLocal part → MembersLocal members
@@ -636,10 +637,10 @@ unfolding parse_arguments
 arguments_same zero m d v part members c l k tokens a b = absurd (omega arith)
 arguments_same (suc n) zero d v part members c l k tokens a b = absurd (omega arith)
 arguments_same (suc n) (suc m) d v part members c l k tokens a b =
-    then_same (parse_argument d v part members c tokens) (λ x rest. parse_further no_arguments (parse_arguments n d v part members (counts_with_actual c x)) rest and_then λ vs rest. got (with_actual x vs) rest)
-    (λ x rest. parse_further no_arguments (parse_arguments m d v part members (counts_with_actual c x)) rest and_then λ vs rest. got (with_actual x vs) rest) (λ x rest is.
+    then_same (parse_argument d v part members c tokens) (λ x rest. parse_further no_arguments (parse_arguments n d v part members (counts_with_actual c x)) rest and_then λ vs rest. got (leading_actual x vs) rest)
+    (λ x rest. parse_further no_arguments (parse_arguments m d v part members (counts_with_actual c x)) rest and_then λ vs rest. got (leading_actual x vs) rest) (λ x rest is.
     let short : length rest ≤ length tokens = got_short x rest ((argument_local d v part members c l k).gone (length tokens) tokens (omega arith)) is in
-    ap (λ r. r and_then λ vs rest. got (with_actual x vs) rest) (further_same no_arguments (parse_arguments n d v part members (counts_with_actual c x)) (parse_arguments m d v part members (counts_with_actual c x)) (length tokens) rest short
+    ap (λ r. r and_then λ vs rest. got (leading_actual x vs) rest) (further_same no_arguments (parse_arguments n d v part members (counts_with_actual c x)) (parse_arguments m d v part members (counts_with_actual c x)) (length tokens) rest short
     (λ rest shorter. arguments_same n m d v part members (counts_with_actual c x) l k rest (omega (arith, shorter)) (omega (arith, shorter)))))
 
 -- behind a call's name; `start` begins with that name
@@ -694,7 +695,7 @@ head_behind d v part members c (Some (heads.Headed h)) l m = behind (λ start st
 head_behind d v part members c (Some heads.Transformed) l m = behind (λ start start'. transformed_local d v c start start' l)
 head_behind d v part members c (Some (heads.Switching w)) l m = behind (λ start start'. switching_local d c w start start' l)
 head_behind d v part members c (Some (heads.Named w)) l m = behind (named_local w c)
-head_behind d v part members c (Some (heads.Keeping w)) l m = behind (λ start start'. keeping_local d c w start start' l)
+head_behind d v part members c (Some (heads.Continuation w)) l m = behind (λ start start'. continuing_local d c w start start' l)
 head_behind d v part members c (Some heads.Call) l m = anew (call_local d v part members c l m)
 head_behind d v part members c (Some heads.Gathered) l m = behind (λ start start'. gathered_local c start start' m)
 head_behind d v part members c (Some (heads.Releasing w)) l m = behind (λ start start'. releasing_local d c w start start' l m)
@@ -703,7 +704,7 @@ head_behind d v part members c None l m = behind_stop Unexpected
 
 -- what a name begins is told by the token behind it
 abbrev named_form : ℕ → Version → (Counts → List Tok → Read Term) → (Counts → List Tok → Read Collection) → Counts → List Tok → List Tok → Read Term
-named_form d v part members c start tokens = parse_behind_head d v part members c (head_at v start) start tokens
+named_form d v part members c start tokens = parse_behind_head d v part members c (tokens_head v start) start tokens
 
 -- it is a call, or begins a process anew, and neither stops at the name
 name_past : (d : ℕ) (v : Version) (part : Counts → List Tok → Read Term) (members : Counts → List Tok → Read Collection) (c : Counts) → TermsLocal part → MembersLocal members
@@ -715,7 +716,7 @@ name_past d v part members c l m false g n u short = (behind_call_local d v part
 name_near : (d : ℕ) (v : Version) (part : Counts → List Tok → Read Term) (members : Counts → List Tok → Read Collection) (c : Counts) → TermsLocal part → MembersLocal members
     → (g : Name) (rest other : List Tok) (u w : List Tok) → Onward rest other u w → Alike rest other (named_form d v part members c (name g ∷ u) u) (named_form d v part members c (name g ∷ w) w)
 name_near d v part members c l m g rest other _ _ edge = beyond (name_past d v part members c l m (begins_fresh v (name g ∷ rest)) g (length rest) rest (omega arith))
-name_near d v part members c l m g rest other _ _ (next (name k) {u} {w} o) = (head_behind d v part members c (head_at v (name g ∷ name k ∷ u)) l m).near rest other (name g) (name k ∷ u) (name k ∷ w) (next (name k) o)
+name_near d v part members c l m g rest other _ _ (next (name k) {u} {w} o) = (head_behind d v part members c (tokens_head v (name g ∷ name k ∷ u)) l m).near rest other (name g) (name k ∷ u) (name k ∷ w) (next (name k) o)
 name_near d v part members c l m g rest other _ _ (next (keyword k) {u} {w} o) = (head_behind d v part members c (Some heads.Call) l m).near rest other (name g) (keyword k ∷ u) (keyword k ∷ w) (next (keyword k) o)
 name_near d v part members c l m g rest other _ _ (next (number z) {u} {w} o) = (head_behind d v part members c (Some heads.Call) l m).near rest other (name g) (number z ∷ u) (number z ∷ w) (next (number z) o)
 name_near d v part members c l m g rest other _ _ (next (text s) {u} {w} o) = (head_behind d v part members c (Some heads.Call) l m).near rest other (name g) (text s ∷ u) (text s ∷ w) (next (text s) o)
@@ -732,7 +733,7 @@ form_near d v part members c l m rest other _ _ (front (symbol s) {u} {w} o) = (
 form_gone : (d : ℕ) (v : Version) (part : Counts → List Tok → Read Term) (members : Counts → List Tok → Read Collection) (c : Counts) → TermsLocal part → MembersLocal members
     → (n : ℕ) (u : List Tok) → length u ≤ n → Past n (parse_form d v part members c u)
 form_gone d v part members c l m n [] short = stop_past Unexpected [] short
-form_gone d v part members c l m n (s ∷ u) short = (head_behind d v part members c (head_at v (s ∷ u)) l m).gone n s u short
+form_gone d v part members c l m n (s ∷ u) short = (head_behind d v part members c (tokens_head v (s ∷ u)) l m).gone n s u short
 
 form_local : (d : ℕ) (v : Version) (part : Counts → List Tok → Read Term) (members : Counts → List Tok → Read Collection) (c : Counts) → TermsLocal part → MembersLocal members
     → Local (parse_form d v part members c) (parse_form d v part members c)

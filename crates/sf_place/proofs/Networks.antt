@@ -14,10 +14,10 @@ use Rattle.sf_grammar.specs.declared.ty.Version.{Version}
 use Rattle.sf_grammar.specs.declared.ty.Version.TheVariants as versions
 use Rattle.sf_grammar.specs.Spelling.{version_number, spell, spell_template, spell_templates, IsWithinLimits}
 use Rattle.sf_grammar.specs.Reading.{Read, got, stop, Counts, parse_opening, parse_template}
-use Rattle.sf_grammar.specs.Stopping.{counts_in, StopsIn, in_opening, in_template}
+use Rattle.sf_grammar.specs.Stopping.{template_counts, NetworkStops, in_opening, in_template}
 use Rattle.sf_grammar.proofs.Again.{template_again}
 use Rattle.sf_grammar.proofs.Unique.{Splits, limits_split}
-use Rattle.sf_place.specs.Places.{RefusedAt, TemplateInTexts, SpellsNetwork, LeadsToNetwork, GoesNoFurther}
+use Rattle.sf_place.specs.Places.{IsRefusedToken, TemplateInTexts, SpellsNetwork, LeadsToNetwork, GoesNoFurther}
 use Rattle.sf_place.proofs.Spells.{Begun, Fine, fine_got, fine_stop}
 use Rattle.sf_place.proofs.Headers.{TemplateText, template_reads, OpeningText, opening_reads}
 use Rattle.sf_place.proofs.Limits.{limits_stand}
@@ -66,13 +66,13 @@ template_leads v read rest at stand begun before there is counted =
       };
     }
 
-leads_from : (tokens : List Tok) (left : ℕ) → StopsIn tokens Unexpected left → (before there : List Tok) → tokens ≡ before ++ there → left ≡ length there → LeadsToNetwork before
+leads_from : (tokens : List Tok) (left : ℕ) → NetworkStops tokens Unexpected left → (before there : List Tok) → tokens ≡ before ++ there → left ≡ length there → LeadsToNetwork before
 leads_from tokens left (in_opening s) before there is counted = opening_leads tokens s.at ((opening_reads.takes tokens).begun s.at s.is) before there is (sym s.counted ∙ counted)
 leads_from tokens left (in_template {rest = behind} v opened s) before there is counted =
-    template_leads v s.read s.rest s.stopped.at (limits_stand v s.read s.limited) (((template_reads v (counts_in s.read)).takes s.rest).begun s.stopped.at s.stopped.is) before there
+    template_leads v s.read s.rest s.stopped.at (limits_stand v s.read s.limited) (((template_reads v (template_counts s.read)).takes s.rest).begun s.stopped.at s.stopped.is) before there
     (sym (opened ∙ ap (λ u. spell v [] ++ u) s.spelled) ∙ is) (sym s.stopped.counted ∙ counted)
 
-pub refused_leads : (before at : List Tok) → RefusedAt before at → LeadsToNetwork before
+pub refused_leads : (before at : List Tok) → IsRefusedToken before at → LeadsToNetwork before
 refused_leads before at stops = leads_from (before ++ at) (length at) stops before at refl refl
 
 -- ## No network is refused for a token
@@ -124,7 +124,7 @@ behind_goes_on v (r ∷ read) rest (t ∷ p) c at limits stand more same stops =
     fine_behind r behind (template_fine v no_counts t (spell_templates v p) (All-head (TemplateInTexts v) t p stand)) (ap (parse_template v no_counts) front ∙ again) in
     behind_goes_on v read rest p c at split.others (All-tail (TemplateInTexts v) t p stand) more (sym others) stops
 
-stands_goes_on : (tokens : List Tok) (left : ℕ) → StopsIn tokens Unexpected left → (v : Version) (p : Templates) → All (TemplateInTexts v) p → tokens ≡ spell v p → ⊥
+stands_goes_on : (tokens : List Tok) (left : ℕ) → NetworkStops tokens Unexpected left → (v : Version) (p : Templates) → All (TemplateInTexts v) p → tokens ≡ spell v p → ⊥
 stands_goes_on tokens left (in_opening s) v p stand spelled =
     fine_goes_on s.at (opening_reads.fine (spell v []) (spell_templates v p) (opening_is v) tt) (ap parse_opening (sym spelled) ∙ s.is)
 stands_goes_on tokens left (in_template {rest = behind} w opened s) v p stand spelled =
@@ -132,9 +132,9 @@ stands_goes_on tokens left (in_template {rest = behind} w opened s) v p stand sp
     let numbers : version_number w ≡ version_number v = cc in
     let version : v ≡ w = sym (same_number w v numbers) in
     let tail : behind ≡ spell_templates v p = cc in
-    behind_goes_on w s.read s.rest p (counts_in s.read) s.stopped.at s.limited (subst (λ (v : Version). All (TemplateInTexts v) p) version stand) s.more (sym s.spelled ∙ tail ∙ ap (λ v. spell_templates v p) version) s.stopped.is
+    behind_goes_on w s.read s.rest p (template_counts s.read) s.stopped.at s.limited (subst (λ (v : Version). All (TemplateInTexts v) p) version stand) s.more (sym s.spelled ∙ tail ∙ ap (λ v. spell_templates v p) version) s.stopped.is
 
-pub goes_no_further : (before at : List Tok) → RefusedAt before at → GoesNoFurther before at
+pub goes_no_further : (before at : List Tok) → IsRefusedToken before at → GoesNoFurther before at
 goes_no_further before (t ∷ rest) stops =
     λ more is. stands_goes_on (before ++ (t ∷ more)) (length (t ∷ more)) (stays before rest t stops more) is.version is.network is.stands is.spelled
 goes_no_further before [] stops = λ is. stands_goes_on (before ++ []) zero stops is.version is.network is.stands (append-nil before ∙ is.spelled)

@@ -2,7 +2,7 @@
 use Rattle.std.proofs.Common.{◌≡◌, ℕ, List, [], ◌∷◌, ◌++◌, length, refl, sym, ◌∙◌, ap, subst, append_assoc}
 use Rattle.std.proofs.lemmas.List.{append-nil, map-append}
 use Rattle.sf_refusal.specs.declared.spot.Spot.{Spot}
-use Rattle.sf_lex.specs.Tokens.{Located, place_at}
+use Rattle.sf_lex.specs.Tokens.{Located, offset_place}
 use Rattle.sf_lex.specs.Cutting.{Lexes}
 use Rattle.sf_lex.proofs.Cuts.{further, cuts_nil, stuck_nil}
 use Rattle.sf_grammar.specs.Stopping.{offset_of}
@@ -46,6 +46,6 @@ pub one_place : (bytes : List ℕ) (p q : Spot) → NoNetworkFrom bytes p → No
 one_place bytes p q a b = from (fronts a.front a.at b.front b.at (lexes_once bytes (b.front ++ b.at) (a.front ++ a.at) b.cut a.cut))
   where
     from : Fronts a.front a.at b.front b.at → p ≡ q
-    from (the_same is) = a.is ∙ ap (λ ls. place_at bytes (offset_of (length bytes) ls)) is ∙ sym b.is
+    from (the_same is) = a.is ∙ ap (λ ls. offset_place bytes (offset_of (length bytes) ls)) is ∙ sym b.is
     from (longer l rest is split) = absurd (longer_none a.front a.at b.front b.at l rest is split a.no_further b.leads)
     from (shorter l rest is split) = absurd (longer_none b.front b.at a.front a.at l rest is split b.no_further a.leads)

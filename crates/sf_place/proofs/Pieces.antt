@@ -22,7 +22,7 @@ use Rattle.sf_grammar.specs.declared.ty.TypeHead.TheVariants as type_heads
 use Rattle.sf_grammar.specs.declared.head.Link.{Link}
 use Rattle.sf_grammar.specs.declared.head.Link.TheVariants as links
 use Rattle.sf_grammar.specs.Spelling.{version_number, spell_keys, spell_type, spell_pattern, WritesKeys, WritesType}
-use Rattle.sf_grammar.specs.Reading.{Read, got, stop, parse_symbol, parse_keyword, parse_name, parse_number, parse_version, parse_parts, parse_pair_type, type_head, word_kind, parse_keys, parse_outer_type, parse_headed_type, type_from, parse_type_form, begins_type, parse_inner_type, parse_type, link_of, link_from, parse_link, parse_pattern_pair, parse_pattern_form, begins_pattern, parse_pattern}
+use Rattle.sf_grammar.specs.Reading.{Read, got, stop, parse_symbol, parse_keyword, parse_name, parse_number, parse_version, parse_parts, parse_pair_type, type_head, word_kind, parse_keys, parse_outer_type, parse_headed_type, type_from, parse_type_form, begins_type, parse_inner_type, parse_type, link_of, link_read, parse_link, parse_pattern_pair, parse_pattern_form, begins_pattern, parse_pattern}
 use Rattle.sf_grammar.proofs.Words.{type_word, type_token, type_head_takes, IsWordKind, word_kind_is, link_token, LinksBetween, link_again, IsLinkToken, link_takes}
 use Rattle.sf_place.specs.Places.{IsPlain}
 use Rattle.sf_place.proofs.Spells.{plain_none, plain_one, Exists, TakesAt, Fine, fine_got, Reads, Anything, Only, Both, bind, Ends, finish, got_ends, nothing, takes_as, reads_as, behind_token, refused, faulty, token_takes, Begins, begins_with, deep_reads, met_takes, met_fine}
@@ -151,7 +151,7 @@ pub record LinkText (xs : List Tok) : Type 0 where
 link_exists : Exists LinkText
 link_exists = record { tokens = symbol symbols.Comma ∷ []; are = record { value = links.Pair; spelled = refl; between = tt }; plain = plain_one (symbol symbols.Comma) tt }
 
-link_if : (t : Tok) (u : List Tok) (o : Option Link) → link_of t ≡ o → TakesAt LinkText (link_from o (t ∷ u) u) (t ∷ u)
+link_if : (t : Tok) (u : List Tok) (o : Option Link) → link_of t ≡ o → TakesAt LinkText (link_read o (t ∷ u) u) (t ∷ u)
 link_if t u (Some l) found =
     let link : IsLinkToken t l = link_takes t l found in
     takes_as (λ xs only. record { value = l; spelled = only.is ∙ ap (λ t. t ∷ []) link.token; between = link.between }) (token_takes t l u)
@@ -162,7 +162,7 @@ link_at [] = refused [] link_exists
 link_at (t ∷ u) = link_if t u (link_of t) refl
 
 link_fine : (l : Link) (more : List Tok) → LinksBetween l → Fine more (parse_link (link_token l ∷ more))
-link_fine l more between = subst (λ o. Fine more (link_from o (link_token l ∷ more) more)) (sym (link_again l between)) (fine_got l)
+link_fine l more between = subst (λ o. Fine more (link_read o (link_token l ∷ more) more)) (sym (link_again l between)) (fine_got l)
 
 pub link_reads : {F : List Tok → Type 0} → Reads F LinkText parse_link
 link_reads = record {

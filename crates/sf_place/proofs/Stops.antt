@@ -6,9 +6,9 @@ use Rattle.sf_term.specs.Trees.{Templates}
 use Rattle.sf_grammar.specs.declared.ty.Version.{Version}
 use Rattle.sf_grammar.specs.Spelling.{spell, spell_templates, IsWithinLimits}
 use Rattle.sf_grammar.specs.Reading.{Read, stop, Counts, parse_opening, parse_template}
-use Rattle.sf_grammar.specs.Stopping.{Stopped, counts_in, StopsBehind, StopsIn, in_opening, in_template}
+use Rattle.sf_grammar.specs.Stopping.{Stopped, template_counts, StopsBehind, NetworkStops, in_opening, in_template}
 use Rattle.sf_grammar.proofs.Unique.{stops_none}
-use Rattle.sf_place.specs.Places.{RefusedAt}
+use Rattle.sf_place.specs.Places.{IsRefusedToken}
 use Rattle.sf_place.proofs.Onward.{edge, Common, front, Past, got_past, stop_past, other_past, Local, StopsToo, stops_too, common_at}
 use Rattle.sf_place.proofs.Local.{opening_local, template_local}
 
@@ -50,9 +50,9 @@ stop_short at (stop_past fault b short) is = let same : b ≡ at = cc in omega (
 stop_short at (other_past fault b different) is = absurd (different cc)
 
 template_on : (v : Version) (before rest other tokens : List Tok) (t : Tok) (s : StopsBehind v tokens Unexpected (suc (length rest))) → Splits (spell v [] ++ spell_templates v s.read) before (t ∷ rest) s.rest
-    → StopsIn (before ++ (t ∷ other)) Unexpected (suc (length other))
+    → NetworkStops (before ++ (t ∷ other)) Unexpected (suc (length other))
 template_on v before rest other tokens t s split =
-    let c : Counts = counts_in s.read in
+    let c : Counts = template_counts s.read in
     let here : Stopped Unexpected (suc (length rest)) (parse_template v c (split.between ++ (t ∷ rest))) = subst (λ (r : List Tok). Stopped Unexpected (suc (length rest)) (parse_template v c r)) split.second s.stopped in
     let there : Stopped Unexpected (suc (length other)) (parse_template v c (split.between ++ (t ∷ other))) = stopped_on (parse_template v c) (template_local v c) split.between rest other t here in
     let behind : List Tok = split.between ++ (t ∷ other) in
@@ -64,20 +64,20 @@ template_on v before rest other tokens t s split =
     some [] is = cc
     some (b ∷ between) is = cc
 
-stops_on : (before rest other tokens : List Tok) (t : Tok) (left : ℕ) → tokens ≡ before ++ (t ∷ rest) → left ≡ suc (length rest) → StopsIn tokens Unexpected left → StopsIn (before ++ (t ∷ other)) Unexpected (suc (length other))
+stops_on : (before rest other tokens : List Tok) (t : Tok) (left : ℕ) → tokens ≡ before ++ (t ∷ rest) → left ≡ suc (length rest) → NetworkStops tokens Unexpected left → NetworkStops (before ++ (t ∷ other)) Unexpected (suc (length other))
 stops_on before rest other tokens t left is count (in_opening stopped) =
     let here : Stopped Unexpected (suc (length rest)) (parse_opening (before ++ (t ∷ rest))) =
     subst (λ (r : List Tok). Stopped Unexpected (suc (length rest)) (parse_opening r)) is (subst (λ (n : ℕ). Stopped Unexpected n (parse_opening tokens)) count stopped) in
     in_opening (stopped_on parse_opening opening_local before rest other t here)
 stops_on before rest other tokens t left is count (in_template {rest = behind} v opened stops) =
     let s : StopsBehind v behind Unexpected (suc (length rest)) = subst (λ (n : ℕ). StopsBehind v behind Unexpected n) count stops in
-    let short : length s.stopped.at ≤ length s.rest = stop_short s.stopped.at ((template_local v (counts_in s.read)).gone (length s.rest) s.rest (omega arith)) s.stopped.is in
+    let short : length s.stopped.at ≤ length s.rest = stop_short s.stopped.at ((template_local v (template_counts s.read)).gone (length s.rest) s.rest (omega arith)) s.stopped.is in
     let same : (spell v [] ++ spell_templates v s.read) ++ s.rest ≡ before ++ (t ∷ rest) =
     append_assoc (spell v []) (spell_templates v s.read) s.rest ∙ sym (ap (λ r. spell v [] ++ r) s.spelled) ∙ sym opened ∙ is in
     template_on v before rest other behind t s (splits (spell v [] ++ spell_templates v s.read) s.rest before (t ∷ rest) same (omega (arith, short, s.stopped.counted)))
 
-pub stays : (before rest : List Tok) (t : Tok) → RefusedAt before (t ∷ rest) → (other : List Tok) → RefusedAt before (t ∷ other)
+pub stays : (before rest : List Tok) (t : Tok) → IsRefusedToken before (t ∷ rest) → (other : List Tok) → IsRefusedToken before (t ∷ other)
 stays before rest t stops other = stops_on before rest other (before ++ (t ∷ rest)) t (suc (length rest)) refl refl stops
 
-pub no_network : (before rest : List Tok) (t : Tok) → RefusedAt before (t ∷ rest) → (other : List Tok) (v : Version) (p : Templates) → IsWithinLimits v p → before ++ (t ∷ other) ≡ spell v p → ⊥
+pub no_network : (before rest : List Tok) (t : Tok) → IsRefusedToken before (t ∷ rest) → (other : List Tok) (v : Version) (p : Templates) → IsWithinLimits v p → before ++ (t ∷ other) ≡ spell v p → ⊥
 no_network before rest t stops other v p limits spelled = stops_none (before ++ (t ∷ other)) Unexpected (suc (length other)) (stays before rest t stops other) v p limits spelled

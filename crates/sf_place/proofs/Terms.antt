@@ -11,15 +11,15 @@ use Rattle.sf_term.specs.declared.form.Start.{Start}
 use Rattle.sf_term.specs.declared.form.Start.TheVariants as starts
 use Rattle.sf_term.specs.declared.form.Naming.{Naming}
 use Rattle.sf_term.specs.declared.form.Naming.TheVariants as namings
-use Rattle.sf_term.specs.Trees.{Term, primitive, reference, joined, sided, headed, transformed, switching, keeping, gathered, releasing, editing, staged, bare, probe, never, with_value, timed, selected, arrow, accumulated, fused, Collection, started, call, named_term}
+use Rattle.sf_term.specs.Trees.{Term, primitive, reference, joined, sided, headed, transformed, switching, continuing, gathered, releasing, editing, staged, bare, probe, never, with_value, timed, selected, arrow, accumulated, fused, Collection, started, call, named_term}
 use Rattle.sf_lex.specs.declared.word.Keyword.TheVariants as words
 use Rattle.sf_lex.specs.declared.symbol.Symbol.TheVariants as symbols
 use Rattle.sf_lex.specs.Tokens.{Tok, keyword, name, number, symbol}
 use Rattle.sf_grammar.specs.declared.ty.Version.{Version}
 use Rattle.sf_grammar.specs.declared.head.Head.{Head}
 use Rattle.sf_grammar.specs.declared.head.Head.TheVariants as heads
-use Rattle.sf_grammar.specs.Spelling.{in_brackets, spell_type, spell_pattern, spell_expression, spell_function, spell_mapping, spell_term, spell_collection, spell_arguments, spell_listed, bare_word, value_word, stands_initially, timing_word, selection_word, accumulation_word, join_symbol, side_word, heading_token, switching_word, keeping_word, releasing_word, editing_word, naming_token, head_makes}
-use Rattle.sf_grammar.specs.Reading.{Read, Counts, counts_with, counts_with_expression, counts_with_function, counts_with_collection, head_of, begins_fresh, head_at, parse_value, parse_never, parse_timed, parse_selected, parse_arrow, parse_accumulated, parse_sided, parse_headed, parse_transformed, parse_switching, parse_named, parse_collection_form, begins_collection, parse_gathered, parse_releasing, parse_editing, parse_keeping, parse_joined, parse_behind_head, parse_form, begins_term, parse_shallow, parse_term, parse_collection}
+use Rattle.sf_grammar.specs.Spelling.{in_brackets, spell_type, spell_pattern, spell_expression, spell_function, spell_mapping, spell_term, spell_collection, spell_arguments, spell_listed, bare_word, value_word, stands_initially, timing_word, selection_word, accumulation_word, join_symbol, side_word, heading_token, switching_word, continuing_word, releasing_word, editing_word, naming_token, head_makes}
+use Rattle.sf_grammar.specs.Reading.{Read, Counts, counted_term, counts_with_expression, counts_with_function, counts_with_collection, head_of, begins_fresh, tokens_head, parse_value, parse_never, parse_timed, parse_selected, parse_arrow, parse_accumulated, parse_sided, parse_headed, parse_transformed, parse_switching, parse_named, parse_collection_form, begins_collection, parse_gathered, parse_releasing, parse_editing, parse_continuing, parse_joined, parse_behind_head, parse_form, begins_term, parse_shallow, parse_term, parse_collection}
 use Rattle.sf_grammar.proofs.Words.{head_token, HasKeyword, BeginsSo, head_again, HasOwnToken, IsHeadToken, head_takes, heading_begins, start_again, IsFresh, fresh_takes, IsLone, named_alone}
 use Rattle.sf_grammar.proofs.Takes.{HeadMakes, with_pre, stays_headed, head_view}
 use Rattle.sf_place.specs.Places.{ExpressionInTexts, TermInTexts}
@@ -43,7 +43,7 @@ TermTail v (heads.Headed h) = Both Open (Parts (ExpressionText v) Comma (TermTex
 TermTail v heads.Transformed = Both Open (Parts (FunctionText v) Comma (TermText v))
 TermTail v (heads.Switching w) = Both Open (Parts (TermText v) Comma (Mapped (TermText v)))
 TermTail v (heads.Named w) = NameText
-TermTail v (heads.Keeping w) = Both Open (Both (TermText v) (Both Comma (Both (TermText v) (Both Comma (Parts NameText Comma (Mapped (TermText v)))))))
+TermTail v (heads.Continuation w) = Both Open (Both (TermText v) (Both Comma (Both (TermText v) (Both Comma (Parts NameText Comma (Mapped (TermText v)))))))
 TermTail v heads.Call = Only []
 TermTail v heads.Gathered = CollectionText v
 TermTail v (heads.Releasing w) = Both Open (Both (CollectionText v) (Both Comma (Both (TermText v) (Both Comma (Parts NameText Comma (Mapped (TermText v)))))))
@@ -51,7 +51,7 @@ TermTail v (heads.Editing w) = Both Open (Both (CollectionText v) (Both Comma (P
 
 head_reads : (d : ℕ) (v : Version) (part : Counts → List Tok → Read Term) (members : Counts → List Tok → Read Collection) (c : Counts) (h : Head) (start : List Tok) → HasOwnToken h → TermsRead v part → MembersRead v members
     → Reads Anything (TermTail v h) (parse_behind_head d v part members c (Some h) start)
-unfolding parse_value parse_timed parse_selected parse_never parse_arrow parse_accumulated parse_joined parse_sided parse_headed parse_transformed parse_switching parse_named parse_keeping parse_gathered parse_releasing parse_editing
+unfolding parse_value parse_timed parse_selected parse_never parse_arrow parse_accumulated parse_joined parse_sided parse_headed parse_transformed parse_switching parse_named parse_continuing parse_gathered parse_releasing parse_editing
 head_reads d v part members c (heads.Bare b) start own l m = nothing (term_ends c (primitive (bare b)) start)
 head_reads d v part members c (heads.WithValue k) start own l m = finish (expression_reads d v c) (λ e. term_ends c (primitive (with_value k e)) start)
 head_reads d v part members c (heads.Timed k) start own l m = bind number_reads (λ q. finish (expression_reads d v c) (λ e. term_ends c (primitive (timed k q e)) start))
@@ -60,23 +60,23 @@ head_reads d v part members c heads.Never start own l m = finish (whole_type_rea
 head_reads d v part members c heads.Arrow start own l m = finish (function_reads d v c) (λ f. term_ends c (primitive (arrow f)) start)
 head_reads d v part members c (heads.Accumulated k) start own l m =
     bind opening (λ _. parts_read (expression_reads d v c) comma (λ e. function_reads d v (counts_with_expression c e)) (λ e _ f. term_ends c (primitive (accumulated k e f)) start))
-head_reads d v part members c heads.Joined start own l m = parts_read (l c) join_reads (λ f. l (counts_with c f)) (λ f j g. term_ends c (joined j f g) start)
+head_reads d v part members c heads.Joined start own l m = parts_read (l c) join_reads (λ f. l (counted_term c f)) (λ f j g. term_ends c (joined j f g) start)
 head_reads d v part members c (heads.Sided s) start own l m = finish (l c) (λ f. term_ends c (sided s f) start)
 head_reads d v part members c (heads.Headed h) start own l m =
     bind opening (λ _. parts_read (expression_reads d v c) comma (λ e. l (counts_with_expression c e)) (λ e _ f. term_ends c (head_makes h e f) start))
 head_reads d v part members c heads.Transformed start own l m =
     bind opening (λ _. parts_read (function_reads d v c) comma (λ h. l (counts_with_function c h)) (λ h _ f. term_ends c (transformed h f) start))
 head_reads d v part members c (heads.Switching w) start own l m =
-    bind opening (λ _. parts_read (l c) comma (λ f. body_reads d v part (counts_with c f) l) (λ f _ b. term_ends c (switching w f b.0 b.1) start))
+    bind opening (λ _. parts_read (l c) comma (λ f. body_reads d v part (counted_term c f) l) (λ f _ b. term_ends c (switching w f b.0 b.1) start))
 head_reads d v part members c (heads.Named w) start own l m = finish name_reads (λ k. term_ends c (named_term w k) start)
-head_reads d v part members c (heads.Keeping w) start own l m =
-    bind opening (λ _. bind (l c) (λ f. bind comma (λ _. bind (l (counts_with c f)) (λ g. bind comma (λ _.
-    parts_read name_reads comma (λ _. body_reads d v part (counts_with (counts_with c f) g) l) (λ k _ b. term_ends c (keeping w f g k b.0 b.1) start))))))
+head_reads d v part members c (heads.Continuation w) start own l m =
+    bind opening (λ _. bind (l c) (λ f. bind comma (λ _. bind (l (counted_term c f)) (λ g. bind comma (λ _.
+    parts_read name_reads comma (λ _. body_reads d v part (counted_term (counted_term c f) g) l) (λ k _ b. term_ends c (continuing w f g k b.0 b.1) start))))))
 head_reads d v part members c heads.Call start own l m = absurd own
 head_reads d v part members c heads.Gathered start own l m = finish (m c) (λ i. term_ends c (gathered i) start)
 head_reads d v part members c (heads.Releasing w) start own l m =
     bind opening (λ _. bind (m c) (λ i. bind comma (λ _. bind (l (counts_with_collection c i)) (λ q. bind comma (λ _.
-    parts_read name_reads comma (λ _. body_reads d v part (counts_with (counts_with_collection c i) q) l) (λ k _ b. term_ends c (releasing w i q k b.0 b.1) start))))))
+    parts_read name_reads comma (λ _. body_reads d v part (counted_term (counts_with_collection c i) q) l) (λ k _ b. term_ends c (releasing w i q k b.0 b.1) start))))))
 head_reads d v part members c (heads.Editing w) start own l m =
     bind opening (λ _. bind (m c) (λ i. bind comma (λ _.
     parts_read name_reads comma (λ _. edit_reads d v members (counts_with_collection c i) m) (λ k _ b. term_ends c (editing w i k b.0 b.1) start))))
@@ -121,7 +121,7 @@ term_into v (heads.Switching w) ys own begins tail =
 term_into v (heads.Named w) ys own begins tail =
     let lone : IsLone v w tail.value = named_alone v w tail.value in
     record { value = named_term w tail.value; spelled = ap (λ r. naming_token w ∷ r) tail.spelled ∙ sym lone.spelled; stands = naming_stands v w tail.value begins }
-term_into v (heads.Keeping w) ys own begins tail =
+term_into v (heads.Continuation w) ys own begins tail =
     let f : Term = tail.second.first.value in
     let g : Term = tail.second.second.second.first.value in
     let inside = tail.second.second.second.second.second in
@@ -130,8 +130,8 @@ term_into v (heads.Keeping w) ys own begins tail =
     let mapping : List Tok = spell_mapping (spell_pattern body.first.value) (spell_term v body.second.second.value) in
     let split : ys ≡ symbol symbols.Open ∷ (spell_term v f ++ (symbol symbols.Comma ∷ (spell_term v g ++ (symbol symbols.Comma ∷ name k ∷ symbol symbols.Comma ∷ (mapping ++ (symbol symbols.Close ∷ [])))))) = cc in
     record {
-      value = keeping w f g k body.first.value body.second.second.value;
-      spelled = ap (λ r. keyword (keeping_word w) ∷ r) (split ∙ mapping_behind (spell_term v f) (spell_term v g) mapping k);
+      value = continuing w f g k body.first.value body.second.second.value;
+      spelled = ap (λ r. keyword (continuing_word w) ∷ r) (split ∙ mapping_behind (spell_term v f) (spell_term v g) mapping k);
       stands = (tail.second.first.stands, tail.second.second.second.first.stands, body.second.second.stands);
     }
 term_into v heads.Call ys own begins tail = absurd own
@@ -190,7 +190,7 @@ form_takes d v part members c (t ∷ u) l m = fresh_if d v part members c (begin
 
 -- ## No term is refused for a token
 
-head_fine : (d : ℕ) (v : Version) (part : Counts → List Tok → Read Term) (members : Counts → List Tok → Read Collection) (c : Counts) (h : Head) (t : Tok) (ys more : List Tok) → head_at v (t ∷ (ys ++ more)) ≡ Some h → HasOwnToken h → TermTail v h ys
+head_fine : (d : ℕ) (v : Version) (part : Counts → List Tok → Read Term) (members : Counts → List Tok → Read Collection) (c : Counts) (h : Head) (t : Tok) (ys more : List Tok) → tokens_head v (t ∷ (ys ++ more)) ≡ Some h → HasOwnToken h → TermTail v h ys
     → TermsRead v part → MembersRead v members → Fine more (parse_form d v part members c (t ∷ (ys ++ more)))
 head_fine d v part members c h t ys more found own tail l m =
     subst (λ o. Fine more (parse_behind_head d v part members c o (t ∷ (ys ++ more)) (ys ++ more))) (sym found) ((head_reads d v part members c h (t ∷ (ys ++ more)) own l m).fine ys more tail tt)
@@ -265,9 +265,9 @@ form_fine d v part members c (switching w f p g) more stands l m =
     let body : List Tok = spell_mapping (spell_pattern p) (spell_term v g) in
     head_fine d v part members c (heads.Switching w) (keyword (switching_word w)) (in_brackets (spell_term v f) (symbol symbols.Comma) body) more (head_again (heads.Switching w) tt) tt
     (two_are (spell_term v f) body (term_is v f stands.0) (mapped_are p (spell_term v g) (term_is v g stands.1))) l m
-form_fine d v part members c (keeping w f g k p u) more stands l m =
+form_fine d v part members c (continuing w f g k p u) more stands l m =
     let body : List Tok = spell_mapping (spell_pattern p) (spell_term v u) in
-    head_fine d v part members c (heads.Keeping w) (keyword (keeping_word w)) (in_brackets (spell_term v f) (symbol symbols.Comma) (spell_term v g ++ (symbol symbols.Comma ∷ name k ∷ symbol symbols.Comma ∷ body))) more (head_again (heads.Keeping w) tt) tt
+    head_fine d v part members c (heads.Continuation w) (keyword (continuing_word w)) (in_brackets (spell_term v f) (symbol symbols.Comma) (spell_term v g ++ (symbol symbols.Comma ∷ name k ∷ symbol symbols.Comma ∷ body))) more (head_again (heads.Continuation w) tt) tt
     (named_are (spell_term v f) (spell_term v g) body k (term_is v f stands.0) (term_is v g stands.1) (mapped_are p (spell_term v u) (term_is v u stands.2))) l m
 form_fine d v part members c (gathered i) more stands l m = head_fine d v part members c heads.Gathered (keyword words.ParB) (spell_collection v i) more refl tt (members_are v i stands) l m
 form_fine d v part members c (releasing w i g k p u) more stands l m =
@@ -320,8 +320,8 @@ term_begins v (headed h e f) stands = heading_starts h (in_brackets (spell_expre
 term_begins v (transformed h f) stands = begins_with (symbol symbols.MapsFirstInput) (in_brackets (spell_function v h) (symbol symbols.Comma) (spell_term v f)) refl
 term_begins v (switching w f p g) stands =
     begins_with (keyword (switching_word w)) (in_brackets (spell_term v f) (symbol symbols.Comma) (spell_mapping (spell_pattern p) (spell_term v g))) (ap starts_form (head_again (heads.Switching w) tt))
-term_begins v (keeping w f g k p u) stands =
-    begins_with (keyword (keeping_word w)) (in_brackets (spell_term v f) (symbol symbols.Comma) (spell_term v g ++ (symbol symbols.Comma ∷ name k ∷ symbol symbols.Comma ∷ spell_mapping (spell_pattern p) (spell_term v u)))) (ap starts_form (head_again (heads.Keeping w) tt))
+term_begins v (continuing w f g k p u) stands =
+    begins_with (keyword (continuing_word w)) (in_brackets (spell_term v f) (symbol symbols.Comma) (spell_term v g ++ (symbol symbols.Comma ∷ name k ∷ symbol symbols.Comma ∷ spell_mapping (spell_pattern p) (spell_term v u)))) (ap starts_form (head_again (heads.Continuation w) tt))
 term_begins v (gathered i) stands = begins_with (keyword words.ParB) (spell_collection v i) refl
 term_begins v (releasing w i g k p u) stands =
     begins_with (keyword (releasing_word w)) (in_brackets (spell_collection v i) (symbol symbols.Comma) (spell_term v g ++ (symbol symbols.Comma ∷ name k ∷ symbol symbols.Comma ∷ spell_mapping (spell_pattern p) (spell_term v u)))) (ap starts_form (head_again (heads.Releasing w) tt))

@@ -3,19 +3,20 @@ use Rattle.std.specs.Prelude.{◌≡◌, ℕ, pos, List, [], ◌∷◌, ◌++◌
 use Rattle.std.specs.List.{All}
 use Rattle.sf_value.specs.Values.{Name}
 use Rattle.sf_expr.specs.Expressions.{none_literal, Expression, literal, paired, applied, operation, conditional, mapped, folded, called, Function, function}
-use Rattle.sf_term.specs.Parameters.{NameKind, value as value_kind, process as process_kind, collection as collection_kind}
-use Rattle.sf_term.specs.Trees.{Term, primitive, reference, joined, sided, headed, transformed, switching, keeping, gathered, releasing, editing, staged, never, with_value, timed, arrow, accumulated, fused, Collection, without_members, added, dropped, kept, chosen, Reference, started, call, Arguments, no_arguments, value_argument, process_argument, collection_argument, closed_argument, Template, Templates}
+use Rattle.sf_term.specs.Parameters.{NameKind, value}
+use Rattle.sf_term.specs.Parameters
+use Rattle.sf_term.specs.Trees.{Term, primitive, reference, joined, sided, headed, transformed, switching, continuing, gathered, releasing, editing, staged, never, with_value, timed, arrow, accumulated, fused, Collection, without_members, added, dropped, kept, chosen, Reference, started, call, Arguments, no_arguments, value_argument, process_argument, collection_argument, closed_argument, Template, Templates}
 use Rattle.sf_refusal.specs.declared.rule.Rule.TheVariants.{Unexpected}
 use Rattle.sf_refusal.specs.declared.spot.Spot.{Spot}
-use Rattle.sf_lex.specs.Tokens.{Tok, keyword, name, number, text, symbol, Located, place_at}
+use Rattle.sf_lex.specs.Tokens.{Tok, keyword, name, number, text, symbol, Located, offset_place}
 use Rattle.sf_lex.specs.Cutting.{Lexes}
 use Rattle.sf_grammar.specs.declared.ty.Version.{Version}
 use Rattle.sf_grammar.specs.Spelling.{WritesKeys, WritesType, WritesStart, head_makes, spell}
-use Rattle.sf_grammar.specs.Stopping.{StopsIn, offset_of}
+use Rattle.sf_grammar.specs.Stopping.{NetworkStops, offset_of}
 
 -- behind the tokens of a front, reading stops for the first of these, or for the end
-abbrev pub RefusedAt : List Tok → List Tok → Type 0
-RefusedAt front at = StopsIn (front ++ at) Unexpected (length at)
+abbrev pub IsRefusedToken : List Tok → List Tok → Type 0
+IsRefusedToken front at = NetworkStops (front ++ at) Unexpected (length at)
 
 -- a text of the version has an expression, whatever its depth and size
 abbrev pub ExpressionInTexts : Version → Expression → Type 0
@@ -48,7 +49,7 @@ abbrev mutual
   TermInTexts v (headed h e f) = (head_makes h e f ≡ headed h e f) × ExpressionInTexts v e × TermInTexts v f
   TermInTexts v (transformed h f) = FunctionInTexts v h × TermInTexts v f
   TermInTexts v (switching w f p g) = TermInTexts v f × TermInTexts v g
-  TermInTexts v (keeping w f g k p u) = TermInTexts v f × TermInTexts v g × TermInTexts v u
+  TermInTexts v (continuing w f g k p u) = TermInTexts v f × TermInTexts v g × TermInTexts v u
   TermInTexts v (gathered i) = CollectionInTexts v i
   TermInTexts v (releasing w i q k p u) = CollectionInTexts v i × TermInTexts v q × TermInTexts v u
   TermInTexts v (editing w i k p u) = CollectionInTexts v i × CollectionInTexts v u
@@ -78,9 +79,9 @@ abbrev mutual
 
 -- the same of what a name stands for
 abbrev pub NameKindInTexts : Version → NameKind → Type 0
-NameKindInTexts v (value_kind t) = WritesType v t
-NameKindInTexts v (process_kind t u) = WritesType v t × WritesType v u
-NameKindInTexts v (collection_kind k t u) = WritesKeys v k × WritesType v t × WritesType v u
+NameKindInTexts v (value t) = WritesType v t
+NameKindInTexts v (Parameters.process t u) = WritesType v t × WritesType v u
+NameKindInTexts v (Parameters.collection k t u) = WritesKeys v k × WritesType v t × WritesType v u
 
 -- a text of the version has a template, whatever its depth and size
 pub record TemplateInTexts (v : Version) (t : Template) : Type 0 where
@@ -125,4 +126,4 @@ pub record NoNetworkFrom (bytes : List ℕ) (place : Spot) : Type 0 where
   pub cut : Lexes bytes (front ++ at)
   pub leads : LeadsToNetwork (tokens_of front)
   pub no_further : GoesNoFurther (tokens_of front) (tokens_of at)
-  pub is : place ≡ place_at bytes (offset_of (length bytes) at)
+  pub is : place ≡ offset_place bytes (offset_of (length bytes) at)

@@ -8,7 +8,7 @@ ghost use Rattle.sf_term.specs.Trees.{Templates};
 ghost use Rattle.sf_grammar.specs.declared.ty.Version.{Version};
 ghost use Rattle.sf_grammar.specs.Spelling.{spell, IsWithinLimits};
 ghost use Rattle.sf_grammar.specs.Stopping.{BreaksText};
-ghost use Rattle.sf_place.specs.Places.{RefusedAt, SpellsNetwork, LeadsToNetwork, GoesNoFurther, NoNetworkFrom};
+ghost use Rattle.sf_place.specs.Places.{IsRefusedToken, SpellsNetwork, LeadsToNetwork, GoesNoFurther, NoNetworkFrom};
 
 /// Where bytes are refused for a token, some network has the tokens in front of the place, and none has the token there behind
 /// them. Where they are refused for their end, they are no network, and some network begins with them. Networks of any depth
@@ -24,19 +24,19 @@ pub fn the_place_is_one()
 
 /// A token that is refused behind others is refused there whatever tokens stand behind it.
 pub fn the_place_is_local()
-    ensures { (front rest : List Tok) (t : Tok) → RefusedAt front (t ∷ rest) → (other : List Tok) → RefusedAt front (t ∷ other) }
+    ensures { (front rest : List Tok) (t : Tok) → IsRefusedToken front (t ∷ rest) → (other : List Tok) → IsRefusedToken front (t ∷ other) }
 {}
 
 /// Some network has the tokens in front of the one that is refused: what is begun there can be ended by words, symbols, the name
 /// `a` and the number 1. Its depth, its size and its numbers of terms and expressions may be beyond the limits.
 pub fn some_network_has_the_front()
-    ensures { (front at : List Tok) → RefusedAt front at → LeadsToNetwork front }
+    ensures { (front at : List Tok) → IsRefusedToken front at → LeadsToNetwork front }
 {}
 
 /// No network has the token there that is refused, whatever stands behind it, and whatever its depth and its size. Where the end
 /// is refused, the tokens are no network.
 pub fn no_network_goes_on()
-    ensures { (front at : List Tok) → RefusedAt front at → GoesNoFurther front at }
+    ensures { (front at : List Tok) → IsRefusedToken front at → GoesNoFurther front at }
 {}
 
 /// Each network within the limits is one of those that count here.
@@ -47,5 +47,5 @@ pub fn within_limits()
 /// Within the limits this is not so: some front is refused at its end, and no network within the limits has it. In one, 64 types
 /// `Event` stand one inside another.
 pub fn a_front_beyond_the_limits()
-    ensures { (front : List Tok) × RefusedAt front [] × ((more : List Tok) (v : Version) (p : Templates) → IsWithinLimits v p → front ++ more ≡ spell v p → ⊥) }
+    ensures { (front : List Tok) × IsRefusedToken front [] × ((more : List Tok) (v : Version) (p : Templates) → IsWithinLimits v p → front ++ more ≡ spell v p → ⊥) }
 {}

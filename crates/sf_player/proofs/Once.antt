@@ -8,7 +8,7 @@ use Rattle.sf_term.specs.Trees.{Template}
 use Rattle.sf_mean.specs.Lives.{Life, time, closure, empty}
 use Rattle.sf_mean.specs.Meaning.{Network, Readings, Outcome, gave, faulted, Cost, Gives}
 use Rattle.sf_mean.proofs.Once.{once}
-use Rattle.sf_engine.specs.Histories.{saved_under, keep_under, MaySave}
+use Rattle.sf_engine.specs.Histories.{saved_under, save_kept, MaySave}
 use Rattle.sf_lines.specs.Limits.{limit_refusal}
 use Rattle.sf_lines.specs.Asking.{Asked, nothing, start, advance, save, back, Says}
 use Rattle.sf_lines.specs.Written.{fault_line, refusal_line}
@@ -24,9 +24,9 @@ data SampleGives (n : Network) (m : Template) (now : Moment) (L : Life) : List �
   nothing_at_all : ((o : Outcome) (c : Cost) → Gives n (closure m.body empty) L o c → ⊥) → SampleGives n m now L (fault_line (time L) Large) (ends sample_faulted)
 
 -- what a line gives that keeps a life, and one that returns to one
-data KeepingGives (now : Moment) (name : Name) : List ℕ → Turn → Type 0 where
-  a_place : MaySave name now.saved → KeepingGives now name [] (goes_on (record now { taken = now.taken + 1; saved = keep_under name now.lived now.saved }))
-  no_place : ¬ MaySave name now.saved → KeepingGives now name (refusal_line (now.taken + 1) TooManySaves) (ends line_refused)
+data SavingGives (now : Moment) (name : Name) : List ℕ → Turn → Type 0 where
+  a_place : MaySave name now.saved → SavingGives now name [] (goes_on (record now { taken = now.taken + 1; saved = save_kept name now.lived now.saved }))
+  no_place : ¬ MaySave name now.saved → SavingGives now name (refusal_line (now.taken + 1) TooManySaves) (ends line_refused)
 
 data ReturningGives (now : Moment) (name : Name) : List ℕ → Turn → Type 0 where
   a_life : {K : Life} → saved_under name now.saved ≡ Some K → ReturningGives now name [] (goes_on (record now { taken = now.taken + 1; lived = K }))
@@ -38,7 +38,7 @@ GivesFor n m now (Err r) x t = (x ≡ refusal_line (now.taken + 1) r) × (t ≡ 
 GivesFor n m now (Ok nothing) x t = (x ≡ []) × (t ≡ goes_on (record now { taken = now.taken + 1 }))
 GivesFor n m now (Ok (start v)) x t = SampleGives n m now (life_after (start v) now.lived) x t
 GivesFor n m now (Ok (advance d v)) x t = SampleGives n m now (life_after (advance d v) now.lived) x t
-GivesFor n m now (Ok (save name)) x t = KeepingGives now name x t
+GivesFor n m now (Ok (save name)) x t = SavingGives now name x t
 GivesFor n m now (Ok (back name)) x t = ReturningGives now name x t
 
 -- a line is past the limits, or says something
@@ -87,11 +87,11 @@ sample_once (nothing_at_all none) (a_value G) = absurd (none _ _ G)
 sample_once (nothing_at_all none) (a_fault G) = absurd (none _ _ G)
 sample_once (nothing_at_all none) (nothing_at_all more) = (refl, refl)
 
-keeping_once : {now : Moment} {name : Name} {x y : List ℕ} {t u : Turn} → KeepingGives now name x t → KeepingGives now name y u → Same x y t u
-keeping_once (a_place may) (a_place also) = (refl, refl)
-keeping_once (a_place may) (no_place full) = absurd (full may)
-keeping_once (no_place full) (a_place may) = absurd (full may)
-keeping_once (no_place full) (no_place also) = (refl, refl)
+saving_once : {now : Moment} {name : Name} {x y : List ℕ} {t u : Turn} → SavingGives now name x t → SavingGives now name y u → Same x y t u
+saving_once (a_place may) (a_place also) = (refl, refl)
+saving_once (a_place may) (no_place full) = absurd (full may)
+saving_once (no_place full) (a_place may) = absurd (full may)
+saving_once (no_place full) (no_place also) = (refl, refl)
 
 returning_once : {now : Moment} {name : Name} {x y : List ℕ} {t u : Turn} → ReturningGives now name x t → ReturningGives now name y u → Same x y t u
 returning_once {now = now} (a_life {K = K} found) (a_life {K = J} also) =
@@ -107,7 +107,7 @@ gives_once n m now (Err r) G H = (G.0 ∙ sym H.0, G.1 ∙ sym H.1)
 gives_once n m now (Ok nothing) G H = (G.0 ∙ sym H.0, G.1 ∙ sym H.1)
 gives_once n m now (Ok (start v)) G H = sample_once G H
 gives_once n m now (Ok (advance d v)) G H = sample_once G H
-gives_once n m now (Ok (save name)) G H = keeping_once G H
+gives_once n m now (Ok (save name)) G H = saving_once G H
 gives_once n m now (Ok (back name)) G H = returning_once G H
 
 replied_once : {n : Network} {m : Template} {now : Moment} {line x y : List ℕ} {t u : Turn} → Replied n m now line x t → Replied n m now line y u → Same x y t u

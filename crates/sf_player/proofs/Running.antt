@@ -14,7 +14,7 @@ use Rattle.sf_player.specs.Telling.{RunGives, CanBeGiven, so_far, in_all, by_its
 use Rattle.sf_player.specs.Stops.{stop_end, stop_line}
 use Rattle.sf_player.specs.declared.stop.Stop.TheVariants.{Faulted, Refused}
 use Rattle.sf_player.specs.Counting.{WritesFront, CountsReads}
-use Rattle.sf_player.specs.Playing.{Played, Feeds, EndsInput, weight, line_in, IsCleared, WritesOut, runs_on, ended, failed}
+use Rattle.sf_player.specs.Playing.{Played, Feeds, EndsInput, weight, line_of_stop, IsCleared, WritesOut, runs_on, ended, failed}
 use Rattle.sf_player.specs.declared.end.PlayEnd.{PlayEnd}
 use Rattle.sf_player.specs.declared.end.PlayEnd.TheVariants.{Done, Fault, BadLine, ReadFault, WriteFault}
 use Rattle.sf_player.specs.declared.player.Player.{Player}
@@ -71,14 +71,14 @@ comes_further probes n m read written p piece stop F (failed w) e = cc
 comes_further probes n m read written p piece (Some s) F (ended w) e = cc
 
 -- what was to be written, where a piece was played
-feeds_give : {F : Type 0} {H : _} (probes : Bool) (n : Network) (m : Template) (written : List ℕ) (p mid : Player F H) (read piece : List ℕ) (stop : Option Stop) → Feeds probes n m read written p piece stop mid → (left : List ℕ) → CanBeGiven probes n m (lines_of ((read ++ piece) ++ left)) (written ++ (mid.out.items ++ line_in stop))
+feeds_give : {F : Type 0} {H : _} (probes : Bool) (n : Network) (m : Template) (written : List ℕ) (p mid : Player F H) (read piece : List ℕ) (stop : Option Stop) → Feeds probes n m read written p piece stop mid → (left : List ℕ) → CanBeGiven probes n m (lines_of ((read ++ piece) ++ left)) (written ++ (mid.out.items ++ line_of_stop stop))
 feeds_give probes n m written p mid read piece None P left =
     subst (λ (x : List ℕ). CanBeGiven probes n m (lines_of ((read ++ piece) ++ left)) (written ++ x)) (sym (append-nil mid.out.items))
     (so_far (lines_of (pending mid.cutter ++ left)) P.played.reaches (lines_of-splits (read ++ piece) P.played.lines (pending mid.cutter) left P.played.stands.splits))
 feeds_give probes n m written p mid read piece (Some s) halted left =
     subst (λ (x : List ℕ). CanBeGiven probes n m (lines_of ((read ++ piece) ++ left)) x) (append_assoc written mid.out.items (stop_line s)) (in_all (halted left))
 
-finish_gives : {F : Type 0} {H : _} (probes : Bool) (n : Network) (m : Template) (read written : List ℕ) (mid : Player F H) (stop : Option Stop) → EndsInput probes n m read written stop mid → CanBeGiven probes n m (lines_of read) (written ++ (mid.out.items ++ line_in stop))
+finish_gives : {F : Type 0} {H : _} (probes : Bool) (n : Network) (m : Template) (read written : List ℕ) (mid : Player F H) (stop : Option Stop) → EndsInput probes n m read written stop mid → CanBeGiven probes n m (lines_of read) (written ++ (mid.out.items ++ line_of_stop stop))
 finish_gives probes n m read written mid None S =
     subst (λ (x : List ℕ). CanBeGiven probes n m (lines_of read) (written ++ x)) (sym (append-nil mid.out.items)) (in_all S)
 finish_gives probes n m read written mid (Some s) S =

@@ -5,7 +5,7 @@ use Rattle.std.proofs.lemmas.List.{append-nil}
 use Rattle.sf_value.specs.Values.{Kind, Data, HasKind}
 use Rattle.sf_value.specs.declared.fault.Fault.{Fault}
 use Rattle.sf_value.specs.declared.fault.Fault.TheVariants.{Memory as NoMemory}
-use Rattle.sf_probe.specs.Readings.{readings_of}
+use Rattle.sf_probe.specs.Readings.{probe_readings}
 use Rattle.sf_term.specs.Trees.{Template}
 use Rattle.sf_mean.specs.Lives.{Life, time, input_of}
 use Rattle.sf_mean.specs.Meaning.{Network}
@@ -42,12 +42,12 @@ pub value_said : {F : Type 0} {H : _} {n : Network} {m : Template} {now : Moment
     → Sampled n m (life_after a now.lived) now.saved (Ok s) o.engine → t ≡ time (life_after a now.lived) → t ≤ 3600000 * (now.taken + 1)
     → SavesLastAtMost now.taken now.saved → o.taken ≡ now.taken → o.probes ≡ now.probes
     → e.engine ≡ o.engine → e.cutter ≡ o.cutter → e.taken ≡ o.taken + 1 → e.probes ≡ o.probes
-    → e.out.items ≡ o.out.items ++ sample_lines o.probes s.time s.value (readings_of s.readings)
+    → e.out.items ≡ o.out.items ++ sample_lines o.probes s.time s.value (probe_readings s.readings)
     → PlaysOn n m now line o e
 value_said {n = n} {m = m} {now = now} {a = a} {s = s} {o = o} t asked sample (gave_value G at R) later slow saves taken probes engine cutter count kept out =
     let L : Life = life_after a now.lived in
     record {
-      text = sample_lines now.probes (time L) s.value (readings_of s.readings);
+      text = sample_lines now.probes (time L) s.value (probe_readings s.readings);
       later = record now { taken = now.taken + 1; lived = L };
       replies = gives_value asked sample refl G;
       at = record {
@@ -57,7 +57,7 @@ value_said {n = n} {m = m} {now = now} {a = a} {s = s} {o = o} t asked sample (g
         taken = count ∙ ap (λ t. t + 1) taken;
         probes = kept ∙ probes;
       };
-      said = out ∙ ap (λ t. o.out.items ++ sample_lines o.probes t s.value (readings_of s.readings)) at ∙ ap (λ b. o.out.items ++ sample_lines b (time L) s.value (readings_of s.readings)) probes;
+      said = out ∙ ap (λ t. o.out.items ++ sample_lines o.probes t s.value (probe_readings s.readings)) at ∙ ap (λ b. o.out.items ++ sample_lines b (time L) s.value (probe_readings s.readings)) probes;
       cutter = cutter;
     }
 

@@ -7,7 +7,7 @@ use Rattle.sf_value.specs.Values.{Name}
 use Rattle.sf_term.specs.Trees.{Template}
 use Rattle.sf_mean.specs.Lives.{Life}
 use Rattle.sf_mean.specs.Meaning.{Network}
-use Rattle.sf_engine.specs.Histories.{Saves, saved_under, keep_under}
+use Rattle.sf_engine.specs.Histories.{Saves, saved_under, save_kept}
 use Rattle.sf_engine.specs.Running.{Runs}
 use Rattle.sf_engine.specs.Saving.{Saved, saved_nothing, has_no_place, saved_no_memory, saves, Returned, returned_nowhere, has_no_save, returned_no_memory, returns_to}
 use Rattle.sf_engine.specs.declared.engine.Engine.{Engine}
@@ -28,13 +28,13 @@ pub later_saves : (taken : ℕ) (S : Saves) → SavesLastAtMost taken S → Save
 later_saves taken S slow = λ k d h. let here = slow k d h in omega arith
 
 -- so it is where one life more is kept
-pub kept_saves : (taken : ℕ) (name : Name) (L : Life) (S : Saves) → LastsAtMost taken L → SavesLastAtMost taken S → SavesLastAtMost taken (keep_under name L S)
+pub kept_saves : (taken : ℕ) (name : Name) (L : Life) (S : Saves) → LastsAtMost taken L → SavesLastAtMost taken S → SavesLastAtMost taken (save_kept name L S)
 kept_saves taken name L [] slow others = All-cons (λ (s : Name × Life). LastsAtMost taken s.1) (name, L) [] slow others
 kept_saves taken name L (s ∷ S) slow others =
     let P : Name × Life → Type 0 = λ k. LastsAtMost taken k.1 in
-    elim (bytes_eq name s.0) as (λ b. SavesLastAtMost taken (cond b ((s.0, L) ∷ S) (s ∷ keep_under name L S))) [
+    elim (bytes_eq name s.0) as (λ b. SavesLastAtMost taken (cond b ((s.0, L) ∷ S) (s ∷ save_kept name L S))) [
       | true ↦ All-cons P (s.0, L) S slow (All-tail P s S others)
-      | false ↦ All-cons P s (keep_under name L S) (others 0 s (omega arith)) (kept_saves taken name L S slow (All-tail P s S others))
+      | false ↦ All-cons P s (save_kept name L S) (others 0 s (omega arith)) (kept_saves taken name L S slow (All-tail P s S others))
     ]
 
 -- and each life that is kept
@@ -63,12 +63,12 @@ module _ {F : Type 0} {H : _} {n : Network} {m : Template} {now : Moment} {name 
   save_goes_on line _ asked at (saved_no_memory some may R) is goes = cc
   save_goes_on line _ asked at (saves some may R) is goes = record {
     text = [];
-    later = record now { taken = now.taken + 1; saved = keep_under name now.lived now.saved };
+    later = record now { taken = now.taken + 1; saved = save_kept name now.lived now.saved };
     replies = keeps asked may;
     at = record {
-      runs = subst (λ x. Runs x n m now.lived (keep_under name now.lived now.saved)) (sym goes.engine) R;
+      runs = subst (λ x. Runs x n m now.lived (save_kept name now.lived now.saved)) (sym goes.engine) R;
       slow = let slow = at.slow in omega arith;
-      slow_saves = later_saves now.taken (keep_under name now.lived now.saved) (kept_saves now.taken name now.lived now.saved at.slow at.slow_saves);
+      slow_saves = later_saves now.taken (save_kept name now.lived now.saved) (kept_saves now.taken name now.lived now.saved at.slow at.slow_saves);
       taken = goes.count ∙ ap (λ t. t + 1) at.taken;
       probes = goes.probes ∙ at.probes;
     };

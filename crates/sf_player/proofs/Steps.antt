@@ -4,7 +4,7 @@ use Rattle.std.proofs.lemmas.List.{append-nil, take-append-drop, length-append}
 use Rattle.sf_player.proofs.Known.{take-next, slice_from}
 use Rattle.sf_term.specs.Trees.{Template}
 use Rattle.sf_mean.specs.Meaning.{Network}
-use Rattle.sf_engine.specs.Histories.{keep_under}
+use Rattle.sf_engine.specs.Histories.{save_kept}
 use Rattle.sf_engine.specs.Running.{Runs}
 use Rattle.sf_lines.specs.Lines.{lines_of}
 use Rattle.sf_lines.specs.Limits.{limit_refusal, RefusesNext}
@@ -30,7 +30,7 @@ Replies-taken : {n : Network} {m : Template} {now later : Moment} {line text : L
 Replies-taken {now = now} {later = later} (past_limits e) h = absurd cc
 Replies-taken {now = now} {later = later} (refused e s) h = absurd cc
 Replies-taken {now = now} {later = later} (quiet a) h = let e : record now { taken = now.taken + 1 } ≡ later = cc in sym (ap (λ k. k.taken) e)
-Replies-taken {now = now} {later = later} (keeps {name = name} a may) h = let e : record now { taken = now.taken + 1; saved = keep_under name now.lived now.saved } ≡ later = cc in sym (ap (λ k. k.taken) e)
+Replies-taken {now = now} {later = later} (keeps {name = name} a may) h = let e : record now { taken = now.taken + 1; saved = save_kept name now.lived now.saved } ≡ later = cc in sym (ap (λ k. k.taken) e)
 Replies-taken {now = now} {later = later} (keeps_no_more a full) h = absurd cc
 Replies-taken {now = now} {later = later} (returns {K = K} a found) h = let e : record now { taken = now.taken + 1; lived = K } ≡ later = cc in sym (ap (λ k. k.taken) e)
 Replies-taken {now = now} {later = later} (returns_nowhere a absent) h = absurd cc

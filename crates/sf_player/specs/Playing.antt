@@ -74,9 +74,9 @@ abbrev pub SavesLastAtMost : ℕ → Saves → Type 0
 SavesLastAtMost taken S = All (λ (s : Name × Life). LastsAtMost taken s.1) S
 
 -- the line of a stop
-abbrev pub line_in : Option Stop → List ℕ
-line_in None = []
-line_in (Some s) = stop_line s
+abbrev pub line_of_stop : Option Stop → List ℕ
+line_of_stop None = []
+line_of_stop (Some s) = stop_line s
 
 -- Players of engines over functions that are held by name.
 module _ {F : Type 0} {H : _} (n : Network) (m : Template) where
@@ -180,7 +180,7 @@ module _ {F : Type 0} {H : _} where
   pub data WritesOut (old : Player F H) (before after : Option (List ℕ)) : Option Stop → Option PlayEnd → Player F H → Type 0 where
     runs_on : {new : Player F H} → Appends before after old.out.items → IsCleared old new → WritesOut old before after None None new
     ended : {s : Stop} {new : Player F H} → Appends before after (old.out.items ++ stop_line s) → WritesOut old before after (Some s) (Some (stop_end s)) new
-    failed : {o : Option Stop} {new : Player F H} → WritesFront before after (old.out.items ++ line_in o) → WritesOut old before after o (Some WriteFault) new
+    failed : {o : Option Stop} {new : Player F H} → WritesFront before after (old.out.items ++ line_of_stop o) → WritesOut old before after o (Some WriteFault) new
 
   -- A player has played nothing.
   pub record IsFresh (p : Player F H) : Type 0 where

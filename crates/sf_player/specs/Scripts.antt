@@ -7,7 +7,7 @@ use Rattle.sf_value.specs.declared.fault.Fault.TheVariants.{Value, Large}
 use Rattle.sf_term.specs.Trees.{Template}
 use Rattle.sf_mean.specs.Lives.{Life, time, closure, empty}
 use Rattle.sf_mean.specs.Meaning.{Network, Readings, Outcome, gave, faulted, Cost, Gives}
-use Rattle.sf_engine.specs.Histories.{after_start, after_step, Saves, saved_under, keep_under, MaySave}
+use Rattle.sf_engine.specs.Histories.{after_start, after_step, Saves, saved_under, save_kept, MaySave}
 use Rattle.sf_lines.specs.Limits.{limit_refusal}
 use Rattle.sf_lines.specs.Asking.{Asked, nothing, start, advance, save, back, Says}
 use Rattle.sf_lines.specs.Written.{sample_line, reading_line, fault_line, refusal_line}
@@ -89,7 +89,7 @@ module _ (n : Network) (m : Template) where
     -- the life is kept under a name, or there are too many names
     keeps : {name : Name}
         → Asks now line (save name) → MaySave name now.saved
-        → Replies now line [] (goes_on (record now { taken = now.taken + 1; saved = keep_under name now.lived now.saved }))
+        → Replies now line [] (goes_on (record now { taken = now.taken + 1; saved = save_kept name now.lived now.saved }))
     keeps_no_more : {name : Name}
         → Asks now line (save name) → ¬ MaySave name now.saved
         → Replies now line (refusal_line (now.taken + 1) TooManySaves) (ends line_refused)

@@ -1,6 +1,6 @@
 //! The lines of samples.
 ghost use Rattle.std.specs.Prelude.{◌≡◌, ◌++◌, true, OnOk, OnErr, take, vec_len};
-ghost use Rattle.sf_probe.specs.Readings.{readings_of};
+ghost use Rattle.sf_probe.specs.Readings.{probe_readings};
 ghost use Rattle.sf_player.specs.Scripts.{readings_said, sample_lines};
 
 use sf_engine::Sample;
@@ -12,7 +12,7 @@ use std::alloc::AllocError;
 /// what was there.
 #[inline(always)]
 pub(crate) fn gather(probes: bool, sample: &Sample, out: &mut Vec<u8>) -> Result<(), AllocError>
-    ensures ok { OnOk result (out.new.items ≡ out.old.items ++ sample_lines probes sample.now.time sample.now.value (readings_of sample.now.readings)) }
+    ensures ok { OnOk result (out.new.items ≡ out.old.items ++ sample_lines probes sample.now.time sample.now.value (probe_readings sample.now.readings)) }
     ensures err { OnErr result (out.new.items ≡ out.old.items) }
 {
     if !probes {
@@ -29,7 +29,7 @@ pub(crate) fn gather(probes: bool, sample: &Sample, out: &mut Vec<u8>) -> Result
 // An error leaves a part of the lines behind what was there.
 #[inline(never)]
 fn append_lines(sample: &Sample, out: &mut Vec<u8>) -> Result<(), AllocError>
-    ensures ok { OnOk result (out.new.items ≡ out.old.items ++ sample_lines true sample.now.time sample.now.value (readings_of sample.now.readings)) }
+    ensures ok { OnOk result (out.new.items ≡ out.old.items ++ sample_lines true sample.now.time sample.now.value (probe_readings sample.now.readings)) }
     ensures err { OnErr result (take (vec_len out.old) out.new.items ≡ out.old.items) }
 {
     append_readings(&sample.readings, out)?;
@@ -38,7 +38,7 @@ fn append_lines(sample: &Sample, out: &mut Vec<u8>) -> Result<(), AllocError>
 
 // An error leaves a part of the lines behind what was there.
 fn append_readings(readings: &Readings, out: &mut Vec<u8>) -> Result<(), AllocError>
-    ensures ok { OnOk result (out.new.items ≡ out.old.items ++ readings_said true (readings_of readings.now)) }
+    ensures ok { OnOk result (out.new.items ≡ out.old.items ++ readings_said true (probe_readings readings.now)) }
     ensures err { OnErr result (take (vec_len out.old) out.new.items ≡ out.old.items) }
 {
     for reading in readings.as_slice() {

@@ -6,7 +6,7 @@ ghost use Rattle.sf_term.specs.Arena.{templates_of};
 ghost use Rattle.sf_mean.specs.Meaning.{Network};
 ghost use Rattle.sf_mean.specs.Typing.{Accepted};
 ghost use Rattle.sf_text.specs.Spelling.{IsNetworkText};
-ghost use Rattle.sf_check.specs.Accepting.{program_of};
+ghost use Rattle.sf_check.specs.Accepting.{accepted_program};
 ghost use Rattle.sf_player.specs.Counting.{inner_of, failures_of, CountsReads, CountsWrites};
 ghost use Rattle.sf_player.specs.Telling.{Told, Plays};
 ghost use Rattle.sf_player.specs.Playing.{Played, IsFresh};
@@ -64,10 +64,10 @@ fn play_accepted<F: Holds + Drop, R: Read, W: Write>(
     functions: F,
     options: Options,
 ) -> PlayEnd
-    requires fits { Accepted (F.types functions) (templates_of (program_of checked)) }
+    requires fits { Accepted (F.types functions) (templates_of (accepted_program checked)) }
     requires reads { failures_of reader.old < 2 ^ 64 - 1 }
     requires writes { failures_of writer.old < 2 ^ 64 - 1 }
-    ensures told { (net : List ℕ) → IsNetworkText net (templates_of (program_of checked)) →
+    ensures told { (net : List ℕ) → IsNetworkText net (templates_of (accepted_program checked)) →
         Plays options.probes (F.types functions) (F.answers functions) net
         (R.remaining (inner_of reader.old)) (R.remaining (inner_of reader.new))
         (W.contents (inner_of writer.old)) (W.contents (inner_of writer.new)) result }

@@ -10,7 +10,7 @@ use Rattle.sf_operator.specs.declared.fault.EvalFault.TheVariants.{Value, Memory
 use Rattle.sf_term.specs.declared.form.Accumulation.{Accumulation}
 use Rattle.sf_mean.specs.Formulas.{next_value}
 use Rattle.sf_delay.specs.Gifts.{gift}
-use Rattle.sf_prim.specs.Keeping.{coming, displayed, retained, shown_after, carried_after}
+use Rattle.sf_prim.specs.Remembering.{coming, displayed, retained, shown_after, carried_after}
 
 -- what it gives and keeps, where its function makes a value
 pub shown_of : (k : Accumulation) (f : Function) (s : Scope) (w x u v : Data) (o : Option Data) → o ≡ coming k x → next_value f s w o ≡ answer u → v ≡ displayed k (coming k x) u → shown_after k f s w x ≡ answer v

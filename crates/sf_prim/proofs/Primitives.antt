@@ -8,10 +8,10 @@ use Rattle.std.specs.declared.rc.Rc.{Rc}
 use Rattle.sf_value.specs.Values.{Data, pair, no_event, event}
 use Rattle.sf_func.specs.Registries.{AnswersByName}
 use Rattle.sf_expr.specs.Expressions.{Expression, Function}
-use Rattle.sf_expr.specs.Evaluation.{Evaluated, Scope, functions_in, answer, failed, ◌>>=◌, eval, apply}
+use Rattle.sf_expr.specs.Evaluation.{Evaluated, Scope, scope_functions, answer, failed, ◌>>=◌, eval, apply}
 use Rattle.sf_code.specs.declared.open.OpenCode.{OpenCode}
 use Rattle.sf_code.specs.declared.open.Closure.{Closure}
-use Rattle.sf_code.specs.Worth.{IsCodeOfFunctionIn, IsClosureOf}
+use Rattle.sf_code.specs.Worth.{AnswersAsFunction, IsClosureOf}
 use Rattle.sf_operator.specs.Outcomes.{tested}
 use Rattle.sf_operator.specs.Operations.{payload_or}
 use Rattle.sf_operator.specs.Answers.{Evaluates, EvaluatesAs}
@@ -41,7 +41,7 @@ use Rattle.sf_prim.specs.declared.prim_state.PrimState.TheVariants.{Identity, Ne
 use Rattle.sf_delay.specs.Gifts.{gift}
 use Rattle.sf_prim.specs.Links.{closure_worth}
 use Rattle.std.proofs.lemmas.Result.{on_ok_weaker}
-use Rattle.sf_prim.specs.Keeping.{carried, carried_after, shown_after, time_after, last_time, count_after, counted_after, left_after, passed_on, Remembers, keeps_nothing, keeps_no_event, keeps_value, keeps_previous, keeps_initialized, keeps_pre, keeps_function, keeps_closure, keeps_accumulation, keeps_time, keeps_area, keeps_timer, keeps_ticker, keeps_line, keeps_left, keeps_low, keeps_first_low, keeps_tag, keeps_begun, keeps_first_left, keeps_count, keeps_first, keeps_passed, keeps_initial, keeps_later, keeps_last, keeps_last_before, Begins, begins_with_fault, begins_without_memory, GoesOn, goes_on, goes_on_with_fault, goes_on_without_memory}
+use Rattle.sf_prim.specs.Remembering.{carried, carried_after, shown_after, time_after, last_time, count_after, counted_after, left_after, passed_on, Remembers, remembers_nothing, remembers_no_event, remembers_value, remembers_previous, remembers_initialized, remembers_pre, remembers_function, remembers_closure, remembers_accumulation, remembers_time, remembers_area, remembers_timer, remembers_ticker, remembers_line, remembers_left, remembers_low, remembers_first_low, remembers_tag, remembers_begun, remembers_first_left, remembers_count, remembers_first, remembers_passed, remembers_initial, remembers_later, remembers_last, remembers_last_before, Begins, begins_with_fault, begins_without_memory, GoesOn, goes_on, goes_on_with_fault, goes_on_without_memory}
 
 -- a primitive with a value gives what its formula makes of it
 value_gives : (k : WithValue) (e : Expression) (scope : Scope) (v : Data) (s : Step) (L : Life)
@@ -76,39 +76,39 @@ memory_exit sc q r h = exit_so sc q Memory r h begins_without_memory
 
 pub identity_goes_on : (q : Primitive) (scope : Scope) (d : _) (x : Data) (L : Life)
     → Remembers Identity q scope L → GoesOn q scope (step d x) L Identity (Ok x)
-identity_goes_on q scope d x L keeps_nothing = goes_on refl keeps_nothing
-identity_goes_on q scope d x L (keeps_later {e = e} {v = v} h) = goes_on (value_gives VInitially e scope v (step d x) L h) (keeps_later h)
+identity_goes_on q scope d x L remembers_nothing = goes_on refl remembers_nothing
+identity_goes_on q scope d x L (remembers_later {e = e} {v = v} h) = goes_on (value_gives VInitially e scope v (step d x) L h) (remembers_later h)
 
 pub initially_goes_on : (q : Primitive) (scope : Scope) (d : _) (x : Data) (L : Life) (v : Data) → Remembers (Initially v) q scope L → GoesOn q scope (step d x) L Identity (Ok v)
-initially_goes_on q scope d x L v (keeps_initial {e = e} h) = goes_on (value_gives VInitially e scope v (step d x) L h) (keeps_later h)
+initially_goes_on q scope d x L v (remembers_initial {e = e} h) = goes_on (value_gives VInitially e scope v (step d x) L h) (remembers_later h)
 
 pub never_goes_on : (q : Primitive) (scope : Scope) (s : Step) (L : Life) (v : Data) → v ≡ no_event → Remembers Never q scope L → GoesOn q scope s L Never (Ok v)
-never_goes_on q scope s L v is keeps_no_event = goes_on (ap answer (sym is)) keeps_no_event
-never_goes_on q scope s L v is (keeps_passed {e = e} {v = given} h) = goes_on (value_gives VNow e scope given s L h ∙ ap answer (sym is)) (keeps_passed h)
+never_goes_on q scope s L v is remembers_no_event = goes_on (ap answer (sym is)) remembers_no_event
+never_goes_on q scope s L v is (remembers_passed {e = e} {v = given} h) = goes_on (value_gives VNow e scope given s L h ∙ ap answer (sym is)) (remembers_passed h)
 
 pub constant_goes_on : {A : Type 0} (q : Primitive) (scope : Scope) (s : Step) (L : Life) (v w : Data) (r : Result A EvalFault) → OnOk r (w ≡ v) → IfErr r (λ e. e ≡ Memory)
     → Remembers (Constant v) q scope L → GoesOn q scope s L (Constant v) (gift r w)
-constant_goes_on q scope s L v w (Ok a) ok err (keeps_value {e = e} h) = goes_on (value_gives VConstant e scope v s L h ∙ ap answer (sym ok)) (keeps_value h)
+constant_goes_on q scope s L v w (Ok a) ok err (remembers_value {e = e} h) = goes_on (value_gives VConstant e scope v s L h ∙ ap answer (sym ok)) (remembers_value h)
 constant_goes_on q scope s L v w (Err f) ok err K = subst (λ (f : EvalFault). GoesOn q scope s L (Constant v) (Err f)) (sym err) goes_on_without_memory
 
 pub previous_goes_on : (q : Primitive) (scope : Scope) (d : _) (x : Data) (L : Life) (w : Data)
     → Remembers (Previous w) q scope L → GoesOn q scope (step d x) L (Previous x) (Ok w)
-previous_goes_on q scope d x L w (keeps_previous {e = e} {v = v} h g) =
-    goes_on (value_gives InitialPre e scope v (step d x) L h ∙ ap answer (sym g)) (keeps_previous h refl)
-previous_goes_on q scope d x L w (keeps_initialized {e = e} {v = v} h g) =
-    goes_on (value_gives InitializedPre e scope v (step d x) L h ∙ ap answer (sym g)) (keeps_initialized h refl)
-previous_goes_on q scope d x L w (keeps_pre g) = goes_on (ap answer (sym g)) (keeps_pre refl)
+previous_goes_on q scope d x L w (remembers_previous {e = e} {v = v} h g) =
+    goes_on (value_gives InitialPre e scope v (step d x) L h ∙ ap answer (sym g)) (remembers_previous h refl)
+previous_goes_on q scope d x L w (remembers_initialized {e = e} {v = v} h g) =
+    goes_on (value_gives InitializedPre e scope v (step d x) L h ∙ ap answer (sym g)) (remembers_initialized h refl)
+previous_goes_on q scope d x L w (remembers_pre g) = goes_on (ap answer (sym g)) (remembers_pre refl)
 
-pub arrow_goes_on : (φ : AnswersByName) (c : Rc OpenCode Global) (d : _) (x : Data) (r : Result Data EvalFault) → ((s : Scope) → functions_in s ≡ φ → (f : Function) → IsCodeOfFunctionIn s f [] c.value.code → Evaluates r (apply f x s))
-    → (q : Primitive) (scope : Scope) (L : Life) → functions_in scope ≡ φ → Remembers (Arrow c) q scope L → GoesOn q scope (step d x) L (Arrow c) r
-arrow_goes_on φ c d x (Ok v) h q scope L same (keeps_function {f = f} K) = goes_on (h scope same f K) (keeps_function K)
-arrow_goes_on φ c d x (Err (Value y)) h q scope L same (keeps_function {f = f} K) = goes_on_with_fault (h scope same f K)
+pub arrow_goes_on : (φ : AnswersByName) (c : Rc OpenCode Global) (d : _) (x : Data) (r : Result Data EvalFault) → ((s : Scope) → scope_functions s ≡ φ → (f : Function) → AnswersAsFunction s f [] c.value.code → Evaluates r (apply f x s))
+    → (q : Primitive) (scope : Scope) (L : Life) → scope_functions scope ≡ φ → Remembers (Arrow c) q scope L → GoesOn q scope (step d x) L (Arrow c) r
+arrow_goes_on φ c d x (Ok v) h q scope L same (remembers_function {f = f} K) = goes_on (h scope same f K) (remembers_function K)
+arrow_goes_on φ c d x (Err (Value y)) h q scope L same (remembers_function {f = f} K) = goes_on_with_fault (h scope same f K)
 arrow_goes_on φ c d x (Err Memory) h q scope L same K = goes_on_without_memory
 
 pub closed_goes_on : {A : Type 0} (φ : AnswersByName) (c : Rc Closure Global) (d : _) (x w : Data) (r : Result A EvalFault) → EvaluatesAs (λ (a : A). w) r (closure_worth c.value φ x)
-    → (q : Primitive) (scope : Scope) (L : Life) → functions_in scope ≡ φ → Remembers (Closed c) q scope L → GoesOn q scope (step d x) L (Closed c) (gift r w)
-closed_goes_on φ c d x w (Ok a) h q scope L same (keeps_closure {f = f} K) = goes_on (sym (K.worth x) ∙ ap (λ φ. closure_worth c.value φ x) same ∙ h) (keeps_closure K)
-closed_goes_on φ c d x w (Err (Value y)) h q scope L same (keeps_closure {f = f} K) = goes_on_with_fault (sym (K.worth x) ∙ ap (λ φ. closure_worth c.value φ x) same ∙ h)
+    → (q : Primitive) (scope : Scope) (L : Life) → scope_functions scope ≡ φ → Remembers (Closed c) q scope L → GoesOn q scope (step d x) L (Closed c) (gift r w)
+closed_goes_on φ c d x w (Ok a) h q scope L same (remembers_closure {f = f} K) = goes_on (sym (K.worth x) ∙ ap (λ φ. closure_worth c.value φ x) same ∙ h) (remembers_closure K)
+closed_goes_on φ c d x w (Err (Value y)) h q scope L same (remembers_closure {f = f} K) = goes_on_with_fault (sym (K.worth x) ∙ ap (λ φ. closure_worth c.value φ x) same ∙ h)
 closed_goes_on φ c d x w (Err Memory) h q scope L same K = goes_on_without_memory
 
 -- where a sample answers what the formula is worth, and then keeps the longer life
@@ -128,13 +128,13 @@ time_is d x (s ∷ L) = refl
 
 pub clock_goes_on : {A : Type 0} (q : Primitive) (scope : Scope) (d : ℕ) (x : Data) (L : Life) (t u : Option ℤ) (w : Data) (r : Result A EvalFault)
     → Evaluates (gift r w) (tested (time_after t d)) → OnOk r (u ≡ Some (time_after t d)) → Remembers (Clock t) q scope L → GoesOn q scope (step d x) L (Clock u) (gift r w)
-clock_goes_on q scope d x L t u w r told kept (keeps_time is) =
+clock_goes_on q scope d x L t u w r told kept (remembers_time is) =
     let now : time_after t d ≡ pos (time (step d x ∷ L)) = ap (λ t. time_after t d) is ∙ time_is d x L in
-    goes_with r w (ap tested (sym now)) told (on_ok_weaker r (λ h. keeps_time (h ∙ ap Some now)) kept)
+    goes_with r w (ap tested (sym now)) told (on_ok_weaker r (λ h. remembers_time (h ∙ ap Some now)) kept)
 
 pub area_goes_on : {A : Type 0} (q : Primitive) (scope : Scope) (d : ℕ) (x : Data) (L : Life) (b c : Sum) (w : Data) (r : Result A EvalFault)
     → ((L : Life) → Sums b L → Evaluates (gift r w) (tested (area (step d x ∷ L)))) → ((L : Life) → Sums b L → OnOk r (Sums c (step d x ∷ L))) → Remembers (Area b) q scope L → GoesOn q scope (step d x) L (Area c) (gift r w)
-area_goes_on q scope d x L b c w r told kept (keeps_area is) = goes_with r w refl (told L is) (on_ok_weaker r keeps_area (kept L is))
+area_goes_on q scope d x L b c w r told kept (remembers_area is) = goes_with r w refl (told L is) (on_ok_weaker r remembers_area (kept L is))
 
 -- of an equal time it keeps the same
 pub timed_as : (sc : Scope) (i : PrimState) (k : Timing) (e : Expression) {y z : ℤ} → y ≡ z → Remembers i (timed k y e) sc [] → Remembers i (timed k z e) sc []
@@ -142,13 +142,13 @@ timed_as sc i k e is h = subst (λ (z : ℤ). Remembers i (timed k z e) sc []) i
 
 -- copies of what has a time keep the same
 pub timer_follows : (t u : Box Timer Global) → ((q : ℤ) (v : Data) (L : Life) → RunsDown t.value q v L → RunsDown u.value q v L) → (q : Primitive) (scope : Scope) (L : Life) → Remembers (Timed t) q scope L → Remembers (Timed u) q scope L
-timer_follows t u same q scope L (keeps_timer h is) = keeps_timer h (same _ _ L is)
+timer_follows t u same q scope L (remembers_timer h is) = remembers_timer h (same _ _ L is)
 
 pub ticker_follows : (t u : Box Ticker Global) → ((q : ℤ) (v : Data) (L : Life) → TicksOn t.value q v L → TicksOn u.value q v L) → (q : Primitive) (scope : Scope) (L : Life) → Remembers (Ticked t) q scope L → Remembers (Ticked u) q scope L
-ticker_follows t u same q scope L (keeps_ticker h is) = keeps_ticker h (same _ _ L is)
+ticker_follows t u same q scope L (remembers_ticker h is) = remembers_ticker h (same _ _ L is)
 
 pub line_follows : (l m : Box Line Global) → ((q : ℤ) (v : Data) (L : Life) → Delays l.value q v L → Delays m.value q v L) → (q : Primitive) (scope : Scope) (L : Life) → Remembers (Delayed l) q scope L → Remembers (Delayed m) q scope L
-line_follows l m same q scope L (keeps_line h is) = keeps_line h (same _ _ L is)
+line_follows l m same q scope L (remembers_line h is) = remembers_line h (same _ _ L is)
 
 timed_goes_on : {A : Type 0} (k : Timing) (m : ℤ) (e : Expression) (v : Data) (scope : Scope) (s : Step) (L : Life) (i : PrimState) (w : Data) (r : Result A EvalFault)
     → eval e scope ≡ answer v → Evaluates (gift r w) (answer (timed_formula k m v s L)) → OnOk r (Remembers i (timed k m e) scope (s ∷ L)) → GoesOn (timed k m e) scope s L i (gift r w)
@@ -157,17 +157,17 @@ timed_goes_on k m e v scope s L i w r h told kept = goes_with r w (ap (λ r. r >
 pub timer_goes_on : {A : Type 0} (q : Primitive) (scope : Scope) (s : Step) (L : Life) (t u : Box Timer Global) (w : Data) (r : Result A EvalFault)
     → ((m : ℤ) (v : Data) (L : Life) → RunsDown t.value m v L → Evaluates (gift r w) (answer (timed_formula After m v s L))) → ((m : ℤ) (v : Data) (L : Life) → RunsDown t.value m v L → OnOk r (RunsDown u.value m v (s ∷ L)))
     → Remembers (Timed t) q scope L → GoesOn q scope s L (Timed u) (gift r w)
-timer_goes_on q scope s L t u w r told kept (keeps_timer {q = m} {e = e} {v = v} h is) = timed_goes_on After m e v scope s L (Timed u) w r h (told m v L is) (on_ok_weaker r (keeps_timer h) (kept m v L is))
+timer_goes_on q scope s L t u w r told kept (remembers_timer {q = m} {e = e} {v = v} h is) = timed_goes_on After m e v scope s L (Timed u) w r h (told m v L is) (on_ok_weaker r (remembers_timer h) (kept m v L is))
 
 pub ticker_goes_on : {A : Type 0} (q : Primitive) (scope : Scope) (s : Step) (L : Life) (t u : Box Ticker Global) (w : Data) (r : Result A EvalFault)
     → ((m : ℤ) (v : Data) (L : Life) → TicksOn t.value m v L → Evaluates (gift r w) (answer (timed_formula Repeatedly m v s L))) → ((m : ℤ) (v : Data) (L : Life) → TicksOn t.value m v L → OnOk r (TicksOn u.value m v (s ∷ L)))
     → Remembers (Ticked t) q scope L → GoesOn q scope s L (Ticked u) (gift r w)
-ticker_goes_on q scope s L t u w r told kept (keeps_ticker {q = m} {e = e} {v = v} h is) = timed_goes_on Repeatedly m e v scope s L (Ticked u) w r h (told m v L is) (on_ok_weaker r (keeps_ticker h) (kept m v L is))
+ticker_goes_on q scope s L t u w r told kept (remembers_ticker {q = m} {e = e} {v = v} h is) = timed_goes_on Repeatedly m e v scope s L (Ticked u) w r h (told m v L is) (on_ok_weaker r (remembers_ticker h) (kept m v L is))
 
 pub line_goes_on : {A : Type 0} (q : Primitive) (scope : Scope) (s : Step) (L : Life) (l k : Box Line Global) (w : Data) (r : Result A EvalFault)
     → ((m : ℤ) (v : Data) (L : Life) → Delays l.value m v L → Evaluates (gift r w) (answer (timed_formula Delay m v s L))) → ((m : ℤ) (v : Data) (L : Life) → Delays l.value m v L → OnOk r (Delays k.value m v (s ∷ L)))
     → Remembers (Delayed l) q scope L → GoesOn q scope s L (Delayed k) (gift r w)
-line_goes_on q scope s L l k w r told kept (keeps_line {q = m} {e = e} {v = v} h is) = timed_goes_on Delay m e v scope s L (Delayed k) w r h (told m v L is) (on_ok_weaker r (keeps_line h) (kept m v L is))
+line_goes_on q scope s L l k w r told kept (remembers_line {q = m} {e = e} {v = v} h is) = timed_goes_on Delay m e v scope s L (Delayed k) w r h (told m v L is) (on_ok_weaker r (remembers_line h) (kept m v L is))
 
 -- whether no event of a number is left
 zero_le : (n : ℕ) → nat_eq n 0 ≡ nat_le n 0
@@ -199,7 +199,7 @@ all_left : (n : ℕ) → n ≡ n - 0
 all_left n = omega arith
 
 pub selected_keeps : (sc : Scope) (k : Selection) (n z : ℤ) (left : ℕ) → left ≡ span z → z ≡ n → Remembers (Selected k left) (selected k n) sc []
-selected_keeps sc k n z left is same = keeps_left (is ∙ ap span same ∙ all_left (span n))
+selected_keeps sc k n z left is same = remembers_left (is ∙ ap span same ∙ all_left (span n))
 
 selected_next : (d : ℕ) (x : Data) (L : Life) (k : Selection) (n : ℤ) (left after : ℕ) (w : Data) → w ≡ passed_on k left x → after ≡ left_after (occurring x) left → left ≡ span n - occurrences L
     → (selected_formula k n (step d x) L ≡ w) × (after ≡ span n - occurrences (step d x ∷ L))
@@ -208,20 +208,20 @@ selected_next d x L k n left after w told kept is =
 
 pub selected_goes_on : (q : Primitive) (scope : Scope) (d : ℕ) (x : Data) (L : Life) (k : Selection) (left after : ℕ) (w : Data)
     → w ≡ passed_on k left x → after ≡ left_after (occurring x) left → Remembers (Selected k left) q scope L → GoesOn q scope (step d x) L (Selected k after) (Ok w)
-selected_goes_on q scope d x L k left after w told kept (keeps_left {n = n} is) = let next = selected_next d x L k n left after w told kept is in goes_on (ap answer next.0) (keeps_left next.1)
-selected_goes_on q scope d x L k left after w told kept (keeps_first_left is) = let next = selected_next d x L k (pos 1) left after w told kept is in goes_on (ap answer next.0) (keeps_first_left next.1)
+selected_goes_on q scope d x L k left after w told kept (remembers_left {n = n} is) = let next = selected_next d x L k n left after w told kept is in goes_on (ap answer next.0) (remembers_left next.1)
+selected_goes_on q scope d x L k left after w told kept (remembers_first_left is) = let next = selected_next d x L k (pos 1) left after w told kept is in goes_on (ap answer next.0) (remembers_first_left next.1)
 
 pub edge_goes_on : {A : Type 0} (q : Primitive) (scope : Scope) (d : ℕ) (x : Data) (L : Life) (b c : Bool) (w : Data) (r : Result A EvalFault)
     → Evaluates (gift r w) (answer (event_if (is_high x && b))) → OnOk r (c ≡ is_low x) → Remembers (Edge b) q scope L → GoesOn q scope (step d x) L (Edge c) (gift r w)
-edge_goes_on q scope d x L b c w r told kept (keeps_low is) =
-    goes_with r w (ap (λ b. answer (event_if (is_high x && b))) (sym is)) told (on_ok_weaker r keeps_low kept)
-edge_goes_on q scope d x L b c w r told kept (keeps_first_low {e = e} {v = v} h is) =
-    goes_with r w (value_gives InitialEdge e scope v (step d x) L h ∙ ap (λ b. answer (event_if (is_high x && b))) (sym is)) told (on_ok_weaker r (keeps_first_low h) kept)
+edge_goes_on q scope d x L b c w r told kept (remembers_low is) =
+    goes_with r w (ap (λ b. answer (event_if (is_high x && b))) (sym is)) told (on_ok_weaker r remembers_low kept)
+edge_goes_on q scope d x L b c w r told kept (remembers_first_low {e = e} {v = v} h is) =
+    goes_with r w (value_gives InitialEdge e scope v (step d x) L h ∙ ap (λ b. answer (event_if (is_high x && b))) (sym is)) told (on_ok_weaker r (remembers_first_low h) kept)
 
 pub tagged_goes_on : {A : Type 0} (q : Primitive) (scope : Scope) (d : ℕ) (x : Data) (L : Life) (b c : Bool) (v w : Data) (r : Result A EvalFault)
     → Evaluates (gift r w) (answer (cond (is_high x && b) (event v) no_event)) → OnOk r (c ≡ is_low x) → Remembers (Tagged b v) q scope L → GoesOn q scope (step d x) L (Tagged c v) (gift r w)
-tagged_goes_on q scope d x L b c v w r told kept (keeps_tag {e = e} h is) =
-    goes_with r w (value_gives EdgeTag e scope v (step d x) L h ∙ ap (λ b. answer (cond (is_high x && b) (event v) no_event)) (sym is)) told (on_ok_weaker r (keeps_tag h) kept)
+tagged_goes_on q scope d x L b c v w r told kept (remembers_tag {e = e} h is) =
+    goes_with r w (value_gives EdgeTag e scope v (step d x) L h ∙ ap (λ b. answer (cond (is_high x && b) (event v) no_event)) (sym is)) told (on_ok_weaker r (remembers_tag h) kept)
 
 passed_is : (x : Data) (L : Life) → cond (has_steps L) x no_event ≡ at_first L no_event x
 passed_is x [] = refl
@@ -229,8 +229,8 @@ passed_is x (s ∷ L) = refl
 
 pub not_yet_goes_on : (q : Primitive) (scope : Scope) (d : ℕ) (x : Data) (L : Life) (b c : Bool) (w : Data)
     → w ≡ cond b x no_event → c ≡ true → Remembers (NotYet b) q scope L → GoesOn q scope (step d x) L (NotYet c) (Ok w)
-not_yet_goes_on q scope d x L b c w told kept (keeps_begun is) =
-    goes_on (ap answer (sym (passed_is x L)) ∙ ap (λ b. answer (cond b x no_event)) (sym is) ∙ ap answer (sym told)) (keeps_begun kept)
+not_yet_goes_on q scope d x L b c w told kept (remembers_begun is) =
+    goes_on (ap answer (sym (passed_is x L)) ∙ ap (λ b. answer (cond b x no_event)) (sym is) ∙ ap answer (sym told)) (remembers_begun kept)
 
 one_plus : (n : ℕ) → 1 + n ≡ suc n
 one_plus n = omega arith
@@ -245,23 +245,23 @@ count_is (Some x) n = ap pos (one_plus n)
 
 pub count_goes_on : {A : Type 0} (q : Primitive) (scope : Scope) (d : ℕ) (x : Data) (L : Life) (z y : ℤ) (w : Data) (r : Result A EvalFault)
     → Evaluates (gift r w) (counted_after (occurring x) z) → OnOk r (y ≡ count_after (occurring x) z) → Remembers (Count z) q scope L → GoesOn q scope (step d x) L (Count y) (gift r w)
-count_goes_on q scope d x L z y w r told kept (keeps_count is) =
-    goes_with r w (sym (ap (counted_after (occurring x)) is ∙ counted_is (occurring x) (occurrences L))) told (on_ok_weaker r (λ h. keeps_count (h ∙ ap (count_after (occurring x)) is ∙ count_is (occurring x) (occurrences L))) kept)
+count_goes_on q scope d x L z y w r told kept (remembers_count is) =
+    goes_with r w (sym (ap (counted_after (occurring x)) is ∙ counted_is (occurring x) (occurrences L))) told (on_ok_weaker r (λ h. remembers_count (h ∙ ap (count_after (occurring x)) is ∙ count_is (occurring x) (occurrences L))) kept)
 
 pub now_goes_on : {A : Type 0} (q : Primitive) (scope : Scope) (s : Step) (L : Life) (v w : Data) (r : Result A EvalFault)
     → Evaluates (gift r w) (answer (event v)) → Remembers (Now v) q scope L → GoesOn q scope s L Never (gift r w)
-now_goes_on q scope s L v w r told (keeps_first {e = e} h) = goes_with r w (value_gives VNow e scope v s [] h) told (always r (keeps_passed h))
+now_goes_on q scope s L v w r told (remembers_first {e = e} h) = goes_with r w (value_gives VNow e scope v s [] h) told (always r (remembers_passed h))
 
 pub hold_goes_on : {A : Type 0} (q : Primitive) (scope : Scope) (d : ℕ) (x : Data) (L : Life) (v u w : Data) (r : Result A EvalFault)
     → Evaluates (gift r w) (answer (payload_or (occurring x) v)) → OnOk r (u ≡ payload_or (occurring x) v) → Remembers (Hold v) q scope L → GoesOn q scope (step d x) L (Hold u) (gift r w)
-hold_goes_on q scope d x L v u w r told kept (keeps_last {e = e} {v = given} h is) =
+hold_goes_on q scope d x L v u w r told kept (remembers_last {e = e} {v = given} h is) =
     let now : payload_or (occurring x) v ≡ last_payload given (step d x ∷ L) = ap (payload_or (occurring x)) is in
-    goes_with r w (value_gives VHold e scope given (step d x) L h ∙ ap answer (sym now)) told (on_ok_weaker r (λ k. keeps_last h (k ∙ now)) kept)
+    goes_with r w (value_gives VHold e scope given (step d x) L h ∙ ap answer (sym now)) told (on_ok_weaker r (λ k. remembers_last h (k ∙ now)) kept)
 
 pub hold_before_goes_on : {A : Type 0} (q : Primitive) (scope : Scope) (d : ℕ) (x : Data) (L : Life) (v u w : Data) (r : Result A EvalFault)
     → Evaluates (gift r w) (answer v) → OnOk r (u ≡ payload_or (occurring x) v) → Remembers (DelayedHold v) q scope L → GoesOn q scope (step d x) L (DelayedHold u) (gift r w)
-hold_before_goes_on q scope d x L v u w r told kept (keeps_last_before {e = e} {v = given} h is) =
-    goes_with r w (value_gives VDelayedHold e scope given (step d x) L h ∙ ap answer (sym is)) told (on_ok_weaker r (λ k. keeps_last_before h (k ∙ ap (payload_or (occurring x)) is)) kept)
+hold_before_goes_on q scope d x L v u w r told kept (remembers_last_before {e = e} {v = given} h is) =
+    goes_with r w (value_gives VDelayedHold e scope given (step d x) L h ∙ ap answer (sym is)) told (on_ok_weaker r (λ k. remembers_last_before h (k ∙ ap (payload_or (occurring x)) is)) kept)
 
 -- an answer that is answered again
 as_it_is : (worth : Evaluated Data) → (worth >>= λ u. answer u) ≡ worth
@@ -290,18 +290,18 @@ accumulation_carries AccumHoldBy f v w u sc d x L h g = ap (λ r. r >>= λ w. ne
 accumulation_carries Scan f v w u sc d x L h g = ap (λ r. r >>= λ w. apply f (pair w x) sc) h ∙ sym (as_it_is (apply f (pair w x) sc)) ∙ g
 
 pub accumulated_goes_on : {A : Type 0} (φ : AnswersByName) (d : ℕ) (x : Data) (a b : Box Accumulator Global) (w : Data) (r : Result A EvalFault)
-    → ((s : Scope) → functions_in s ≡ φ → (f : Function) → IsClosureOf s f a.value.closure → Evaluates (gift r w) (shown_after a.value.form f s a.value.value x))
-    → ((s : Scope) → functions_in s ≡ φ → (f : Function) → IsClosureOf s f a.value.closure → OnOk r (carried_after a.value.form f s a.value.value x ≡ answer b.value.value))
+    → ((s : Scope) → scope_functions s ≡ φ → (f : Function) → IsClosureOf s f a.value.closure → Evaluates (gift r w) (shown_after a.value.form f s a.value.value x))
+    → ((s : Scope) → scope_functions s ≡ φ → (f : Function) → IsClosureOf s f a.value.closure → OnOk r (carried_after a.value.form f s a.value.value x ≡ answer b.value.value))
     → OnOk r ((b.value.form ≡ a.value.form) × (b.value.closure ≡ a.value.closure))
-    → (q : Primitive) (scope : Scope) (L : Life) → functions_in scope ≡ φ → Remembers (Accumulated a) q scope L → GoesOn q scope (step d x) L (Accumulated b) (gift r w)
-accumulated_goes_on φ d x a b w r shows carries same q scope L is (keeps_accumulation {e = e} {f = f} {v = v} h code k) =
+    → (q : Primitive) (scope : Scope) (L : Life) → scope_functions scope ≡ φ → Remembers (Accumulated a) q scope L → GoesOn q scope (step d x) L (Accumulated b) (gift r w)
+accumulated_goes_on φ d x a b w r shows carries same q scope L is (remembers_accumulation {e = e} {f = f} {v = v} h code k) =
     goes_with r w (ap (λ o. o >>= λ v. accumulated_formula a.value.form f scope v (step d x) L) h ∙ accumulation_gives a.value.form f v a.value.value scope d x L k) (shows scope is f code) (keeps r (carries scope is f code) same)
   where
     goes_so : b.value.form ≡ a.value.form → b.value.closure ≡ a.value.closure → carried_after a.value.form f scope a.value.value x ≡ answer b.value.value → Remembers (Accumulated b) (accumulated a.value.form e f) scope (step d x ∷ L)
     goes_so form code_same n =
         let after : carried a.value.form f scope v (step d x ∷ L) ≡ answer b.value.value = accumulation_carries a.value.form f v a.value.value b.value.value scope d x L k n in
         subst (λ m. Remembers (Accumulated b) (accumulated m e f) scope (step d x ∷ L)) form
-        (keeps_accumulation h (rw code_same code) (ap (λ m. carried m f scope v (step d x ∷ L)) form ∙ after))
+        (remembers_accumulation h (rw code_same code) (ap (λ m. carried m f scope v (step d x ∷ L)) form ∙ after))
 
     keeps : {A : Type 0} (r : Result A EvalFault) → OnOk r (carried_after a.value.form f scope a.value.value x ≡ answer b.value.value) → OnOk r ((b.value.form ≡ a.value.form) × (b.value.closure ≡ a.value.closure)) → OnOk r (Remembers (Accumulated b) (accumulated a.value.form e f) scope (step d x ∷ L))
     keeps (Ok y) n m = goes_so m.0 m.1 n
@@ -309,8 +309,8 @@ accumulated_goes_on φ d x a b w r shows carries same q scope L is (keeps_accumu
 
 -- a copy of an accumulation keeps the same
 pub accumulated_follows : (a b : Box Accumulator Global) → b.value.form ≡ a.value.form → ((s : Scope) (f : Function) → IsClosureOf s f a.value.closure → IsClosureOf s f b.value.closure) → b.value.value ≡ a.value.value → (q : Primitive) (scope : Scope) (L : Life) → Remembers (Accumulated a) q scope L → Remembers (Accumulated b) q scope L
-accumulated_follows a b form code value q scope L (keeps_accumulation {e = e} {f = f} {v = v} h c k) =
-    subst (λ m. Remembers (Accumulated b) (accumulated m e f) scope L) form (keeps_accumulation h (code scope f c) (ap (λ m. carried m f scope v L) form ∙ k ∙ ap answer (sym value)))
+accumulated_follows a b form code value q scope L (remembers_accumulation {e = e} {f = f} {v = v} h c k) =
+    subst (λ m. Remembers (Accumulated b) (accumulated m e f) scope L) form (remembers_accumulation h (code scope f c) (ap (λ m. carried m f scope v L) form ∙ k ∙ ap answer (sym value)))
 
 -- before its first sample it keeps its value
 carried_at_first : (k : Accumulation) (f : Function) (sc : Scope) (v : Data) → carried k f sc v [] ≡ answer v
@@ -320,7 +320,7 @@ carried_at_first AccumHoldBy f sc v = refl
 carried_at_first Scan f sc v = refl
 
 pub accumulated_keeps : (sc : Scope) (e : Expression) (f : Function) (a : Box Accumulator Global) → IsClosureOf sc f a.value.closure → eval e sc ≡ answer a.value.value → Remembers (Accumulated a) (accumulated a.value.form e f) sc []
-accumulated_keeps sc e f a code h = keeps_accumulation h code (carried_at_first a.value.form f sc a.value.value)
+accumulated_keeps sc e f a code h = remembers_accumulation h code (carried_at_first a.value.form f sc a.value.value)
 
 -- of these parts
 pub accumulated_made : (sc : Scope) (e : Expression) (f : Function) (b : Box Accumulator Global) (a : Accumulator) → b.value ≡ a → IsClosureOf sc f a.closure → eval e sc ≡ answer a.value → Remembers (Accumulated b) (accumulated a.form e f) sc []
@@ -334,7 +334,7 @@ accumulated_fails sc k e g f r h w =
 
 -- the same code shared keeps the same
 pub arrow_follows : (c d : Rc OpenCode Global) → d.value ≡ c.value → (q : Primitive) (scope : Scope) (L : Life) → Remembers (Arrow c) q scope L → Remembers (Arrow d) q scope L
-arrow_follows c d e q scope L (keeps_function K) = keeps_function (rw e K)
+arrow_follows c d e q scope L (remembers_function K) = remembers_function (rw e K)
 
 pub closed_follows : (c d : Rc Closure Global) → d.value ≡ c.value → (q : Primitive) (scope : Scope) (L : Life) → Remembers (Closed c) q scope L → Remembers (Closed d) q scope L
-closed_follows c d e q scope L (keeps_closure K) = keeps_closure (rw e K)
+closed_follows c d e q scope L (remembers_closure K) = remembers_closure (rw e K)

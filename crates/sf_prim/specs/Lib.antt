@@ -1,2 +1,2 @@
 pub mod Links
-pub mod Keeping
+pub mod Remembering

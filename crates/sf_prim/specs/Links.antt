@@ -2,13 +2,13 @@
 use Rattle.std.specs.Prelude.{◌≡◌, ℤ, List, [], ◌∷◌, map, Option, Some, None, option_to_list}
 use Rattle.sf_value.specs.Values.{Data, number, pair}
 use Rattle.sf_func.specs.Registries.{AnswersByName}
-use Rattle.sf_expr.specs.Evaluation.{Evaluated, Scope, functions_in, answer, ◌>>=◌}
+use Rattle.sf_expr.specs.Evaluation.{Evaluated, Scope, scope_functions, answer, ◌>>=◌}
 use Rattle.sf_code.specs.declared.open.Closure.{Closure}
 use Rattle.sf_code.specs.CodeView.{code_of}
 use Rattle.sf_code.specs.Running.{run}
 use Rattle.sf_term.specs.declared.form.Side.{Side}
 use Rattle.sf_term.specs.Trees.{Chain}
-use Rattle.sf_mean.specs.Formulas.{side_of, with_side, apply_chain}
+use Rattle.sf_mean.specs.Formulas.{side_of, side_replaced, apply_chain}
 use Rattle.sf_prim.specs.declared.chain.Link.{Link, fold-Link}
 use Rattle.sf_prim.specs.declared.chain.Link.TheOpen.{Link-F}
 
@@ -23,7 +23,7 @@ in_turn (w ∷ ws) φ x = w φ x >>= λ y. in_turn ws φ y
 
 -- the pair of a value with what is made of its part on a side in that part's place
 abbrev pub on_part : Side → Worker → Worker
-on_part d w φ x = w φ (side_of d x) >>= λ y. answer (with_side d x y)
+on_part d w φ x = w φ (side_of d x) >>= λ y. answer (side_replaced d x y)
 
 -- what a function makes of a value
 abbrev pub closure_worth : Closure → Worker
@@ -51,15 +51,15 @@ Work = Data → Scope → Evaluated Data
 
 -- A link makes this of each value in a scope.
 pub record IsLinkOf (s : Scope) (w : Work) (l : Link) : Type 0 where
-  pub worth : (x : Data) → link_worth l (functions_in s) x ≡ w x s
+  pub worth : (x : Data) → link_worth l (scope_functions s) x ≡ w x s
 
 -- Links make of each value in a scope what functions made into one answer.
 pub record AreLinksOf (s : Scope) (f : Chain) (ls : List Link) : Type 0 where
-  pub worth : (x : Data) → links_worth ls (functions_in s) x ≡ apply_chain f x s
+  pub worth : (x : Data) → links_worth ls (scope_functions s) x ≡ apply_chain f x s
 
 -- Links make of each value in a scope what others do, and then this.
 pub record AddsLinks (s : Scope) (w : Work) (ls more : List Link) : Type 0 where
-  pub worth : (x : Data) → links_worth more (functions_in s) x ≡ links_worth ls (functions_in s) x >>= λ y. w y s
+  pub worth : (x : Data) → links_worth more (scope_functions s) x ≡ links_worth ls (scope_functions s) x >>= λ y. w y s
 
 -- a number, and where there is none a value
 abbrev pub held : Option ℤ → Data → Data

@@ -3,11 +3,12 @@ ghost use Rattle.std.specs.Prelude.{◌≡◌, Option, is_some, IfOk, OnOk};
 ghost use Rattle.sf_value.specs.Values.{Data};
 ghost use Rattle.sf_operator.specs.Answers.{Evaluates};
 ghost use Rattle.sf_expr.specs.Expressions.{Function};
-ghost use Rattle.sf_expr.specs.Evaluation.{Scope, functions_in, answer};
+ghost use Rattle.sf_expr.specs.Evaluation.{Scope, scope_functions, answer};
 ghost use Rattle.sf_code.specs.Worth.{IsClosureOf};
 ghost use Rattle.sf_mean.specs.Formulas.{next_value};
 ghost use Rattle.sf_delay.specs.Gifts.{gift};
-ghost use Rattle.sf_prim.specs.Keeping.{coming as what_comes, displayed as what_is_shown, retained as what_is_kept, shown_after, carried_after};
+ghost use Rattle.sf_prim.specs.Remembering.{shown_after, carried_after, displayed, retained};
+ghost use Rattle.sf_prim.specs.Remembering;
 
 use crate::events::occurs;
 use sf_code::{Closure, apply};
@@ -48,7 +49,7 @@ impl Accumulator {
 
 /// What the function of an accumulation takes of an input: the payload of an event that occurs, or the input.
 fn coming(alloc: Global, form: Accumulation, value: &Value) -> Result<Option<Value>, AllocError>
-    ensures { IfOk result (λ o. o ≡ what_comes form value.now) }
+    ensures { IfOk result (λ o. o ≡ Remembering.coming form value.now) }
 {
     match form {
         Accumulation::AccumBy | Accumulation::AccumHoldBy => match occurs(value) {
@@ -66,7 +67,7 @@ fn make<R: Holds>(
     functions: &R,
     came: Option<Value>,
 ) -> Result<Value, EvalFault>
-    ensures { (s : Scope) → functions_in s ≡ R.answers functions.now → (f : Function) → IsClosureOf s f accumulator.now.closure →
+    ensures { (s : Scope) → scope_functions s ≡ R.answers functions.now → (f : Function) → IsClosureOf s f accumulator.now.closure →
         Evaluates result (next_value f s accumulator.now.value came) }
 {
     let kept = accumulator.value.clone_in(alloc)?;
@@ -88,7 +89,7 @@ fn make<R: Holds>(
 
 /// What an accumulation gives of what its function made, by whether something came.
 fn shown(alloc: Global, form: Accumulation, comes: bool, made: &Value) -> Result<Value, AllocError>
-    ensures { (o : Option Data) → is_some o ≡ comes → IfOk result (λ v. v ≡ what_is_shown form o made.now) }
+    ensures { (o : Option Data) → is_some o ≡ comes → IfOk result (λ v. v ≡ displayed form o made.now) }
 {
     match form {
         Accumulation::AccumBy if comes => Value::event(alloc, made.clone_in(alloc)?),
@@ -101,7 +102,7 @@ fn shown(alloc: Global, form: Accumulation, comes: bool, made: &Value) -> Result
 
 /// What an accumulation keeps for the next input: this one, or what its function made.
 fn retain(form: Accumulation, input: Value, made: Value) -> Value
-    ensures { result ≡ what_is_kept form input made }
+    ensures { result ≡ retained form input made }
 {
     match form {
         Accumulation::EdgeBy => input,
@@ -118,9 +119,9 @@ pub(crate) fn accumulate<R: Holds>(
     functions: &R,
     value: &mut Value,
 ) -> Result<(), EvalFault>
-    ensures shows { (s : Scope) → functions_in s ≡ R.answers functions.now → (f : Function) → IsClosureOf s f accumulator.old.closure →
+    ensures shows { (s : Scope) → scope_functions s ≡ R.answers functions.now → (f : Function) → IsClosureOf s f accumulator.old.closure →
         Evaluates (gift result value.new) (shown_after accumulator.old.form f s accumulator.old.value value.old) }
-    ensures carries { (s : Scope) → functions_in s ≡ R.answers functions.now → (f : Function) → IsClosureOf s f accumulator.old.closure →
+    ensures carries { (s : Scope) → scope_functions s ≡ R.answers functions.now → (f : Function) → IsClosureOf s f accumulator.old.closure →
         OnOk result (carried_after accumulator.old.form f s accumulator.old.value value.old ≡ answer accumulator.new.value) }
     ensures same { OnOk result ((accumulator.new.form ≡ accumulator.old.form) × (accumulator.new.closure ≡ accumulator.old.closure)) }
 {

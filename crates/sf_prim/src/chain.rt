@@ -3,7 +3,7 @@ ghost use Rattle.std.specs.Prelude.{◌≡◌, true, false, IfOk, OnOk, option_t
 ghost use Rattle.sf_func.specs.Registries.{AnswersByName};
 ghost use Rattle.sf_expr.specs.Expressions.{Function};
 ghost use Rattle.sf_expr.specs.Evaluation.{Scope, apply};
-ghost use Rattle.sf_code.specs.Arithmetic.{is_arithmetic as is_by_arithmetic};
+ghost use Rattle.sf_code.specs.Arithmetic;
 ghost use Rattle.sf_code.specs.CodeView.{code_of};
 ghost use Rattle.sf_code.specs.declared.arithmetic.Calculation.{Calculation};
 ghost use Rattle.sf_code.specs.Names.{scope_with};
@@ -109,8 +109,8 @@ fn add_on_side<N: Names>(
 // A function as a link: arithmetic alone hands its number on, and what has no name around it is run by its code alone.
 fn function_link(closure: Closure) -> Link
     ensures made { (s : Scope) (f : Function) → IsClosureOf s f closure → IsLinkOf s (apply f) result }
-    ensures number { is_by_arithmetic (option_to_list closure.around) (code_of closure.function.value.code) ≡ true → (k : Calculation) × (result ≡ Link.Number k) }
-    ensures bare { is_by_arithmetic (option_to_list closure.around) (code_of closure.function.value.code) ≡ false → closure.around ≡ None → result ≡ Link.Function closure.function }
+    ensures number { Arithmetic.is_arithmetic (option_to_list closure.around) (code_of closure.function.value.code) ≡ true → (k : Calculation) × (result ≡ Link.Number k) }
+    ensures bare { Arithmetic.is_arithmetic (option_to_list closure.around) (code_of closure.function.value.code) ≡ false → closure.around ≡ None → result ≡ Link.Function closure.function }
 {
     if is_arithmetic(&closure.function.code, &closure.around) {
         return Link::Number(Calculation { closure });

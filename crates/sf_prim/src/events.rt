@@ -7,7 +7,7 @@ ghost use Rattle.sf_operator.specs.Operations.{payload_or};
 ghost use Rattle.sf_operator.specs.Answers.{Computes, Evaluates};
 ghost use Rattle.sf_mean.specs.Formulas.{is_high, is_low, event_if, occurring};
 ghost use Rattle.sf_delay.specs.Gifts.{gift};
-ghost use Rattle.sf_prim.specs.Keeping.{counted_after, count_after, passed_on, left_after};
+ghost use Rattle.sf_prim.specs.Remembering.{counted_after, count_after, passed_on, left_after};
 
 use sf_operator::{EvalFault, is_true, narrow, payload_in};
 use sf_term::Selection;

@@ -2,9 +2,9 @@
 ghost use Rattle.std.specs.Prelude.{◌≡◌, [], OnOk, IfOk, IfErr};
 ghost use Rattle.sf_func.specs.Registries.{AnswersByName};
 ghost use Rattle.sf_expr.specs.Expressions.{Expression, Function};
-ghost use Rattle.sf_expr.specs.Evaluation.{Scope, functions_in, apply as applied};
+ghost use Rattle.sf_expr.specs.Evaluation.{Scope, scope_functions, apply};
 ghost use Rattle.sf_code.specs.Names.{scope_with};
-ghost use Rattle.sf_code.specs.Worth.{IsCodeOfFunction, IsCodeOfFunctionIn};
+ghost use Rattle.sf_code.specs.Worth.{IsCodeOfFunction, AnswersAsFunction};
 ghost use Rattle.sf_operator.specs.Answers.{Evaluates};
 ghost use Rattle.sf_operator.specs.declared.fault.EvalFault.TheVariants.{Memory};
 ghost use Rattle.sf_delay.specs.Gifts.{gift};
@@ -109,11 +109,12 @@ impl PrimState {
     ghost use Rattle.std.specs.declared.rc.Rc.{Rc};
     ghost use Rattle.std.specs.declared.alloc.Global.{Global};
     ghost use Rattle.sf_code.specs.declared.open.OpenCode.{OpenCode};
-    ghost use Rattle.sf_expr.specs.Evaluation.{answer, eval as worth};
-    ghost use Rattle.sf_term.specs.Trees.{Primitive as Form, bare as bare_form, with_value as form_with_value, timed as timed_form, arrow as arrow_form};
+    ghost use Rattle.sf_expr.specs.Evaluation.{answer, eval};
+    ghost use Rattle.sf_term.specs.Trees.{Primitive};
+    ghost use Rattle.sf_term.specs.Trees;
     ghost use Rattle.sf_law.specs.Entries.{primitive_over, IsCodedPrimitive};
     ghost use Rattle.sf_mean.specs.Lives.{step, Life};
-    ghost use Rattle.sf_prim.specs.Keeping.{Remembers, Begins, GoesOn};
+    ghost use Rattle.sf_prim.specs.Remembering.{Remembers, Begins, GoesOn};
 
     /// A primitive before its first sample, with these names around it. Its constant is evaluated here; the error is the
     /// first fault of that, or `Memory`.
@@ -162,7 +163,7 @@ impl PrimState {
         code: &Rc<OpenCode>,
         names: &N,
     ) -> Result<PrimState, AllocError>
-        ensures kept { IfOk result (λ prim. (φ : AnswersByName) (f : Function) → IsCodeOfFunction (N.expressions names.now) f code.now.value → Remembers prim (arrow_form f) (scope_with (N.values names.now) φ) []) }
+        ensures kept { IfOk result (λ prim. (φ : AnswersByName) (f : Function) → IsCodeOfFunction (N.expressions names.now) f code.now.value → Remembers prim (Trees.arrow f) (scope_with (N.values names.now) φ) []) }
         ensures bare { code.now.value.around ≡ None → IfOk result (λ prim. (own : Rc OpenCode Global) × (prim ≡ PrimState.Arrow own)) }
     {
         let closure = Closure::new(alloc, code, names)?;
@@ -174,7 +175,7 @@ impl PrimState {
 
     // A primitive without constants, before its first sample.
     fn bare(form: Bare) -> PrimState
-        ensures { (s : Scope) → Remembers result (bare_form form) s [] }
+        ensures { (s : Scope) → Remembers result (Trees.bare form) s [] }
     {
         match form {
             Bare::Identity => PrimState::Identity,
@@ -191,7 +192,7 @@ impl PrimState {
 
     // A primitive with its value, before its first sample.
     fn with_value(form: WithValue, value: Value) -> PrimState
-        ensures { (s : Scope) (e : Expression) → worth e s ≡ answer value → Remembers result (form_with_value form e) s [] }
+        ensures { (s : Scope) (e : Expression) → eval e s ≡ answer value → Remembers result (Trees.with_value form e) s [] }
     {
         match form {
             WithValue::Constant => PrimState::Constant(value),
@@ -208,7 +209,7 @@ impl PrimState {
 
     // A primitive with a time and its value, before its first sample.
     fn timed(alloc: Global, form: Timing, time: i64, value: Value) -> Result<PrimState, AllocError>
-        ensures { IfOk result (λ prim. (s : Scope) (e : Expression) → worth e s ≡ answer value → Remembers prim (timed_form form time e) s []) }
+        ensures { IfOk result (λ prim. (s : Scope) (e : Expression) → eval e s ≡ answer value → Remembers prim (Trees.timed form time e) s []) }
     {
         match form {
             Timing::After => {
@@ -237,7 +238,7 @@ impl PrimState {
         dt: u64,
         value: &mut Value,
     ) -> Result<(), EvalFault>
-        ensures { (q : Form) (scope : Scope) (L : Life) → functions_in scope ≡ R.answers functions.now →
+        ensures { (q : Primitive) (scope : Scope) (L : Life) → scope_functions scope ≡ R.answers functions.now →
             Remembers self.old q scope L → GoesOn q scope (step dt value.old) L self.new (gift result value.new) }
     {
         match self {
@@ -290,7 +291,7 @@ impl PrimState {
     /// many owners of the code.
     #[inline(always)]
     pub fn clone_in(&self, alloc: Global) -> Result<PrimState, AllocError>
-        ensures { IfOk result (λ copy. (q : Form) (scope : Scope) (L : Life) →
+        ensures { IfOk result (λ copy. (q : Primitive) (scope : Scope) (L : Life) →
             Remembers self.now q scope L → Remembers copy q scope L) }
     {
         match self {
@@ -303,7 +304,7 @@ impl PrimState {
     // The same of any form.
     #[inline(never)]
     fn clone_form(&self, alloc: Global) -> Result<PrimState, AllocError>
-        ensures { IfOk result (λ copy. (q : Form) (scope : Scope) (L : Life) →
+        ensures { IfOk result (λ copy. (q : Primitive) (scope : Scope) (L : Life) →
             Remembers self.now q scope L → Remembers copy q scope L) }
     {
         match self {
@@ -376,8 +377,8 @@ fn replace<R: Holds>(
     functions: &R,
     value: &mut Value,
 ) -> Result<(), EvalFault>
-    ensures { (s : Scope) → functions_in s ≡ R.answers functions.now → (f : Function) → IsCodeOfFunctionIn s f [] code.now.code →
-        Evaluates (gift result value.new) (applied f value.old s) }
+    ensures { (s : Scope) → scope_functions s ≡ R.answers functions.now → (f : Function) → AnswersAsFunction s f [] code.now.code →
+        Evaluates (gift result value.new) (apply f value.old s) }
 {
     apply_in_place(alloc, &code.code, &None, functions, value)
 }

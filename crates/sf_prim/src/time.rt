@@ -3,7 +3,7 @@ ghost use Rattle.std.specs.Prelude.{◌≡◌, ◌+ℤ◌, pos, Some, OnOk};
 ghost use Rattle.sf_operator.specs.Outcomes.{tested};
 ghost use Rattle.sf_operator.specs.Answers.{Computes, Evaluates};
 ghost use Rattle.sf_delay.specs.Gifts.{gift};
-ghost use Rattle.sf_prim.specs.Keeping.{time_after};
+ghost use Rattle.sf_prim.specs.Remembering.{time_after};
 
 use sf_operator::{EvalFault, narrow};
 use sf_value::{Value, ValueFault};

@@ -4,8 +4,8 @@ use Rattle.std.specs.List.{All}
 use Rattle.std.proofs.lemmas.List.Elements.{All-nil, All-cons, All-head, All-tail}
 use Rattle.sf_value.specs.Values.{Name, KeyKind, int_keys, text_keys, Kind, unit_kind, bool_kind, int_kind, text_kind, pair_kind, event_kind, table_kind}
 use Rattle.sf_expr.specs.Expressions.{Literal, unit_literal, truth_literal, int_literal, text_literal, none_literal, Expression, variable, literal, paired, applied, operation, conditional, mapped, folded, called, Function, function}
-use Rattle.sf_term.specs.Parameters.{NameKind, value as value_kind, process as process_kind, collection as collection_kind}
-use Rattle.sf_term.specs.Trees.{Primitive, bare, probe, never, with_value, timed, selected, arrow, accumulated, fused, Term, primitive, reference, joined, sided, headed, transformed, switching, keeping, gathered, releasing, editing, staged, Collection, without_members, used, added, dropped, kept, chosen, Reference, started, call, Arguments, no_arguments, value_argument, process_argument, collection_argument, closed_argument, Template, Templates}
+use Rattle.sf_term.specs.Parameters.{NameKind, value, process, collection}
+use Rattle.sf_term.specs.Trees.{Primitive, bare, probe, never, with_value, timed, selected, arrow, accumulated, fused, Term, primitive, reference, joined, sided, headed, transformed, switching, continuing, gathered, releasing, editing, staged, Collection, without_members, used, added, dropped, kept, chosen, Reference, started, call, Arguments, no_arguments, value_argument, process_argument, collection_argument, closed_argument, Template, Templates}
 use Rattle.sf_lex.specs.declared.word.Keyword.{Keyword}
 use Rattle.sf_lex.specs.declared.word.Keyword.TheVariants as words
 use Rattle.sf_lex.specs.declared.symbol.Symbol.{Symbol}
@@ -126,7 +126,7 @@ mutual
   term_shorter (headed h e f) = keeps (brackets _ _ _ _ _ (expression_shorter e) (term_shorter f))
   term_shorter (transformed h f) = keeps (brackets _ _ _ _ _ (function_shorter h) (term_shorter f))
   term_shorter (switching w f p g) = keeps (brackets _ _ _ _ _ (term_shorter f) (mapping (spell_pattern p) _ _ (term_shorter g)))
-  term_shorter (keeping w f g k p u) = keeps (brackets _ _ _ _ _ (term_shorter f) (then _ _ _ _ (term_shorter g) (keeps (keeps (keeps (mapping (spell_pattern p) _ _ (term_shorter u)))))))
+  term_shorter (continuing w f g k p u) = keeps (brackets _ _ _ _ _ (term_shorter f) (then _ _ _ _ (term_shorter g) (keeps (keeps (keeps (mapping (spell_pattern p) _ _ (term_shorter u)))))))
   term_shorter (gathered i) = keeps (collection_shorter i)
   term_shorter (releasing w i q k p u) = keeps (brackets _ _ _ _ _ (collection_shorter i) (then _ _ _ _ (term_shorter q) (keeps (keeps (keeps (mapping (spell_pattern p) _ _ (term_shorter u)))))))
   term_shorter (editing w i k p u) = keeps (brackets _ _ _ _ _ (collection_shorter i) (keeps (keeps (mapping (spell_pattern p) _ _ (collection_shorter u)))))
@@ -164,9 +164,9 @@ key_kind_shorter int_keys = leaves (passes none)
 key_kind_shorter text_keys = leaves (passes none)
 
 name_kind_shorter : (k : NameKind) → Shortens (spell_name_kind versions.Two k) (spell_name_kind versions.One k)
-name_kind_shorter (value_kind t) = type_shorter t
-name_kind_shorter (collection_kind k t u) = keeps (then _ _ _ _ (key_kind_shorter k) (then _ _ _ _ (type_shorter t) (keeps (then _ _ _ _ (type_shorter u) (same _)))))
-name_kind_shorter (process_kind t u) = then _ _ _ _ (type_shorter t) (keeps (type_shorter u))
+name_kind_shorter (value t) = type_shorter t
+name_kind_shorter (collection k t u) = keeps (then _ _ _ _ (key_kind_shorter k) (then _ _ _ _ (type_shorter t) (keeps (then _ _ _ _ (type_shorter u) (same _)))))
+name_kind_shorter (process t u) = then _ _ _ _ (type_shorter t) (keeps (type_shorter u))
 
 parameter_shorter : (q : Name × NameKind) → Shortens (spell_parameter versions.Two q) (spell_parameter versions.One q)
 parameter_shorter q = keeps (keeps (name_kind_shorter q.1))

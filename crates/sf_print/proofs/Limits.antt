@@ -6,8 +6,8 @@ use Rattle.sf_value.specs.Values.{Name, KeyKind, int_keys, text_keys, Kind, unit
 use Rattle.sf_expr.specs.Expressions.{Literal, unit_literal, truth_literal, int_literal, text_literal, none_literal, Expression, variable, literal, paired, applied, operation, conditional, mapped, folded, called, Function, function}
 use Rattle.sf_term.specs.declared.form.Start.{Start}
 use Rattle.sf_term.specs.declared.form.Start.TheVariants as starts
-use Rattle.sf_term.specs.Parameters.{NameKind, value as value_kind, process as process_kind, collection as collection_kind}
-use Rattle.sf_term.specs.Trees.{Primitive, bare, probe, never, with_value, timed, selected, arrow, accumulated, fused, Term, primitive, reference, joined, sided, headed, transformed, switching, keeping, gathered, releasing, editing, staged, Collection, without_members, used, added, dropped, kept, chosen, Reference, started, call, Arguments, no_arguments, value_argument, process_argument, collection_argument, closed_argument, Template, Templates}
+use Rattle.sf_term.specs.Parameters.{NameKind, value, process, collection}
+use Rattle.sf_term.specs.Trees.{Primitive, bare, probe, never, with_value, timed, selected, arrow, accumulated, fused, Term, primitive, reference, joined, sided, headed, transformed, switching, continuing, gathered, releasing, editing, staged, Collection, without_members, used, added, dropped, kept, chosen, Reference, started, call, Arguments, no_arguments, value_argument, process_argument, collection_argument, closed_argument, Template, Templates}
 use Rattle.sf_grammar.specs.declared.ty.Version.{Version}
 use Rattle.sf_grammar.specs.declared.ty.Version.TheVariants as versions
 use Rattle.sf_grammar.specs.Spelling.{WritesKeys, WritesType, IsWrittenType, WritesExpression, WritesFunction, WritesStart, WritesTerm, WritesCollection, WritesReference, WritesArguments, WritesNameKind, HasWrittenTypes, IsWithinLimits}
@@ -106,7 +106,7 @@ mutual
       let both = parts w (function_needs_two k) (term_needs_two f) s in (function_moves v w d k h.0 both.0, term_moves v w d f h.1 both.1)
   term_moves v w (suc d) (switching k f p g) h s =
       let both = parts w (term_needs_two f) (term_needs_two g) s in (term_moves v w d f h.0 both.0, term_moves v w d g h.1 both.1)
-  term_moves v w (suc d) (keeping k f g x p u) h s =
+  term_moves v w (suc d) (continuing k f g x p u) h s =
       let one = parts w (term_needs_two f) (term_needs_two g || term_needs_two u) s in
       let two = parts w (term_needs_two g) (term_needs_two u) one.1 in
       (term_moves v w d f h.0 one.0, term_moves v w d g h.1 two.0, term_moves v w d u h.2 two.1)
@@ -152,12 +152,12 @@ mutual
   arguments_move v w d (closed_argument t vs) h s = arguments_move v w d vs h s
 
 name_kind_moves : (v w : Version) (k : NameKind) → WritesNameKind v k → Serves w (name_kind_needs_two k) → WritesNameKind w k
-name_kind_moves v w (value_kind t) h s = written_moves v w 64 t h s
-name_kind_moves v w (collection_kind k t u) h s =
+name_kind_moves v w (value t) h s = written_moves v w 64 t h s
+name_kind_moves v w (collection k t u) h s =
     let one = parts w (are_texts k) (type_needs_two t || type_needs_two u) s in
     let two = parts w (type_needs_two t) (type_needs_two u) one.1 in
     (keys_move v w k h.0 one.0, written_moves v w 64 t h.1 two.0, written_moves v w 64 u h.2 two.1)
-name_kind_moves v w (process_kind t u) h s =
+name_kind_moves v w (process t u) h s =
     let both = parts w (type_needs_two t) (type_needs_two u) s in (written_moves v w 64 t h.0 both.0, written_moves v w 64 u h.1 both.1)
 
 parameters_move : (v w : Version) (qs : List (Name × NameKind)) → All (λ (q : Name × NameKind). WritesNameKind v q.1) qs → Serves w (list_any parameter_needs_two qs) → All (λ (q : Name × NameKind). WritesNameKind w q.1) qs

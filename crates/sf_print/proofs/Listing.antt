@@ -9,7 +9,7 @@ use Rattle.sf_term.specs.declared.node.Argument.TheVariants as arguments
 use Rattle.sf_term.specs.declared.program.Program.{Program}
 use Rattle.sf_term.specs.Headers.{Header}
 use Rattle.sf_term.specs.Parameters.{PlacedParameter, parameters_of, binding_of}
-use Rattle.sf_term.specs.Arena.{arguments_of, template_in}
+use Rattle.sf_term.specs.Arena.{arguments_of, term_template}
 use Rattle.sf_grammar.specs.declared.ty.Version.{Version}
 use Rattle.sf_grammar.specs.Spelling.{spell_listed, spell_further, spell_arguments, spell_parameter, spell_template, spell_templates}
 use Rattle.sf_print.specs.Arguments.{spell_argument}
@@ -87,9 +87,9 @@ template_more f xs i z old here new h a b =
 
 -- all templates are appended
 pub templates_end : (v : Version) (p : Program) (hs : List Header) (i : ℕ) (old here : Front) → length hs ≡ i
-    → here ≡ append_tokens old (flat_map (λ (h : Header). spell_template v (template_in p h)) (take i hs)) → here ≡ append_tokens old (spell_templates v (map (template_in p) hs))
-templates_end v p hs i old here e a = a ∙ ap (λ ys. append_tokens old (flat_map (λ (h : Header). spell_template v (template_in p h)) ys)) (take_all i hs (omega arith)) ∙ ap (append_tokens old) (each hs)
+    → here ≡ append_tokens old (flat_map (λ (h : Header). spell_template v (term_template p h)) (take i hs)) → here ≡ append_tokens old (spell_templates v (map (term_template p) hs))
+templates_end v p hs i old here e a = a ∙ ap (λ ys. append_tokens old (flat_map (λ (h : Header). spell_template v (term_template p h)) ys)) (take_all i hs (omega arith)) ∙ ap (append_tokens old) (each hs)
   where
-    each : (ys : List Header) → flat_map (λ (h : Header). spell_template v (template_in p h)) ys ≡ spell_templates v (map (template_in p) ys)
+    each : (ys : List Header) → flat_map (λ (h : Header). spell_template v (term_template p h)) ys ≡ spell_templates v (map (term_template p) ys)
     each [] = refl
-    each (y ∷ ys) = ap (λ l. spell_template v (template_in p y) ++ l) (each ys)
+    each (y ∷ ys) = ap (λ l. spell_template v (term_template p y) ++ l) (each ys)

@@ -8,7 +8,7 @@ use Rattle.sf_term.specs.declared.node.Argument.TheVariants as arguments
 use Rattle.sf_term.specs.declared.program.Program.{Program}
 use Rattle.sf_term.specs.Headers.{Header}
 use Rattle.sf_term.specs.Parameters.{PlacedParameter, parameters_of, binding_of}
-use Rattle.sf_term.specs.Arena.{arguments_of, template_in}
+use Rattle.sf_term.specs.Arena.{arguments_of, term_template}
 use Rattle.sf_print.specs.Arguments.{argument_needs_two}
 use Rattle.sf_print.specs.Versions.{arguments_need_two, parameter_needs_two, parameters_need_two, template_needs_two}
 
@@ -33,6 +33,6 @@ parameters_need [] = refl
 parameters_need (q ∷ qs) = ap (λ b. parameter_needs_two (binding_of q) || b) (parameters_need qs)
 
 -- templates likewise
-pub templates_need : (p : Program) (hs : List Header) → list_any template_needs_two (map (template_in p) hs) ≡ list_any (λ (h : Header). template_needs_two (template_in p h)) hs
+pub templates_need : (p : Program) (hs : List Header) → list_any template_needs_two (map (term_template p) hs) ≡ list_any (λ (h : Header). template_needs_two (term_template p h)) hs
 templates_need p [] = refl
-templates_need p (h ∷ hs) = ap (λ b. template_needs_two (template_in p h) || b) (templates_need p hs)
+templates_need p (h ∷ hs) = ap (λ b. template_needs_two (term_template p h) || b) (templates_need p hs)

@@ -6,8 +6,9 @@ use Rattle.sf_lex.specs.Tokens.{Tok, keyword, name, number, text}
 use Rattle.sf_print.specs.declared.draft.Last.{Last}
 use Rattle.sf_print.specs.declared.draft.Last.TheVariants as lasts
 use Rattle.sf_print.specs.Canonical.{has_own_brackets, token_bytes, closes, is_round, ends_line}
-use Rattle.sf_value.specs.Values.{Data, text as text_value, unit, truth, number as number_value, pair, no_event, event, table}
-use Rattle.sf_expr.specs.Constants.{text_in}
+use Rattle.sf_value.specs.Values.{Data, unit, truth, pair, no_event, event, table}
+use Rattle.sf_value.specs.Values
+use Rattle.sf_expr.specs.Constants.{text_bytes}
 use Rattle.sf_spelling.specs.Spelling.{spelling, quoted}
 use Rattle.sf_print.specs.Drafts.{is_text, Front, as_last, is_apart, is_spaced, space, line_end, append_token, append_tokens}
 
@@ -81,22 +82,22 @@ unfolding has_own_brackets
 text_last s = refl
 
 -- a value that is a text is spelled so
-pub text_spelled : (d : Data) → is_text d ≡ true → spelling d ≡ quoted (text_in d)
-text_spelled (text_value s) e = refl
+pub text_spelled : (d : Data) → is_text d ≡ true → spelling d ≡ quoted (text_bytes d)
+text_spelled (Values.text s) e = refl
 text_spelled unit e = cc
 text_spelled (truth b) e = cc
-text_spelled (number_value z) e = cc
+text_spelled (Values.number z) e = cc
 text_spelled (pair x y) e = cc
 text_spelled no_event e = cc
 text_spelled (event x) e = cc
 text_spelled (table rs) e = cc
 
 -- any other has no characters
-pub no_text : (d : Data) → is_text d ≡ false → quoted [] ≡ quoted (text_in d)
-no_text (text_value s) e = cc
+pub no_text : (d : Data) → is_text d ≡ false → quoted [] ≡ quoted (text_bytes d)
+no_text (Values.text s) e = cc
 no_text unit e = refl
 no_text (truth b) e = refl
-no_text (number_value z) e = refl
+no_text (Values.number z) e = refl
 no_text (pair x y) e = refl
 no_text no_event e = refl
 no_text (event x) e = refl

@@ -9,8 +9,8 @@ use Rattle.sf_term.specs.declared.node.Node.{Node}
 use Rattle.sf_term.specs.declared.node.Node.TheVariants as nodes
 use Rattle.sf_term.specs.declared.program.Program.{Program}
 use Rattle.sf_term.specs.Trees.{term_depth, arguments_depth}
-use Rattle.sf_term.specs.Arena.{tree, term_of, term_number, arguments_of, arguments_under, ArgumentBelow, TermPartsBelow}
-use Rattle.sf_term.proofs.Kept.{tree_shallow}
+use Rattle.sf_term.specs.Arena.{tree, term_of, term_number, arguments_of, argument_nodes, ArgumentBelow, TermPartsBelow}
+use Rattle.sf_term.proofs.Extended.{tree_shallow}
 use Rattle.sf_print.specs.Arguments.{ArgumentWithin, PartsWithin}
 
 arguments_within : (p : Program) (t : TermId) (vs : List Argument) → All (ArgumentBelow p (term_number t)) vs → arguments_depth (arguments_of p vs) ≤ 64 → All (ArgumentWithin p t) vs
@@ -26,13 +26,13 @@ arguments_within p t (arguments.Collection c ∷ vs) h d =
 within : (p : Program) (t : TermId) (n : Node) → TermPartsBelow p n (term_number t) → term_depth (term_of p n) ≤ 64 → PartsWithin p t n
 within p t (nodes.Primitive q) b d = tt
 within p t (nodes.Named w k s) b d = tt
-within p t (nodes.Call k a) b d = arguments_within p t (arguments_under p a) b (omega arith)
+within p t (nodes.Call k a) b d = arguments_within p t (argument_nodes p a) b (omega arith)
 within p t (nodes.Joined j x y) b d = tt
 within p t (nodes.Sided s x) b d = tt
 within p t (nodes.Headed h e x) b d = tt
 within p t (nodes.Transformed f x) b d = tt
 within p t (nodes.Switching n) b d = tt
-within p t (nodes.Keeping n) b d = tt
+within p t (nodes.Continuation n) b d = tt
 within p t (nodes.Gathered c) b d = (b, omega arith)
 within p t (nodes.Releasing n) b d = ((b.0, omega arith), b.1, b.2)
 within p t (nodes.Editing n) b d = ((b.0, omega arith), (b.1, omega arith))

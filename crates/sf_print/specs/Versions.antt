@@ -5,8 +5,8 @@ use Rattle.sf_value.specs.Values.{Name, KeyKind, int_keys, text_keys, Kind, unit
 use Rattle.sf_expr.specs.Expressions.{Literal, unit_literal, truth_literal, int_literal, text_literal, none_literal, Expression, variable, literal, paired, applied, operation, conditional, mapped, folded, called, Function, function}
 use Rattle.sf_term.specs.declared.form.Start.{Start}
 use Rattle.sf_term.specs.declared.form.Start.TheVariants as starts
-use Rattle.sf_term.specs.Parameters.{PlacedParameter, NameKind, value as value_kind, process as process_kind, collection as collection_kind}
-use Rattle.sf_term.specs.Trees.{Primitive, bare, probe, never, with_value, timed, selected, arrow, accumulated, fused, Term, primitive, reference, joined, sided, headed, transformed, switching, keeping, gathered, releasing, editing, staged, Collection, without_members, used, added, dropped, kept, chosen, Reference, started, call, Arguments, no_arguments, value_argument, process_argument, collection_argument, closed_argument, Template, Templates}
+use Rattle.sf_term.specs.Parameters.{PlacedParameter, NameKind, value, process, collection}
+use Rattle.sf_term.specs.Trees.{Primitive, bare, probe, never, with_value, timed, selected, arrow, accumulated, fused, Term, primitive, reference, joined, sided, headed, transformed, switching, continuing, gathered, releasing, editing, staged, Collection, without_members, used, added, dropped, kept, chosen, Reference, started, call, Arguments, no_arguments, value_argument, process_argument, collection_argument, closed_argument, Template, Templates}
 use Rattle.sf_grammar.specs.declared.ty.Version.{Version}
 use Rattle.sf_grammar.specs.declared.ty.Version.TheVariants as versions
 
@@ -71,7 +71,7 @@ abbrev mutual
   term_needs_two (headed h e f) = expression_needs_two e || term_needs_two f
   term_needs_two (transformed h f) = function_needs_two h || term_needs_two f
   term_needs_two (switching w f p g) = term_needs_two f || term_needs_two g
-  term_needs_two (keeping w f g k p u) = term_needs_two f || (term_needs_two g || term_needs_two u)
+  term_needs_two (continuing w f g k p u) = term_needs_two f || (term_needs_two g || term_needs_two u)
   term_needs_two (gathered i) = collection_needs_two i
   term_needs_two (releasing w i q k p u) = collection_needs_two i || (term_needs_two q || term_needs_two u)
   term_needs_two (editing w i k p u) = collection_needs_two i || collection_needs_two u
@@ -97,9 +97,9 @@ abbrev mutual
   arguments_need_two (closed_argument t vs) = arguments_need_two vs
 
 abbrev pub name_kind_needs_two : NameKind → Bool
-name_kind_needs_two (value_kind t) = type_needs_two t
-name_kind_needs_two (process_kind t u) = type_needs_two t || type_needs_two u
-name_kind_needs_two (collection_kind k t u) = are_texts k || (type_needs_two t || type_needs_two u)
+name_kind_needs_two (value t) = type_needs_two t
+name_kind_needs_two (process t u) = type_needs_two t || type_needs_two u
+name_kind_needs_two (collection k t u) = are_texts k || (type_needs_two t || type_needs_two u)
 
 abbrev pub parameter_needs_two : Name × NameKind → Bool
 parameter_needs_two q = name_kind_needs_two q.1

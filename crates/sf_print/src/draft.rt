@@ -1,7 +1,7 @@
 //! Texts to which tokens are appended.
 ghost use Rattle.std.specs.Prelude.{◌≡◌, ◌++◌, [], OnOk, string_bytes};
-ghost use Rattle.sf_lex.specs.Tokens.{keyword as word_token, name as name_token, number as number_token, text as text_token, symbol as symbol_token};
-ghost use Rattle.sf_expr.specs.Constants.{text_in};
+ghost use Rattle.sf_lex.specs.Tokens;
+ghost use Rattle.sf_expr.specs.Constants.{text_bytes};
 ghost use Rattle.sf_print.specs.Canonical.{has_own_brackets, has_brackets, collection_has_brackets, expression_has_brackets, closes, is_round, ends_line, opens};
 ghost use Rattle.sf_print.specs.Drafts.{is_text, append_token, as_last, is_apart, is_spaced, space};
 ghost use Rattle.sf_print.specs.Signs.{sign_token};
@@ -75,7 +75,7 @@ impl Draft {
 
     /// Appends a keyword.
     pub(crate) fn keyword(&mut self, word: Keyword) -> Result<(), AllocError>
-        ensures { OnOk result (self.new ≡ append_token self.old (word_token word)) }
+        ensures { OnOk result (self.new ≡ append_token self.old (Tokens.keyword word)) }
     {
         let spaced = is_apart(self.last);
         self.append(spaced, word.word().as_bytes(), last_of_keyword(word))
@@ -83,7 +83,7 @@ impl Draft {
 
     /// Appends a name.
     pub(crate) fn name(&mut self, name: &str) -> Result<(), AllocError>
-        ensures { OnOk result (self.new ≡ append_token self.old (name_token name.now)) }
+        ensures { OnOk result (self.new ≡ append_token self.old (Tokens.name name.now)) }
     {
         let spaced = is_apart(self.last);
         self.append(spaced, name.as_bytes(), Last::Head)
@@ -91,7 +91,7 @@ impl Draft {
 
     /// Appends a number.
     pub(crate) fn number(&mut self, number: i64) -> Result<(), AllocError>
-        ensures { OnOk result (self.new ≡ append_token self.old (number_token number)) }
+        ensures { OnOk result (self.new ≡ append_token self.old (Tokens.number number)) }
     {
         let spaced = is_apart(self.last);
         self.append(spaced, &[], Last::Other)?;
@@ -100,7 +100,7 @@ impl Draft {
 
     /// Appends the text that a value is; one without characters for any other value.
     pub(crate) fn text(&mut self, value: &Value) -> Result<(), AllocError>
-        ensures { OnOk result (self.new ≡ append_token self.old (text_token (text_in value.now))) }
+        ensures { OnOk result (self.new ≡ append_token self.old (Tokens.text (text_bytes value.now))) }
     {
         let spaced = is_apart(self.last);
         self.append(spaced, &[], Last::Other)?;
@@ -113,7 +113,7 @@ impl Draft {
 
     /// Appends a symbol.
     pub(crate) fn symbol(&mut self, symbol: Symbol) -> Result<(), AllocError>
-        ensures { OnOk result (self.new ≡ append_token self.old (symbol_token symbol)) }
+        ensures { OnOk result (self.new ≡ append_token self.old (Tokens.symbol symbol)) }
     {
         let spaced = is_spaced(self.last, symbol);
         self.append(spaced, symbol.text().as_bytes(), last_of_symbol(symbol))?;
@@ -162,7 +162,7 @@ fn is_apart(last: Last) -> bool
 
 /// Whether a space stands before a symbol.
 fn is_spaced(last: Last, symbol: Symbol) -> bool
-    ensures { result ≡ is_spaced last (symbol_token symbol) }
+    ensures { result ≡ is_spaced last (Tokens.symbol symbol) }
 {
     match last {
         Last::Opening => false,
@@ -173,7 +173,7 @@ fn is_spaced(last: Last, symbol: Symbol) -> bool
 
 /// Whether a symbol is a comma, a semicolon, a colon or a closing bracket.
 fn closes(symbol: Symbol) -> bool
-    ensures { result ≡ closes (symbol_token symbol) }
+    ensures { result ≡ closes (Tokens.symbol symbol) }
 {
     match symbol {
         Symbol::Comma | Symbol::Semicolon | Symbol::Colon | Symbol::Close | Symbol::CloseBracket =>
@@ -184,7 +184,7 @@ fn closes(symbol: Symbol) -> bool
 
 /// Whether a symbol is the bracket that a form in brackets has.
 fn is_round(symbol: Symbol) -> bool
-    ensures { result ≡ is_round (symbol_token symbol) }
+    ensures { result ≡ is_round (Tokens.symbol symbol) }
 {
     match symbol {
         Symbol::Open => true,
@@ -194,7 +194,7 @@ fn is_round(symbol: Symbol) -> bool
 
 /// Whether a symbol ends a line.
 fn ends_line(symbol: Symbol) -> bool
-    ensures { result ≡ ends_line (symbol_token symbol) }
+    ensures { result ≡ ends_line (Tokens.symbol symbol) }
 {
     match symbol {
         Symbol::Semicolon => true,
@@ -212,7 +212,7 @@ fn has_brackets(head: Option<Head>) -> bool
             | Head::Headed(_)
             | Head::Transformed
             | Head::Switching(_)
-            | Head::Keeping(_)
+            | Head::Continuation(_)
             | Head::Releasing(_)
             | Head::Editing(_)
             | Head::Call,
@@ -249,7 +249,7 @@ fn expression_has_brackets(head: Option<ExpressionHead>) -> bool
 /// What a keyword lets stand behind it.
 #[tactic(auto, unfolding(crate::specs::Canonical::has_own_brackets))]
 fn last_of_keyword(word: Keyword) -> Last
-    ensures { result ≡ as_last (word_token word) }
+    ensures { result ≡ as_last (Tokens.keyword word) }
 {
     let token = Token::Keyword(word);
     let in_term = has_brackets(head_of(&token));
@@ -264,7 +264,7 @@ fn last_of_keyword(word: Keyword) -> Last
 /// What a symbol lets stand behind it.
 #[tactic(auto, unfolding(crate::specs::Canonical::has_own_brackets))]
 fn last_of_symbol(symbol: Symbol) -> Last
-    ensures { result ≡ as_last (symbol_token symbol) }
+    ensures { result ≡ as_last (Tokens.symbol symbol) }
 {
     match symbol {
         Symbol::Semicolon | Symbol::Open | Symbol::OpenBracket => Last::Opening,

@@ -1,6 +1,6 @@
 //! Patterns and expressions as they are written.
 ghost use Rattle.std.specs.Prelude.{◌≡◌, OnOk, true};
-ghost use Rattle.sf_expr.specs.Arena.{expression, expression_of, name_at, placed_at, pattern_at, body_at, function_at};
+ghost use Rattle.sf_expr.specs.Arena.{expression, node_expression, name_at, stored_pattern, argument_pattern, body_id, function_at};
 ghost use Rattle.sf_expr.specs.Expressions.{literal, truth_literal, unit_literal, paired, applied, operation, conditional, mapped, called};
 ghost use Rattle.sf_expr.specs.Patterns.{pattern_of};
 ghost use Rattle.sf_grammar.specs.Spelling.{in_brackets, spell_operand, spell_mapping, spell_pattern, spell_literal, spell_expression, spell_function};
@@ -242,7 +242,7 @@ fn write_let(
     body: ExprId,
     draft: &mut Draft,
 ) -> Result<(), AllocError>
-    ensures { OnOk result (draft.new ≡ append_tokens draft.old (spell_expression version (mapped (expression exprs.now part) Mapping.Let (pattern_of (placed_at exprs.now pattern)) (expression exprs.now body)))) }
+    ensures { OnOk result (draft.new ≡ append_tokens draft.old (spell_expression version (mapped (expression exprs.now part) Mapping.Let (pattern_of (stored_pattern exprs.now pattern)) (expression exprs.now body)))) }
 {
     draft.keyword(Keyword::Let)?;
     write_pattern(exprs.placed(pattern), draft)?;
@@ -261,7 +261,7 @@ fn write_mapped(
     node: Mapped,
     draft: &mut Draft,
 ) -> Result<(), AllocError>
-    ensures { OnOk result (draft.new ≡ append_tokens draft.old (spell_expression version (expression_of exprs.now (ExprNode.Mapped node)))) }
+    ensures { OnOk result (draft.new ≡ append_tokens draft.old (spell_expression version (node_expression exprs.now (ExprNode.Mapped node)))) }
 {
     if node.mapping == Mapping::Let {
         return write_let(exprs, version, node.part, node.pattern, node.body, draft);
@@ -283,7 +283,7 @@ fn write_folded(
     node: Folded,
     draft: &mut Draft,
 ) -> Result<(), AllocError>
-    ensures { OnOk result (draft.new ≡ append_tokens draft.old (spell_expression version (expression_of exprs.now (ExprNode.Folded node)))) }
+    ensures { OnOk result (draft.new ≡ append_tokens draft.old (spell_expression version (node_expression exprs.now (ExprNode.Folded node)))) }
 {
     draft.keyword(folding_word(node.folding))?;
     draft.symbol(Symbol::Open)?;

@@ -4,10 +4,11 @@ ghost use Rattle.sf_expr.specs.Arena.{name_at, literal_at};
 ghost use Rattle.sf_expr.specs.Patterns.{pattern_of};
 ghost use Rattle.sf_term.specs.declared.node.Node.TheVariants as nodes;
 ghost use Rattle.sf_term.specs.Entries.{absent_payload};
-ghost use Rattle.sf_term.specs.Trees.{primitive as primitive_of, never as never_of, named_term, joined as joined_of, sided as sided_of, headed as headed_of, transformed as transformed_of, reference as reference_of, call as call_of, without_members, added as added_of, dropped as dropped_of, kept as kept_of, chosen as chosen_of};
+ghost use Rattle.sf_term.specs.Trees.{named_term, without_members, sided, headed, transformed, reference, dropped, kept};
+ghost use Rattle.sf_term.specs.Trees;
 ghost use Rattle.sf_value.specs.Values.{int_keys, unit_kind};
 ghost use Rattle.sf_value.specs.KindView.{key_kind_of};
-ghost use Rattle.sf_term.specs.Arena.{tree, term_of, term_number, expressions_of, expression_under, function_in, pattern_under, arguments_of, collection_under, collection_of, collection_at};
+ghost use Rattle.sf_term.specs.Arena.{tree, term_of, term_number, program_expressions, program_expression, program_function, placed_pattern, arguments_of, collection_node, collection_of, collection_tree};
 ghost use Rattle.sf_grammar.specs.Spelling.{spell_term, spell_mapping, spell_pattern, spell_value, spell_expression, spell_function, spell_listed, spell_further, spell_arguments, spell_collection, stands_initially, value_word, naming_token};
 ghost use Rattle.sf_print.specs.Drafts.{append_token, append_tokens};
 ghost use Rattle.sf_print.specs.Arguments.{spell_argument, IsWithin, ArgumentWithin, PartsWithin};
@@ -16,7 +17,7 @@ use crate::draft::Draft;
 use crate::expressions::{write_expression, write_function, write_pattern};
 use crate::types::{write_keys, write_type};
 use crate::words::{
-    accumulation_word, bare_word, editing_word, heading_sign, join_symbol, keeping_word,
+    accumulation_word, bare_word, continuing_word, editing_word, heading_sign, join_symbol,
     releasing_word, selection_word, side_word, stands_initially, switching_word, timing_word,
     value_word,
 };
@@ -24,34 +25,34 @@ use sf_expr::{Constant, ConstantForm, ExprId, FunctionId, NameId, PatternId};
 use sf_grammar::Version;
 use sf_lex::{Keyword, Symbol};
 use sf_term::{
-    Argument, CollExpr, CollectionId, Editing, Heading, Join, Keeping, Naming, Node, Primitive,
-    Program, Releasing, Start, Switch, TermId, WithValue,
+    Argument, CollExpr, CollectionId, Continuation, Editing, Heading, Join, Naming, Node,
+    Primitive, Program, Releasing, Start, Switch, TermId, WithValue,
 };
 use sf_value::{KeyType, Ty};
 use std::alloc::AllocError;
 
 /// Appends the expression at an id.
-#[tactic(auto, unfolding(sf_term::specs::Arena::expression_under, sf_term::specs::Arena::expressions_of))]
+#[tactic(auto, unfolding(sf_term::specs::Arena::program_expression, sf_term::specs::Arena::program_expressions))]
 fn write_value(
     program: &Program,
     version: Version,
     value: ExprId,
     draft: &mut Draft,
 ) -> Result<(), AllocError>
-    ensures { OnOk result (draft.new ≡ append_tokens draft.old (spell_expression version (expression_under program.now value))) }
+    ensures { OnOk result (draft.new ≡ append_tokens draft.old (spell_expression version (program_expression program.now value))) }
 {
     write_expression(program.expressions(), version, value, draft)
 }
 
 /// Appends the function at an id.
-#[tactic(auto, unfolding(sf_term::specs::Arena::expression_under, sf_term::specs::Arena::expressions_of, sf_term::specs::Arena::function_pattern_at, sf_term::specs::Arena::function_body_at))]
+#[tactic(auto, unfolding(sf_term::specs::Arena::program_expression, sf_term::specs::Arena::program_expressions, sf_term::specs::Arena::function_pattern_at, sf_term::specs::Arena::function_body_at))]
 fn write_mapped(
     program: &Program,
     version: Version,
     function: FunctionId,
     draft: &mut Draft,
 ) -> Result<(), AllocError>
-    ensures { OnOk result (draft.new ≡ append_tokens draft.old (spell_function version (function_in program.now function))) }
+    ensures { OnOk result (draft.new ≡ append_tokens draft.old (spell_function version (program_function program.now function))) }
 {
     write_function(program.expressions(), version, function, draft)
 }
@@ -65,7 +66,7 @@ fn write_with_value(
     value: ExprId,
     draft: &mut Draft,
 ) -> Result<(), AllocError>
-    ensures { OnOk result (draft.new ≡ append_tokens draft.old (spell_value (stands_initially primitive) (value_word primitive) (spell_expression version (expression_under program.now value)))) }
+    ensures { OnOk result (draft.new ≡ append_tokens draft.old (spell_value (stands_initially primitive) (value_word primitive) (spell_expression version (program_expression program.now value)))) }
 {
     let word = value_word(primitive);
     if stands_initially(primitive) {
@@ -84,7 +85,7 @@ fn write_with_value(
 /// Appends `never` and the type of its payloads.
 #[tactic(auto, using(crate::proofs::Putting::tokens_apart))]
 fn write_never(constant: &Constant, version: Version, draft: &mut Draft) -> Result<(), AllocError>
-    ensures { OnOk result (draft.new ≡ append_tokens draft.old (spell_term version (primitive_of (never_of (absent_payload constant.now))))) }
+    ensures { OnOk result (draft.new ≡ append_tokens draft.old (spell_term version (Trees.primitive (Trees.never (absent_payload constant.now))))) }
 {
     draft.keyword(Keyword::Never)?;
     match constant.form() {
@@ -154,7 +155,7 @@ fn write_named(
     name: NameId,
     draft: &mut Draft,
 ) -> Result<(), AllocError>
-    ensures { OnOk result (draft.new ≡ append_tokens draft.old (spell_term version (named_term naming (name_at (expressions_of program.now) name)))) }
+    ensures { OnOk result (draft.new ≡ append_tokens draft.old (spell_term version (named_term naming (name_at (program_expressions program.now) name)))) }
 {
     write_naming(naming, draft)?;
     draft.name(program.expressions().name_of(name))
@@ -195,7 +196,7 @@ pub(crate) fn write_term(
             write_transformed(program, version, function, part, draft)
         }
         Node::Switching(switch) => write_switching(program, version, switch, draft),
-        Node::Keeping(form) => write_keeping(program, version, form, draft),
+        Node::Continuation(form) => write_continuing(program, version, form, draft),
     }
 }
 
@@ -210,7 +211,7 @@ fn write_joined(
     second: TermId,
     draft: &mut Draft,
 ) -> Result<(), AllocError>
-    ensures { OnOk result (draft.new ≡ append_tokens draft.old (spell_term version (joined_of join (tree program.now first) (tree program.now second)))) }
+    ensures { OnOk result (draft.new ≡ append_tokens draft.old (spell_term version (Trees.joined join (tree program.now first) (tree program.now second)))) }
 {
     draft.symbol(Symbol::Open)?;
     write_term(program, version, first, draft)?;
@@ -230,7 +231,7 @@ fn write_headed(
     part: TermId,
     draft: &mut Draft,
 ) -> Result<(), AllocError>
-    ensures { OnOk result (draft.new ≡ append_tokens draft.old (spell_term version (headed_of heading (expression_under program.now value) (tree program.now part)))) }
+    ensures { OnOk result (draft.new ≡ append_tokens draft.old (spell_term version (headed heading (program_expression program.now value) (tree program.now part)))) }
 {
     draft.sign(heading_sign(heading))?;
     draft.symbol(Symbol::Open)?;
@@ -250,7 +251,7 @@ fn write_transformed(
     part: TermId,
     draft: &mut Draft,
 ) -> Result<(), AllocError>
-    ensures { OnOk result (draft.new ≡ append_tokens draft.old (spell_term version (transformed_of (function_in program.now function) (tree program.now part)))) }
+    ensures { OnOk result (draft.new ≡ append_tokens draft.old (spell_term version (transformed (program_function program.now function) (tree program.now part)))) }
 {
     draft.symbol(Symbol::MapsFirstInput)?;
     draft.symbol(Symbol::Open)?;
@@ -262,7 +263,7 @@ fn write_transformed(
 
 /// Appends a pattern and the term that it binds names for.
 #[cycle(term)]
-#[tactic(auto, using(crate::proofs::Putting::tokens_apart), unfolding(sf_term::specs::Arena::pattern_under, sf_term::specs::Arena::expressions_of))]
+#[tactic(auto, using(crate::proofs::Putting::tokens_apart), unfolding(sf_term::specs::Arena::placed_pattern, sf_term::specs::Arena::program_expressions))]
 fn write_body(
     program: &Program,
     version: Version,
@@ -270,7 +271,7 @@ fn write_body(
     body: TermId,
     draft: &mut Draft,
 ) -> Result<(), AllocError>
-    ensures { OnOk result (draft.new ≡ append_tokens draft.old (spell_mapping (spell_pattern (pattern_of (pattern_under program.now pattern))) (spell_term version (tree program.now body)))) }
+    ensures { OnOk result (draft.new ≡ append_tokens draft.old (spell_mapping (spell_pattern (pattern_of (placed_pattern program.now pattern))) (spell_term version (tree program.now body)))) }
 {
     write_pattern(program.expressions().placed(pattern), draft)?;
     draft.symbol(Symbol::MapsTo)?;
@@ -299,15 +300,15 @@ fn write_switching(
 /// Appends a term that gives way to another, which knows it by a name.
 #[cycle(term)]
 #[tactic(auto, using(crate::proofs::Putting::tokens_apart))]
-fn write_keeping(
+fn write_continuing(
     program: &Program,
     version: Version,
-    form: Keeping,
+    form: Continuation,
     draft: &mut Draft,
 ) -> Result<(), AllocError>
-    ensures { OnOk result (draft.new ≡ append_tokens draft.old (spell_term version (term_of program.now (nodes.Keeping form)))) }
+    ensures { OnOk result (draft.new ≡ append_tokens draft.old (spell_term version (term_of program.now (nodes.Continuation form)))) }
 {
-    draft.keyword(keeping_word(form.shown))?;
+    draft.keyword(continuing_word(form.shown))?;
     draft.symbol(Symbol::Open)?;
     write_term(program, version, form.source, draft)?;
     draft.symbol(Symbol::Comma)?;
@@ -411,7 +412,7 @@ fn write_editing(
 
 /// Appends a pattern and the collection that it binds names for.
 #[cycle(term)]
-#[tactic(auto, using(crate::proofs::Putting::tokens_apart), unfolding(sf_term::specs::Arena::pattern_under, sf_term::specs::Arena::expressions_of))]
+#[tactic(auto, using(crate::proofs::Putting::tokens_apart), unfolding(sf_term::specs::Arena::placed_pattern, sf_term::specs::Arena::program_expressions))]
 fn write_edit(
     program: &Program,
     version: Version,
@@ -420,8 +421,8 @@ fn write_edit(
     edit: CollectionId,
     draft: &mut Draft,
 ) -> Result<(), AllocError>
-    requires { IsWithin program.now form (collection_under program.now edit) }
-    ensures { OnOk result (draft.new ≡ append_tokens draft.old (spell_mapping (spell_pattern (pattern_of (pattern_under program.now pattern))) (spell_collection version (collection_at program.now edit)))) }
+    requires { IsWithin program.now form (collection_node program.now edit) }
+    ensures { OnOk result (draft.new ≡ append_tokens draft.old (spell_mapping (spell_pattern (pattern_of (placed_pattern program.now pattern))) (spell_collection version (collection_tree program.now edit)))) }
 {
     write_pattern(program.expressions().placed(pattern), draft)?;
     draft.symbol(Symbol::MapsTo)?;
@@ -437,8 +438,8 @@ fn write_members(
     members: CollectionId,
     draft: &mut Draft,
 ) -> Result<(), AllocError>
-    requires { IsWithin program.now form (collection_under program.now members) }
-    ensures { OnOk result (draft.new ≡ append_tokens draft.old (spell_collection version (collection_at program.now members))) }
+    requires { IsWithin program.now form (collection_node program.now members) }
+    ensures { OnOk result (draft.new ≡ append_tokens draft.old (spell_collection version (collection_tree program.now members))) }
 {
     match program.collection(members) {
         Some(collection) => write_collection(program, version, form, collection, draft),
@@ -510,7 +511,7 @@ fn write_added(
 ) -> Result<(), AllocError>
     requires members_within { IsWithin program.now form added.now.members.now }
     requires term_before { term_number added.now.term < term_number form }
-    ensures { OnOk result (draft.new ≡ append_tokens draft.old (spell_collection version (added_of (collection_of program.now added.now.members.now) (expression_under program.now added.now.key) (tree program.now added.now.term)))) }
+    ensures { OnOk result (draft.new ≡ append_tokens draft.old (spell_collection version (Trees.added (collection_of program.now added.now.members.now) (program_expression program.now added.now.key) (tree program.now added.now.term)))) }
 {
     draft.keyword(Keyword::Add)?;
     draft.symbol(Symbol::Open)?;
@@ -534,7 +535,7 @@ fn write_dropped(
     draft: &mut Draft,
 ) -> Result<(), AllocError>
     requires { IsWithin program.now form members.now }
-    ensures { OnOk result (draft.new ≡ append_tokens draft.old (spell_collection version (dropped_of (collection_of program.now members.now) (expression_under program.now key)))) }
+    ensures { OnOk result (draft.new ≡ append_tokens draft.old (spell_collection version (dropped (collection_of program.now members.now) (program_expression program.now key)))) }
 {
     draft.keyword(Keyword::Drop)?;
     draft.symbol(Symbol::Open)?;
@@ -556,7 +557,7 @@ fn write_kept(
     draft: &mut Draft,
 ) -> Result<(), AllocError>
     requires { IsWithin program.now form members.now }
-    ensures { OnOk result (draft.new ≡ append_tokens draft.old (spell_collection version (kept_of (collection_of program.now members.now) (function_in program.now function)))) }
+    ensures { OnOk result (draft.new ≡ append_tokens draft.old (spell_collection version (kept (collection_of program.now members.now) (program_function program.now function)))) }
 {
     draft.keyword(Keyword::Keep)?;
     draft.symbol(Symbol::Open)?;
@@ -586,7 +587,7 @@ fn write_chosen(
 ) -> Result<(), AllocError>
     requires first_within { IsWithin program.now form chosen.now.first.now }
     requires second_within { IsWithin program.now form chosen.now.second.now }
-    ensures { OnOk result (draft.new ≡ append_tokens draft.old (spell_collection version (chosen_of (expression_under program.now chosen.now.condition) (collection_of program.now chosen.now.first.now) (collection_of program.now chosen.now.second.now)))) }
+    ensures { OnOk result (draft.new ≡ append_tokens draft.old (spell_collection version (Trees.chosen (program_expression program.now chosen.now.condition) (collection_of program.now chosen.now.first.now) (collection_of program.now chosen.now.second.now)))) }
 {
     draft.keyword(Keyword::If)?;
     write_value(program, version, chosen.condition, draft)?;
@@ -608,7 +609,7 @@ fn write_call(
     draft: &mut Draft,
 ) -> Result<(), AllocError>
     requires { All (ArgumentWithin program.now call) arguments.now }
-    ensures { OnOk result (draft.new ≡ append_tokens draft.old (spell_term version (reference_of (call_of (name_at (expressions_of program.now) name) (arguments_of program.now arguments.now))))) }
+    ensures { OnOk result (draft.new ≡ append_tokens draft.old (spell_term version (reference (Trees.call (name_at (program_expressions program.now) name) (arguments_of program.now arguments.now))))) }
 {
     draft.name(program.expressions().name_of(name))?;
     draft.symbol(Symbol::Open)?;

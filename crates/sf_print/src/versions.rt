@@ -3,7 +3,7 @@ ghost use Rattle.std.specs.Prelude.{◌≡◌, All};
 ghost use Rattle.sf_expr.specs.Arena.{expression};
 ghost use Rattle.sf_term.specs.declared.node.Node.TheVariants as nodes;
 ghost use Rattle.sf_term.specs.ParameterView.{kind_of_form};
-ghost use Rattle.sf_term.specs.Arena.{tree, term_of, expression_under, function_in, templates_of, template_in, arguments_of, collection_under, collection_of, collection_at};
+ghost use Rattle.sf_term.specs.Arena.{tree, term_of, program_expression, program_function, templates_of, term_template, arguments_of, collection_node, collection_of, collection_tree};
 ghost use Rattle.sf_value.specs.KindView.{key_kind_of};
 ghost use Rattle.sf_print.specs.Versions.{are_texts, type_needs_two, literal_needs_two, expression_needs_two, function_needs_two, term_needs_two, collection_needs_two, arguments_need_two, name_kind_needs_two, template_needs_two, network_needs_two, parameters_need_two};
 ghost use Rattle.sf_print.specs.Arguments.{argument_needs_two, IsWithin, ArgumentWithin, PartsWithin};
@@ -83,17 +83,17 @@ fn expression_needs_two(exprs: &Exprs, id: ExprId) -> bool
 }
 
 /// The same of an expression of a program.
-#[tactic(auto, unfolding(sf_term::specs::Arena::expression_under, sf_term::specs::Arena::expressions_of))]
+#[tactic(auto, unfolding(sf_term::specs::Arena::program_expression, sf_term::specs::Arena::program_expressions))]
 fn value_needs_two(program: &Program, value: ExprId) -> bool
-    ensures { result ≡ expression_needs_two (expression_under program.now value) }
+    ensures { result ≡ expression_needs_two (program_expression program.now value) }
 {
     expression_needs_two(program.expressions(), value)
 }
 
 /// The same of a function of a program.
-#[tactic(auto, unfolding(sf_term::specs::Arena::expression_under, sf_term::specs::Arena::expressions_of, sf_term::specs::Arena::function_pattern_at, sf_term::specs::Arena::function_body_at))]
+#[tactic(auto, unfolding(sf_term::specs::Arena::program_expression, sf_term::specs::Arena::program_expressions, sf_term::specs::Arena::function_pattern_at, sf_term::specs::Arena::function_body_at))]
 fn function_needs_two(program: &Program, function: FunctionId) -> bool
-    ensures { result ≡ function_needs_two (function_in program.now function) }
+    ensures { result ≡ function_needs_two (program_function program.now function) }
 {
     let exprs = program.expressions();
     expression_needs_two(exprs, exprs.body(function))
@@ -140,7 +140,7 @@ fn term_needs_two(program: &Program, id: TermId) -> bool
         Node::Switching(form) => {
             term_needs_two(program, form.source) || term_needs_two(program, form.body)
         }
-        Node::Keeping(form) => {
+        Node::Continuation(form) => {
             term_needs_two(program, form.source)
                 || term_needs_two(program, form.observer)
                 || term_needs_two(program, form.body)
@@ -167,8 +167,8 @@ fn releasing_needs_two(program: &Program, id: TermId, form: Releasing) -> bool
 /// The same of the collection at an id, which stands in a form.
 #[cycle(needs)]
 fn members_need_two(program: &Program, form: TermId, members: CollectionId) -> bool
-    requires { IsWithin program.now form (collection_under program.now members) }
-    ensures { result ≡ collection_needs_two (collection_at program.now members) }
+    requires { IsWithin program.now form (collection_node program.now members) }
+    ensures { result ≡ collection_needs_two (collection_tree program.now members) }
 {
     match program.collection(members) {
         Some(collection) => collection_needs_two(program, form, collection),
@@ -259,7 +259,7 @@ fn parameters_need_two(parameters: &[Parameter]) -> bool
 /// The same of a template.
 #[tactic(auto, using(crate::proofs::Needing::parameters_need))]
 fn template_needs_two(program: &Program, template: &Template) -> bool
-    ensures { result ≡ template_needs_two (template_in program.now template.now) }
+    ensures { result ≡ template_needs_two (term_template program.now template.now) }
 {
     parameters_need_two(template.parameters())
         || type_needs_two(template.input())

@@ -1,7 +1,7 @@
 //! The words and symbols of forms.
 ghost use Rattle.std.specs.Prelude.{◌≡◌};
 ghost use Rattle.sf_print.specs.Signs.{sign_token};
-ghost use Rattle.sf_grammar.specs.Spelling.{bare_word, value_word, stands_initially, timing_word, selection_word, accumulation_word, join_symbol, side_word, heading_token, switching_word, keeping_word, releasing_word, editing_word, unary_word, takes_brackets, operator_token, stands_between, mapping_word, folding_word};
+ghost use Rattle.sf_grammar.specs.Spelling.{bare_word, value_word, stands_initially, timing_word, selection_word, accumulation_word, join_symbol, side_word, heading_token, switching_word, continuing_word, releasing_word, editing_word, unary_word, takes_brackets, operator_token, stands_between, mapping_word, folding_word};
 
 use sf_expr::{Arithmetic, Comparison, Equality, Folding, Logic, Mapping, Merge, Operator, Unary};
 use sf_lex::{Keyword, Symbol};
@@ -147,8 +147,8 @@ pub(crate) fn switching_word(switching: Switching) -> Keyword
 }
 
 /// The word of a term that gives way to another, which knows it by a name.
-pub(crate) fn keeping_word(observation: Observation) -> Keyword
-    ensures { result ≡ keeping_word observation }
+pub(crate) fn continuing_word(observation: Observation) -> Keyword
+    ensures { result ≡ continuing_word observation }
 {
     match observation {
         Observation::Immediate => Keyword::KSwitch,

@@ -9,5 +9,5 @@ abbrev pub reading_of : Reading → Name × Data
 reading_of r = (string_bytes r.name.value, r.value)
 
 -- names with what was read under them, in order
-abbrev pub readings_of : declared.Readings → List (Name × Data)
-readings_of rs = map reading_of rs.items.items
+abbrev pub probe_readings : declared.Readings → List (Name × Data)
+probe_readings rs = map reading_of rs.items.items

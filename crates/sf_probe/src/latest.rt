@@ -3,7 +3,7 @@ ghost use Rattle.std.specs.Prelude.{◌≡◌, ◌≤◌, ◌++◌, ℕ, List, [
 ghost use Rattle.std.specs.HashMap.{get_by_text};
 ghost use Rattle.std.specs.Option.{option_map, option_copied};
 ghost use Rattle.sf_value.specs.Values.{Name, Data};
-ghost use Rattle.sf_probe.specs.Readings.{readings_of};
+ghost use Rattle.sf_probe.specs.Readings.{probe_readings};
 ghost use Rattle.sf_probe.specs.Latest.{HasNoted, HasNotedFront, latest_names, last_reading};
 
 use crate::reading::Readings;
@@ -39,8 +39,8 @@ impl Latest {
 
     /// Notes readings, in order. For want of memory some of the first of them are noted, and the others not.
     pub fn note(&mut self, readings: &Readings) -> Result<(), AllocError>
-        ensures ok { OnOk result ((noted : List (Name × Data)) → HasNoted self.old noted → HasNoted self.new (noted ++ readings_of readings.now)) }
-        ensures err { OnErr result (HasNotedFront self.old self.new (readings_of readings.now)) }
+        ensures ok { OnOk result ((noted : List (Name × Data)) → HasNoted self.old noted → HasNoted self.new (noted ++ probe_readings readings.now)) }
+        ensures err { OnErr result (HasNotedFront self.old self.new (probe_readings readings.now)) }
     {
         for reading in readings.as_slice() {
             self.put(reading.name(), reading.value())?;

@@ -1,6 +1,6 @@
 //! Readings.
 ghost use Rattle.std.specs.Prelude.{◌≡◌, ◌++◌, ◌↔◌, [], ◌∷◌, IsTrue, OnOk, OnErr, map, length, string_bytes};
-ghost use Rattle.sf_probe.specs.Readings.{reading_of, readings_of};
+ghost use Rattle.sf_probe.specs.Readings.{reading_of, probe_readings};
 
 use sf_value::Value;
 use std::alloc::{AllocError, Global};
@@ -46,7 +46,7 @@ impl Reading {
 impl Readings {
     /// No readings. They take no memory.
     pub fn new(alloc: Global) -> Readings
-        ensures { readings_of result ≡ [] }
+        ensures { probe_readings result ≡ [] }
     {
         Readings {
             items: Vec::new(alloc),
@@ -55,8 +55,8 @@ impl Readings {
 
     /// Adds a reading behind the others. For want of memory nothing changes.
     pub fn push(&mut self, name: Rc<String>, value: Value) -> Result<(), AllocError>
-        ensures ok { OnOk result (readings_of self.new ≡ readings_of self.old ++ (string_bytes name.value, value) ∷ []) }
-        ensures err { OnErr result (readings_of self.new ≡ readings_of self.old) }
+        ensures ok { OnOk result (probe_readings self.new ≡ probe_readings self.old ++ (string_bytes name.value, value) ∷ []) }
+        ensures err { OnErr result (probe_readings self.new ≡ probe_readings self.old) }
     {
         self.items.push(Reading { name, value })?;
         Ok(())
@@ -64,21 +64,21 @@ impl Readings {
 
     /// The readings, in order.
     pub fn as_slice(&self) -> &[Reading]
-        ensures { map reading_of result.now ≡ readings_of self.now }
+        ensures { map reading_of result.now ≡ probe_readings self.now }
     {
         self.items.as_slice()
     }
 
     /// How many there are.
     pub fn len(&self) -> usize
-        ensures { result ≡ length (readings_of self.now) }
+        ensures { result ≡ length (probe_readings self.now) }
     {
         self.items.len()
     }
 
     /// Whether there are none.
     pub fn is_empty(&self) -> bool
-        ensures { IsTrue result ↔ (readings_of self.now ≡ []) }
+        ensures { IsTrue result ↔ (probe_readings self.now ≡ []) }
     {
         self.items.is_empty()
     }

@@ -9,7 +9,7 @@ use Rattle.sf_refusal.specs.declared.spot.Spot.{Spot}
 use Rattle.sf_term.specs.declared.program.Program.{Program}
 use Rattle.sf_term.specs.Headers.{Header}
 use Rattle.sf_term.specs.Trees.{Template, template_named}
-use Rattle.sf_term.specs.Arena.{headers_of, template_in, templates_of, tree}
+use Rattle.sf_term.specs.Arena.{headers_of, term_template, templates_of, tree}
 use Rattle.sf_mean.specs.Calls.{Calls, ReachesTemplate, reaches, reaches_on}
 use Rattle.sf_reach.specs.declared.graph.Call.{Call}
 use Rattle.sf_reach.specs.Names.{program_names, HasDifferentNames}
@@ -95,7 +95,7 @@ module _ (p : Program) (g : Graph) (graph : IsGraphOf p g) (different : HasDiffe
       let named = sym (named_is p h.name i (place_of_header p different i h at) h at) in
       inr (on h call.0 header.0 k so named call.1 (reaches_by rest header.0 k header.1 at'))
     where
-      on : (h : Header) (x : Name) (m k : Header) → m.name ≡ x → template_named h.name (templates_of p) ≡ Some (template_in p h) → Calls (tree p h.body) x → (m.name ≡ k.name) ⊎ ReachesTemplate (templates_of p) m.name k.name → ReachesTemplate (templates_of p) h.name k.name
+      on : (h : Header) (x : Name) (m k : Header) → m.name ≡ x → template_named h.name (templates_of p) ≡ Some (term_template p h) → Calls (tree p h.body) x → (m.name ≡ k.name) ⊎ ReachesTemplate (templates_of p) m.name k.name → ReachesTemplate (templates_of p) h.name k.name
       on h x m k so named calls (inl e) = reaches named (subst (Calls (tree p h.body)) (sym so ∙ e) calls)
       on h x m k so named calls (inr r) = reaches_on named calls (subst (λ y. ReachesTemplate (templates_of p) y k.name) so r)
 

@@ -8,7 +8,7 @@ use Rattle.sf_value.specs.Values.{Name}
 use Rattle.sf_expr.specs.Expressions.{Pattern, Expression, Function}
 use Rattle.sf_term.specs.declared.form.Join.{Join}
 use Rattle.sf_term.specs.declared.form.Observation.{Observation}
-use Rattle.sf_term.specs.Trees.{Extent, Term, primitive, reference, started, call, Reference, Arguments, no_arguments, value_argument, process_argument, collection_argument, closed_argument, joined, sided, headed, transformed, switching, keeping, gathered, releasing, editing, staged, Collection, without_members, used, added, dropped, kept, chosen, Template, Templates, template_named}
+use Rattle.sf_term.specs.Trees.{Extent, Term, primitive, reference, started, call, Reference, Arguments, no_arguments, value_argument, process_argument, collection_argument, closed_argument, joined, sided, headed, transformed, switching, continuing, gathered, releasing, editing, staged, Collection, without_members, used, added, dropped, kept, chosen, Template, Templates, template_named}
 use Rattle.sf_mean.specs.Calls.{Calls, calls_it, calls_within, left_calls, right_calls, side_calls, headed_calls, transformed_calls, switch_calls, source_calls, observer_calls, gathered_calls, members_call, their_observer_calls, editing_calls, stage_calls, stages_call, CollectionCalls, added_calls, past_added_calls, past_dropped_calls, past_kept_calls, one_calls, other_calls, ArgumentsCall, process_calls, collection_calls, closed_calls, past_value_calls, past_process_calls, past_collection_calls, past_closed_calls, ReachesTemplate, reaches, reaches_on}
 use Rattle.sf_reach.specs.Names.{names}
 use Rattle.sf_reach.specs.Order.{PlacedCall}
@@ -50,7 +50,7 @@ joined_call : {j : Join} {f g : Term} {h : Name} → Calls (joined j f g) h → 
 joined_call (left_calls c) = inl c
 joined_call (right_calls c) = inr c
 
-kept_call : {w : Observation} {t q u : Term} {k : Name} {p : Pattern} {h : Name} → Calls (keeping w t q k p u) h → Calls t h ⊎ Calls q h
+kept_call : {w : Observation} {t q u : Term} {k : Name} {p : Pattern} {h : Name} → Calls (continuing w t q k p u) h → Calls t h ⊎ Calls q h
 kept_call (source_calls c) = inl c
 kept_call (observer_calls c) = inr c
 
@@ -91,7 +91,7 @@ mutual
   calls_or_not (headed w i t) h = same (λ c. headed_calls c) (λ c. elim c [ headed_calls k ↦ k ]) (calls_or_not t h)
   calls_or_not (transformed f t) h = same (λ c. transformed_calls c) (λ c. elim c [ transformed_calls k ↦ k ]) (calls_or_not t h)
   calls_or_not (switching w t p u) h = same (λ c. switch_calls c) (λ c. elim c [ switch_calls k ↦ k ]) (calls_or_not t h)
-  calls_or_not (keeping w t q k p u) h = one_of (λ c. source_calls c) (λ c. observer_calls c) (λ c. kept_call c) (calls_or_not t h) (calls_or_not q h)
+  calls_or_not (continuing w t q k p u) h = one_of (λ c. source_calls c) (λ c. observer_calls c) (λ c. kept_call c) (calls_or_not t h) (calls_or_not q h)
   calls_or_not (gathered i) h = same (λ c. gathered_calls c) (λ c. elim c [ gathered_calls k ↦ k ]) (collection_or_not i h)
   calls_or_not (releasing w i q k p u) h = one_of (λ c. members_call c) (λ c. their_observer_calls c) (λ c. released_call c) (collection_or_not i h) (calls_or_not q h)
   calls_or_not (editing w i k p u) h = same (λ c. editing_calls c) (λ c. elim c [ editing_calls k ↦ k ]) (collection_or_not i h)

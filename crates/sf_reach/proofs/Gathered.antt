@@ -22,7 +22,7 @@ use Rattle.sf_term.specs.declared.node.Node.TheVariants as nodes
 use Rattle.sf_term.specs.declared.collection.CollectionId.{CollectionId}
 use Rattle.sf_term.specs.declared.program.Program.{Program}
 use Rattle.sf_term.specs.Headers.{Header}
-use Rattle.sf_term.specs.Arena.{headers_of, term_node_at, term_spot_at, expressions_of, arguments_under, collection_under}
+use Rattle.sf_term.specs.Arena.{headers_of, term_node_at, term_spot_at, program_expressions, argument_nodes, collection_node}
 use Rattle.sf_reach.specs.declared.graph.Call.{Call}
 use Rattle.sf_reach.specs.Names.{names_of_set, program_names}
 use Rattle.sf_reach.specs.Order.{PlacedCall, CallsInOrder, calls_there, FormCalls, in_call, MemberCalls, ArgumentCalls, in_none}
@@ -65,12 +65,12 @@ module _ (p : Program) (t : TermId) (n : Node) (is : n ≡ term_node_at p t) whe
   pub adds_two : (old mid new : List Call) (f g : TermId) → ((cs ds : List PlacedCall) → CallsInOrder p f cs → CallsInOrder p g ds → FormCalls p (term_spot_at p t) n (cs ++ ds)) → AddsCalls p f old mid → AddsCalls p g mid new → AddsCalls p t old new
   adds_two old mid new f g form h k = adds_both p (CallsInOrder p f) (CallsInOrder p g) (CallsInOrder p t) old mid new (λ cs ds h k. of_form (form cs ds h k)) h k
 
-  pub adds_members : (old new : List Call) (c : CollectionId) → ((cs : List PlacedCall) → MemberCalls p (collection_under p c) cs → FormCalls p (term_spot_at p t) n cs) → AddsMemberCalls p (collection_under p c) old new → AddsCalls p t old new
-  adds_members old new c form h = adds_into p (MemberCalls p (collection_under p c)) (CallsInOrder p t) (CallsInOrder p t) old new (λ cs h. of_form (form cs h)) h
+  pub adds_members : (old new : List Call) (c : CollectionId) → ((cs : List PlacedCall) → MemberCalls p (collection_node p c) cs → FormCalls p (term_spot_at p t) n cs) → AddsMemberCalls p (collection_node p c) old new → AddsCalls p t old new
+  adds_members old new c form h = adds_into p (MemberCalls p (collection_node p c)) (CallsInOrder p t) (CallsInOrder p t) old new (λ cs h. of_form (form cs h)) h
 
-  pub adds_members_and : (old mid new : List Call) (c : CollectionId) (g : TermId) → ((cs ds : List PlacedCall) → MemberCalls p (collection_under p c) cs → CallsInOrder p g ds → FormCalls p (term_spot_at p t) n (cs ++ ds))
-      → AddsMemberCalls p (collection_under p c) old mid → AddsCalls p g mid new → AddsCalls p t old new
-  adds_members_and old mid new c g form h k = adds_both p (MemberCalls p (collection_under p c)) (CallsInOrder p g) (CallsInOrder p t) old mid new (λ cs ds h k. of_form (form cs ds h k)) h k
+  pub adds_members_and : (old mid new : List Call) (c : CollectionId) (g : TermId) → ((cs ds : List PlacedCall) → MemberCalls p (collection_node p c) cs → CallsInOrder p g ds → FormCalls p (term_spot_at p t) n (cs ++ ds))
+      → AddsMemberCalls p (collection_node p c) old mid → AddsCalls p g mid new → AddsCalls p t old new
+  adds_members_and old mid new c g form h k = adds_both p (MemberCalls p (collection_node p c)) (CallsInOrder p g) (CallsInOrder p t) old mid new (λ cs ds h k. of_form (form cs ds h k)) h k
 
 -- the name of a call is found by its place
 pub name_found : {Y S : Type 0} (p : Program) (set : IndexSet (String Y) S) (x : Name) (o : Option ℕ) → names_of_set set ≡ program_names p → o ≡ index_of_by (λ k. bytes_eq x (string_bytes k)) set → position (bytes_eq x) (program_names p) ≡ o
@@ -78,20 +78,20 @@ name_found p set x o e k = sym (place_in set x (program_names p) e) ∙ sym k
 
 module _ (p : Program) (t : TermId) (k : NameId) (a : ArgumentsId) (is : nodes.Call k a ≡ term_node_at p t) where
   here : PlacedCall
-  here = record { name = name_at (expressions_of p) k; spot = term_spot_at p t }
+  here = record { name = name_at (program_expressions p) k; spot = term_spot_at p t }
 
-  adds_call : (old mid new : List Call) → mid ≡ old ++ found_calls (program_names p) (here ∷ []) → AddsArgumentCalls p (arguments_under p a) mid new → AddsCalls p t old new
+  adds_call : (old mid new : List Call) → mid ≡ old ++ found_calls (program_names p) (here ∷ []) → AddsArgumentCalls p (argument_nodes p a) mid new → AddsCalls p t old new
   unfolding here
   adds_call old mid new e h = (here ∷ h.0, of_form p t (nodes.Call k a) is (in_call h.1), found_behind (program_names p) old mid new (here ∷ []) h.0 e h.2)
 
-  pub adds_found : (old mid new : List Call) (x : Name) (s : Spot) (i : ℕ) → x ≡ name_at (expressions_of p) k → s ≡ term_spot_at p t → position (bytes_eq x) (program_names p) ≡ Some i → mid ≡ old ++ record { callee = i; spot = s } ∷ []
-      → AddsArgumentCalls p (arguments_under p a) mid new → AddsCalls p t old new
+  pub adds_found : (old mid new : List Call) (x : Name) (s : Spot) (i : ℕ) → x ≡ name_at (program_expressions p) k → s ≡ term_spot_at p t → position (bytes_eq x) (program_names p) ≡ Some i → mid ≡ old ++ record { callee = i; spot = s } ∷ []
+      → AddsArgumentCalls p (argument_nodes p a) mid new → AddsCalls p t old new
   unfolding here
   adds_found old mid new x s i named spot place e h =
       let found : found_call (program_names p) here ≡ Some (record { callee = i; spot = term_spot_at p t }) = ap (option_map (λ (i : ℕ). record { callee = i; spot = term_spot_at p t })) (ap (λ x. position (bytes_eq x) (program_names p)) (sym named) ∙ place) in
       adds_call old mid new (e ∙ ap (λ (s : Spot). old ++ record { callee = i; spot = s } ∷ []) spot ∙ ap (λ o. old ++ cons_option o []) (sym found)) h
 
-  pub adds_absent : (old mid new : List Call) (x : Name) → x ≡ name_at (expressions_of p) k → position (bytes_eq x) (program_names p) ≡ None → mid ≡ old → AddsArgumentCalls p (arguments_under p a) mid new → AddsCalls p t old new
+  pub adds_absent : (old mid new : List Call) (x : Name) → x ≡ name_at (program_expressions p) k → position (bytes_eq x) (program_names p) ≡ None → mid ≡ old → AddsArgumentCalls p (argument_nodes p a) mid new → AddsCalls p t old new
   unfolding here
   adds_absent old mid new x named place e h =
       let found : found_call (program_names p) here ≡ None = ap (option_map (λ (i : ℕ). record { callee = i; spot = term_spot_at p t })) (ap (λ x. position (bytes_eq x) (program_names p)) (sym named) ∙ place) in
@@ -113,7 +113,7 @@ module _ (p : Program) (vs : List Argument) (i : ℕ) (h : i < length vs) (d : A
   pub adds_process : (old mid new : List Call) (t : TermId) → get_or vs i d ≡ arguments.Process t → AddsArgumentCalls p (take i vs) old mid → AddsCalls p t mid new → AddsArgumentCalls p (take (i + 1) vs) old new
   adds_process old mid new t is k own = (k.0 ++ own.0, with_argument (arguments.Process t) is (process_more k.1 own.1), found_behind (program_names p) old mid new k.0 own.0 k.2 own.2)
 
-  pub adds_collection : (old mid new : List Call) (c : CollectionId) → get_or vs i d ≡ arguments.Collection c → AddsArgumentCalls p (take i vs) old mid → AddsMemberCalls p (collection_under p c) mid new → AddsArgumentCalls p (take (i + 1) vs) old new
+  pub adds_collection : (old mid new : List Call) (c : CollectionId) → get_or vs i d ≡ arguments.Collection c → AddsArgumentCalls p (take i vs) old mid → AddsMemberCalls p (collection_node p c) mid new → AddsArgumentCalls p (take (i + 1) vs) old new
   adds_collection old mid new c is k own = (k.0 ++ own.0, with_argument (arguments.Collection c) is (collection_more c k.1 own.1), found_behind (program_names p) old mid new k.0 own.0 k.2 own.2)
 
 -- ## Graphs

@@ -7,7 +7,7 @@ use Rattle.sf_refusal.specs.declared.spot.Spot.{Spot}
 use Rattle.sf_term.specs.declared.program.Program.{Program}
 use Rattle.sf_term.specs.Headers.{Header}
 use Rattle.sf_term.specs.Trees.{Template, template_named}
-use Rattle.sf_term.specs.Arena.{headers_of, template_in, templates_of, tree}
+use Rattle.sf_term.specs.Arena.{headers_of, term_template, templates_of, tree}
 use Rattle.sf_mean.specs.Calls.{Calls, ReachesTemplate, reaches, reaches_on}
 use Rattle.sf_reach.specs.Names.{HasDifferentNames}
 use Rattle.sf_reach.specs.Order.{PlacedCall, CallsInOrder}
@@ -110,6 +110,6 @@ endless_somewhere p s different h nowhere =
     let named = sym (named_is p h.header.name h.place (place_of_header p different h.place h.header h.at) h.header h.at) in
     back h.header h.call calls named (first_has E h.first)
   where
-    back : (h : Header) (c : PlacedCall) → Calls (tree p h.body) c.name → template_named h.name (templates_of p) ≡ Some (template_in p h) → IsEndless (templates_of p) h.name c → ⊥
+    back : (h : Header) (c : PlacedCall) → Calls (tree p h.body) c.name → template_named h.name (templates_of p) ≡ Some (term_template p h) → IsEndless (templates_of p) h.name c → ⊥
     back h c calls named (inl e) = nowhere h.name (reaches named (subst (Calls (tree p h.body)) e calls))
     back h c calls named (inr r) = nowhere h.name (reaches_on named calls r)

@@ -15,16 +15,16 @@ use Rattle.sf_value.specs.Values.{Name}
 use Rattle.sf_term.specs.declared.program.Program.{Program}
 use Rattle.sf_term.specs.Headers.{Header}
 use Rattle.sf_term.specs.Trees.{Template, Templates, template_named}
-use Rattle.sf_term.specs.Arena.{headers_of, template_in, templates_of, spots_of}
+use Rattle.sf_term.specs.Arena.{headers_of, term_template, templates_of, template_spots}
 use Rattle.sf_reach.specs.Names.{names, names_of_set, program_names, HasDifferentNames}
 
 -- ## By their places
 
 module _ (p : Program) (i : ℕ) (h : Header) (at : slice_get (headers_of p) i ≡ Some h) where
-  pub template_at : slice_get (templates_of p) i ≡ Some (template_in p h)
-  template_at = slice_get-map (template_in p) (headers_of p) i ∙ ap (option_map (template_in p)) at
+  pub template_at : slice_get (templates_of p) i ≡ Some (term_template p h)
+  template_at = slice_get-map (term_template p) (headers_of p) i ∙ ap (option_map (term_template p)) at
 
-  pub spot_stands : slice_get (spots_of p) i ≡ Some h.spot
+  pub spot_stands : slice_get (template_spots p) i ≡ Some h.spot
   spot_stands = slice_get-map (λ (h : Header). h.spot) (headers_of p) i ∙ ap (option_map (λ (h : Header). h.spot)) at
 
   pub name_at : slice_get (program_names p) i ≡ Some h.name
@@ -35,10 +35,10 @@ pub header_at : (p : Program) (hs : List Header) (i : ℕ) (h : Header) → hs �
 header_at p hs i h e within is = ap (λ l. slice_get l i) (sym e) ∙ slice_get_read hs (length hs) i h refl within is
 
 -- the template at a place of a program has a header
-pub header_of : (p : Program) (i : ℕ) (t : Template) → slice_get (templates_of p) i ≡ Some t → (h : Header) × (slice_get (headers_of p) i ≡ Some h) × (template_in p h ≡ t)
-header_of p i t at = by (slice_get (headers_of p) i) refl (sym (slice_get-map (template_in p) (headers_of p) i) ∙ at)
+pub header_of : (p : Program) (i : ℕ) (t : Template) → slice_get (templates_of p) i ≡ Some t → (h : Header) × (slice_get (headers_of p) i ≡ Some h) × (term_template p h ≡ t)
+header_of p i t at = by (slice_get (headers_of p) i) refl (sym (slice_get-map (term_template p) (headers_of p) i) ∙ at)
   where
-    by : (o : Option Header) → slice_get (headers_of p) i ≡ o → option_map (template_in p) o ≡ Some t → (h : Header) × (slice_get (headers_of p) i ≡ Some h) × (template_in p h ≡ t)
+    by : (o : Option Header) → slice_get (headers_of p) i ≡ o → option_map (term_template p) o ≡ Some t → (h : Header) × (slice_get (headers_of p) i ≡ Some h) × (term_template p h ≡ t)
     by None e k = absurd (none-some t k)
     by (Some h) e k = (h, e, same_Some _ _ k)
 
@@ -132,22 +132,22 @@ module _ (p : Program) (x : Name) (i : ℕ) (place : position (bytes_eq x) (prog
   named_within =
       let there = named_at x (templates_of p) i place in
       let within = slice_get_within (templates_of p) i there.template there.at in
-      let count = length-map (headers_of p) (template_in p) in
+      let count = length-map (headers_of p) (term_template p) in
       omega arith
 
-  pub named_is : (h : Header) → slice_get (headers_of p) i ≡ Some h → Some (template_in p h) ≡ template_named x (templates_of p)
+  pub named_is : (h : Header) → slice_get (headers_of p) i ≡ Some h → Some (term_template p h) ≡ template_named x (templates_of p)
   named_is h at =
       let there = named_at x (templates_of p) i place in
       sym (template_at p i h at) ∙ there.at ∙ sym there.named
 
   pub name_is : (h : Header) → slice_get (headers_of p) i ≡ Some h → h.name ≡ x
-  name_is h at = named_so x (templates_of p) (template_in p h) (sym (named_is h at))
+  name_is h at = named_so x (templates_of p) (term_template p h) (sym (named_is h at))
 
 -- where names are different, the place of a template is that of its name
 pub place_of_header : (p : Program) → HasDifferentNames p → (i : ℕ) (h : Header) → slice_get (headers_of p) i ≡ Some h → position (bytes_eq h.name) (program_names p) ≡ Some i
 place_of_header p different i h at =
     let here = name_at p i h at in
-    let some = some_named (templates_of p) i (template_in p h) (template_at p i h at) in
+    let some = some_named (templates_of p) i (term_template p h) (template_at p i h at) in
     let found = place_of_named h.name (templates_of p) some.0 some.1 in
     let there = named_at h.name (templates_of p) found.0 found.1 in
     let header = header_of p found.0 there.template there.at in

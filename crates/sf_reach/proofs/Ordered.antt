@@ -21,10 +21,10 @@ use Rattle.sf_term.specs.declared.collection.CollectionId.{CollectionId}
 use Rattle.sf_term.specs.declared.collection.CollExpr.{CollExpr}
 use Rattle.sf_term.specs.declared.collection.CollExpr.TheVariants as collections
 use Rattle.sf_term.specs.declared.program.Program.{Program}
-use Rattle.sf_term.specs.Arena.{term_number, tree, term_node_at, term_spot_at, term_entry_of, term_of, arguments_of, arguments_under, collection_of, collection_at, collection_under, expressions_of, TermPartsBelow, ArgumentBelow, CollectionBelow}
-use Rattle.sf_term.proofs.Kept.{node_builds, parts_below}
+use Rattle.sf_term.specs.Arena.{term_number, tree, term_node_at, term_spot_at, program_entry, term_of, arguments_of, argument_nodes, collection_of, collection_tree, collection_node, program_expressions, TermPartsBelow, ArgumentBelow, CollectionBelow}
+use Rattle.sf_term.proofs.Extended.{node_builds, parts_below}
 use Rattle.sf_mean.specs.Calls.{Calls, calls_it, calls_within, left_calls, right_calls, side_calls, headed_calls, transformed_calls, switch_calls, source_calls, observer_calls, gathered_calls, members_call, their_observer_calls, editing_calls, CollectionCalls, added_calls, past_added_calls, past_dropped_calls, past_kept_calls, one_calls, other_calls, ArgumentsCall, process_calls, collection_calls, past_value_calls, past_process_calls, past_collection_calls}
-use Rattle.sf_reach.specs.Order.{PlacedCall, CallsInOrder, calls_there, FormCalls, in_primitive, in_named, in_call, in_joined, in_sided, in_headed, in_transformed, in_switching, in_keeping, in_gathered, in_releasing, in_editing, MemberCalls, in_empty, in_used, in_added, in_dropped, in_kept, in_chosen, ArgumentCalls, in_none, past_value, in_process, in_collection}
+use Rattle.sf_reach.specs.Order.{PlacedCall, CallsInOrder, calls_there, FormCalls, in_primitive, in_named, in_call, in_joined, in_sided, in_headed, in_transformed, in_switching, in_continuing, in_gathered, in_releasing, in_editing, MemberCalls, in_empty, in_used, in_added, in_dropped, in_kept, in_chosen, ArgumentCalls, in_none, past_value, in_process, in_collection}
 use Rattle.sf_reach.proofs.Lists.{In, first, later, in_left, in_right}
 
 -- ## They are the same however they are found
@@ -36,13 +36,13 @@ mutual
   form_once : {p : Program} {s : Spot} {n : Node} {cs ds : List PlacedCall} → FormCalls p s n cs → FormCalls p s n ds → cs ≡ ds
   form_once in_primitive in_primitive = refl
   form_once in_named in_named = refl
-  form_once {p} {s} (in_call {k = k} h) (in_call i) = ap (λ cs. record { name = name_at (expressions_of p) k; spot = s } ∷ cs) (arguments_once h i)
+  form_once {p} {s} (in_call {k = k} h) (in_call i) = ap (λ cs. record { name = name_at (program_expressions p) k; spot = s } ∷ cs) (arguments_once h i)
   form_once (in_joined h k) (in_joined i j) = ap₂ (λ cs ds. cs ++ ds) (calls_once h i) (calls_once k j)
   form_once (in_sided h) (in_sided k) = calls_once h k
   form_once (in_headed h) (in_headed k) = calls_once h k
   form_once (in_transformed h) (in_transformed k) = calls_once h k
   form_once (in_switching h) (in_switching k) = calls_once h k
-  form_once (in_keeping h k) (in_keeping i j) = ap₂ (λ cs ds. cs ++ ds) (calls_once h i) (calls_once k j)
+  form_once (in_continuing h k) (in_continuing i j) = ap₂ (λ cs ds. cs ++ ds) (calls_once h i) (calls_once k j)
   form_once (in_gathered h) (in_gathered k) = members_once h k
   form_once (in_releasing h k) (in_releasing i j) = ap₂ (λ cs ds. cs ++ ds) (members_once h i) (calls_once k j)
   form_once (in_editing h) (in_editing k) = members_once h k
@@ -91,8 +91,8 @@ mutual
   form_sound {p} (in_primitive {q = q}) = none_called (Calls (term_of p (nodes.Primitive q)))
   form_sound {p} (in_named {n = n} {w = w} {k = k}) = none_called (Calls (term_of p (nodes.Named w k n)))
   form_sound {p} {s} (in_call {k = k} {a = a} {cs = cs} h) =
-      All-cons (λ (c : PlacedCall). Calls (term_of p (nodes.Call k a)) c.name) (record { name = name_at (expressions_of p) k; spot = s }) cs calls_it
-      (each_into (ArgumentsCall (arguments_of p (arguments_under p a))) (Calls (term_of p (nodes.Call k a))) (λ x c. calls_within c) cs (arguments_sound h))
+      All-cons (λ (c : PlacedCall). Calls (term_of p (nodes.Call k a)) c.name) (record { name = name_at (program_expressions p) k; spot = s }) cs calls_it
+      (each_into (ArgumentsCall (arguments_of p (argument_nodes p a))) (Calls (term_of p (nodes.Call k a))) (λ x c. calls_within c) cs (arguments_sound h))
   form_sound {p} (in_joined {j = j} {f = f} {g = g} {cs = cs} {ds = ds} h k) =
       let T : Name → Type 0 = Calls (term_of p (nodes.Joined j f g)) in
       both T cs ds (each_into (Calls (tree p f)) T (λ x c. left_calls c) cs (calls_sound h)) (each_into (Calls (tree p g)) T (λ x c. right_calls c) ds (calls_sound k))
@@ -100,14 +100,14 @@ mutual
   form_sound {p} (in_headed {w = w} {e = e} {f = f} {cs = cs} h) = each_into (Calls (tree p f)) (Calls (term_of p (nodes.Headed w e f))) (λ x c. headed_calls c) cs (calls_sound h)
   form_sound {p} (in_transformed {g = g} {f = f} {cs = cs} h) = each_into (Calls (tree p f)) (Calls (term_of p (nodes.Transformed g f))) (λ x c. transformed_calls c) cs (calls_sound h)
   form_sound {p} (in_switching {n = n} {cs = cs} h) = each_into (Calls (tree p n.source)) (Calls (term_of p (nodes.Switching n))) (λ x c. switch_calls c) cs (calls_sound h)
-  form_sound {p} (in_keeping {n = n} {cs = cs} {ds = ds} h i) =
-      let T : Name → Type 0 = Calls (term_of p (nodes.Keeping n)) in
+  form_sound {p} (in_continuing {n = n} {cs = cs} {ds = ds} h i) =
+      let T : Name → Type 0 = Calls (term_of p (nodes.Continuation n)) in
       both T cs ds (each_into (Calls (tree p n.source)) T (λ x c. source_calls c) cs (calls_sound h)) (each_into (Calls (tree p n.observer)) T (λ x c. observer_calls c) ds (calls_sound i))
-  form_sound {p} (in_gathered {c = c} {cs = cs} h) = each_into (CollectionCalls (collection_at p c)) (Calls (term_of p (nodes.Gathered c))) (λ x k. gathered_calls k) cs (members_sound h)
+  form_sound {p} (in_gathered {c = c} {cs = cs} h) = each_into (CollectionCalls (collection_tree p c)) (Calls (term_of p (nodes.Gathered c))) (λ x k. gathered_calls k) cs (members_sound h)
   form_sound {p} (in_releasing {r = r} {cs = cs} {ds = ds} h i) =
       let T : Name → Type 0 = Calls (term_of p (nodes.Releasing r)) in
-      both T cs ds (each_into (CollectionCalls (collection_at p r.members)) T (λ x k. members_call k) cs (members_sound h)) (each_into (Calls (tree p r.observer)) T (λ x k. their_observer_calls k) ds (calls_sound i))
-  form_sound {p} (in_editing {r = r} {cs = cs} h) = each_into (CollectionCalls (collection_at p r.members)) (Calls (term_of p (nodes.Editing r))) (λ x k. editing_calls k) cs (members_sound h)
+      both T cs ds (each_into (CollectionCalls (collection_tree p r.members)) T (λ x k. members_call k) cs (members_sound h)) (each_into (Calls (tree p r.observer)) T (λ x k. their_observer_calls k) ds (calls_sound i))
+  form_sound {p} (in_editing {r = r} {cs = cs} h) = each_into (CollectionCalls (collection_tree p r.members)) (Calls (term_of p (nodes.Editing r))) (λ x k. editing_calls k) cs (members_sound h)
 
   members_sound : {p : Program} {c : CollExpr} {cs : List PlacedCall} → MemberCalls p c cs → Each (CollectionCalls (collection_of p c)) cs
   members_sound {p} (in_empty {k = k} {t = t} {s = s}) = none_called (CollectionCalls (collection_of p (collections.Empty k t s)))
@@ -129,7 +129,7 @@ mutual
       both T cs ds (each_into (Calls (tree p t)) T (λ x c. process_calls c) cs (calls_sound h)) (each_into (ArgumentsCall (arguments_of p vs)) T (λ x c. past_process_calls c) ds (arguments_sound k))
   arguments_sound {p} (in_collection {c = c} {vs = vs} {cs = cs} {ds = ds} h k) =
       let T : Name → Type 0 = ArgumentsCall (arguments_of p (arguments.Collection c ∷ vs)) in
-      both T cs ds (each_into (CollectionCalls (collection_at p c)) T (λ x k. collection_calls k) cs (members_sound h)) (each_into (ArgumentsCall (arguments_of p vs)) T (λ x k. past_collection_calls k) ds (arguments_sound k))
+      both T cs ds (each_into (CollectionCalls (collection_tree p c)) T (λ x k. collection_calls k) cs (members_sound h)) (each_into (ArgumentsCall (arguments_of p vs)) T (λ x k. past_collection_calls k) ds (arguments_sound k))
 
 -- ## Each call of the term is among them
 
@@ -162,8 +162,8 @@ mutual
 
   form_complete : {p : Program} {s : Spot} {n : Node} {cs : List PlacedCall} {x : Name} → FormCalls p s n cs → Calls (term_of p n) x → HasCall x cs
   form_complete {p} {x = x} (in_primitive {q = q}) c = absurd (primitive_calls p q x c)
-  form_complete {p} {x = x} (in_named {w = w} {k = k}) c = absurd (named_calls w (name_at (expressions_of p) k) x c)
-  form_complete {p} {s} (in_call {k = k} h) calls_it = record { call = record { name = name_at (expressions_of p) k; spot = s }; is_in = first; named = refl }
+  form_complete {p} {x = x} (in_named {w = w} {k = k}) c = absurd (named_calls w (name_at (program_expressions p) k) x c)
+  form_complete {p} {s} (in_call {k = k} h) calls_it = record { call = record { name = name_at (program_expressions p) k; spot = s }; is_in = first; named = refl }
   form_complete (in_call h) (calls_within c) = has_later _ (arguments_complete h c)
   form_complete (in_joined {ds = ds} h k) (left_calls c) = has_left ds (calls_complete h c)
   form_complete (in_joined {cs = cs} h k) (right_calls c) = has_right cs (calls_complete k c)
@@ -171,8 +171,8 @@ mutual
   form_complete (in_headed h) (headed_calls c) = calls_complete h c
   form_complete (in_transformed h) (transformed_calls c) = calls_complete h c
   form_complete (in_switching h) (switch_calls c) = calls_complete h c
-  form_complete (in_keeping {ds = ds} h k) (source_calls c) = has_left ds (calls_complete h c)
-  form_complete (in_keeping {cs = cs} h k) (observer_calls c) = has_right cs (calls_complete k c)
+  form_complete (in_continuing {ds = ds} h k) (source_calls c) = has_left ds (calls_complete h c)
+  form_complete (in_continuing {cs = cs} h k) (observer_calls c) = has_right cs (calls_complete k c)
   form_complete (in_gathered h) (gathered_calls c) = members_complete h c
   form_complete (in_releasing {ds = ds} h k) (members_call c) = has_left ds (members_complete h c)
   form_complete (in_releasing {cs = cs} h k) (their_observer_calls c) = has_right cs (calls_complete k c)
@@ -199,7 +199,7 @@ mutual
 -- ## They are there
 
 node_below : (p : Program) (t : TermId) → TermPartsBelow p (term_node_at p t) (term_number t)
-unfolding term_node_at term_entry_of
+unfolding term_node_at program_entry
 node_below p t = parts_below p t
 
 abbrev Listed : Program → TermId → Type 0
@@ -224,7 +224,7 @@ arguments_listed p n part (arguments.Process t ∷ vs) h =
     (own.0 ++ rest.0, in_process own.1 rest.1)
 arguments_listed p n part (arguments.Collection c ∷ vs) h =
     let rest = arguments_listed p n part vs (λ k d l. h (suc k) d (omega arith)) in
-    let own = members_listed p n part (collection_under p c) (h zero (arguments.Collection c) (omega arith)) in
+    let own = members_listed p n part (collection_node p c) (h zero (arguments.Collection c) (omega arith)) in
     (own.0 ++ rest.0, in_collection own.1 rest.1)
 
 listed_within : (p : Program) (fuel : ℕ) (t : TermId) → term_number t < fuel → Listed p t
@@ -236,16 +236,16 @@ listed_within p (suc fuel) t h =
     by : (n : Node) → TermPartsBelow p n (term_number t) → ((j : TermId) → term_number j < term_number t → Listed p j) → (cs : List PlacedCall) × FormCalls p (term_spot_at p t) n cs
     by (nodes.Primitive q) b part = ([], in_primitive)
     by (nodes.Named w k n) b part = ([], in_named)
-    by (nodes.Call k a) b part = let vs = arguments_listed p (term_number t) part (arguments_under p a) b in (record { name = name_at (expressions_of p) k; spot = term_spot_at p t } ∷ vs.0, in_call vs.1)
+    by (nodes.Call k a) b part = let vs = arguments_listed p (term_number t) part (argument_nodes p a) b in (record { name = name_at (program_expressions p) k; spot = term_spot_at p t } ∷ vs.0, in_call vs.1)
     by (nodes.Joined j f g) b part = let l = part f b.0 in let r = part g b.1 in (l.0 ++ r.0, in_joined l.1 r.1)
     by (nodes.Sided d f) b part = let l = part f b in (l.0, in_sided l.1)
     by (nodes.Headed w e f) b part = let l = part f b in (l.0, in_headed l.1)
     by (nodes.Transformed g f) b part = let l = part f b in (l.0, in_transformed l.1)
     by (nodes.Switching n) b part = let l = part n.source b.0 in (l.0, in_switching l.1)
-    by (nodes.Keeping n) b part = let l = part n.source b.0 in let r = part n.observer b.1 in (l.0 ++ r.0, in_keeping l.1 r.1)
-    by (nodes.Gathered c) b part = let l = members_listed p (term_number t) part (collection_under p c) b in (l.0, in_gathered l.1)
-    by (nodes.Releasing n) b part = let l = members_listed p (term_number t) part (collection_under p n.members) b.0 in let r = part n.observer b.1 in (l.0 ++ r.0, in_releasing l.1 r.1)
-    by (nodes.Editing n) b part = let l = members_listed p (term_number t) part (collection_under p n.members) b.0 in (l.0, in_editing l.1)
+    by (nodes.Continuation n) b part = let l = part n.source b.0 in let r = part n.observer b.1 in (l.0 ++ r.0, in_continuing l.1 r.1)
+    by (nodes.Gathered c) b part = let l = members_listed p (term_number t) part (collection_node p c) b in (l.0, in_gathered l.1)
+    by (nodes.Releasing n) b part = let l = members_listed p (term_number t) part (collection_node p n.members) b.0 in let r = part n.observer b.1 in (l.0 ++ r.0, in_releasing l.1 r.1)
+    by (nodes.Editing n) b part = let l = members_listed p (term_number t) part (collection_node p n.members) b.0 in (l.0, in_editing l.1)
 
 pub calls_listed : (p : Program) (t : TermId) → (cs : List PlacedCall) × CallsInOrder p t cs
 calls_listed p t = listed_within p (suc (term_number t)) t (omega arith)
@@ -270,5 +270,5 @@ argument_more {p} v es last (in_collection {c = c} {vs = vs} {cs = cs} {ds = ds}
 pub process_more : {p : Program} {vs : List Argument} {cs ds : List PlacedCall} {t : TermId} → ArgumentCalls p vs cs → CallsInOrder p t ds → ArgumentCalls p (vs ++ arguments.Process t ∷ []) (cs ++ ds)
 process_more {p} {ds = ds} {t = t} h i = argument_more (arguments.Process t) ds (subst (ArgumentCalls p (arguments.Process t ∷ [])) (append-nil ds) (in_process i in_none)) h
 
-pub collection_more : {p : Program} {vs : List Argument} {cs ds : List PlacedCall} (c : CollectionId) → ArgumentCalls p vs cs → MemberCalls p (collection_under p c) ds → ArgumentCalls p (vs ++ arguments.Collection c ∷ []) (cs ++ ds)
+pub collection_more : {p : Program} {vs : List Argument} {cs ds : List PlacedCall} (c : CollectionId) → ArgumentCalls p vs cs → MemberCalls p (collection_node p c) ds → ArgumentCalls p (vs ++ arguments.Collection c ∷ []) (cs ++ ds)
 collection_more {p} {ds = ds} c h i = argument_more (arguments.Collection c) ds (subst (ArgumentCalls p (arguments.Collection c ∷ [])) (append-nil ds) (in_collection i in_none)) h

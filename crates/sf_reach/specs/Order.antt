@@ -17,7 +17,7 @@ use Rattle.sf_term.specs.declared.node.Argument.{Argument}
 use Rattle.sf_term.specs.declared.node.Argument.TheVariants as arguments
 use Rattle.sf_term.specs.declared.node.Primitive.{Primitive}
 use Rattle.sf_term.specs.declared.node.Switch.{Switch}
-use Rattle.sf_term.specs.declared.node.Keeping.{Keeping}
+use Rattle.sf_term.specs.declared.node.Continuation.{Continuation}
 use Rattle.sf_term.specs.declared.node.Releasing.{Releasing}
 use Rattle.sf_term.specs.declared.node.Editing.{Editing}
 use Rattle.sf_term.specs.declared.node.Node.{Node}
@@ -26,7 +26,7 @@ use Rattle.sf_term.specs.declared.collection.CollectionId.{CollectionId}
 use Rattle.sf_term.specs.declared.collection.CollExpr.{CollExpr}
 use Rattle.sf_term.specs.declared.collection.CollExpr.TheVariants as collections
 use Rattle.sf_term.specs.declared.program.Program.{Program}
-use Rattle.sf_term.specs.Arena.{term_node_at, term_spot_at, expressions_of, arguments_under, collection_under}
+use Rattle.sf_term.specs.Arena.{term_node_at, term_spot_at, program_expressions, argument_nodes, collection_node}
 
 -- A call: the name of the template that is called, and where that name stands in the text.
 pub record PlacedCall : Type 0 where
@@ -43,18 +43,18 @@ mutual
   pub data FormCalls (p : Program) : Spot → Node → List PlacedCall → Type 0 where
     in_primitive : {s : Spot} {q : Primitive} → FormCalls p s (nodes.Primitive q) []
     in_named : {s n : Spot} {w : Naming} {k : NameId} → FormCalls p s (nodes.Named w k n) []
-    in_call : {s : Spot} {k : NameId} {a : ArgumentsId} {cs : List PlacedCall} → ArgumentCalls p (arguments_under p a) cs
-        → FormCalls p s (nodes.Call k a) (record { name = name_at (expressions_of p) k; spot = s } ∷ cs)
+    in_call : {s : Spot} {k : NameId} {a : ArgumentsId} {cs : List PlacedCall} → ArgumentCalls p (argument_nodes p a) cs
+        → FormCalls p s (nodes.Call k a) (record { name = name_at (program_expressions p) k; spot = s } ∷ cs)
     in_joined : {s : Spot} {j : Join} {f g : TermId} {cs ds : List PlacedCall} → CallsInOrder p f cs → CallsInOrder p g ds → FormCalls p s (nodes.Joined j f g) (cs ++ ds)
     in_sided : {s : Spot} {d : Side} {f : TermId} {cs : List PlacedCall} → CallsInOrder p f cs → FormCalls p s (nodes.Sided d f) cs
     in_headed : {s : Spot} {w : Heading} {e : ExprId} {f : TermId} {cs : List PlacedCall} → CallsInOrder p f cs → FormCalls p s (nodes.Headed w e f) cs
     in_transformed : {s : Spot} {g : FunctionId} {f : TermId} {cs : List PlacedCall} → CallsInOrder p f cs → FormCalls p s (nodes.Transformed g f) cs
     in_switching : {s : Spot} {n : Switch} {cs : List PlacedCall} → CallsInOrder p n.source cs → FormCalls p s (nodes.Switching n) cs
-    in_keeping : {s : Spot} {n : Keeping} {cs ds : List PlacedCall}
-        → CallsInOrder p n.source cs → CallsInOrder p n.observer ds → FormCalls p s (nodes.Keeping n) (cs ++ ds)
-    in_gathered : {s : Spot} {c : CollectionId} {cs : List PlacedCall} → MemberCalls p (collection_under p c) cs → FormCalls p s (nodes.Gathered c) cs
-    in_releasing : {s : Spot} {r : Releasing} {cs ds : List PlacedCall} → MemberCalls p (collection_under p r.members) cs → CallsInOrder p r.observer ds → FormCalls p s (nodes.Releasing r) (cs ++ ds)
-    in_editing : {s : Spot} {r : Editing} {cs : List PlacedCall} → MemberCalls p (collection_under p r.members) cs → FormCalls p s (nodes.Editing r) cs
+    in_continuing : {s : Spot} {n : Continuation} {cs ds : List PlacedCall}
+        → CallsInOrder p n.source cs → CallsInOrder p n.observer ds → FormCalls p s (nodes.Continuation n) (cs ++ ds)
+    in_gathered : {s : Spot} {c : CollectionId} {cs : List PlacedCall} → MemberCalls p (collection_node p c) cs → FormCalls p s (nodes.Gathered c) cs
+    in_releasing : {s : Spot} {r : Releasing} {cs ds : List PlacedCall} → MemberCalls p (collection_node p r.members) cs → CallsInOrder p r.observer ds → FormCalls p s (nodes.Releasing r) (cs ++ ds)
+    in_editing : {s : Spot} {r : Editing} {cs : List PlacedCall} → MemberCalls p (collection_node p r.members) cs → FormCalls p s (nodes.Editing r) cs
 
   -- the same in a collection
   pub data MemberCalls (p : Program) : CollExpr → List PlacedCall → Type 0 where
@@ -70,4 +70,4 @@ mutual
     in_none : ArgumentCalls p [] []
     past_value : {e : ExprId} {vs : List Argument} {cs : List PlacedCall} → ArgumentCalls p vs cs → ArgumentCalls p (arguments.Value e ∷ vs) cs
     in_process : {t : TermId} {vs : List Argument} {cs ds : List PlacedCall} → CallsInOrder p t cs → ArgumentCalls p vs ds → ArgumentCalls p (arguments.Process t ∷ vs) (cs ++ ds)
-    in_collection : {c : CollectionId} {vs : List Argument} {cs ds : List PlacedCall} → MemberCalls p (collection_under p c) cs → ArgumentCalls p vs ds → ArgumentCalls p (arguments.Collection c ∷ vs) (cs ++ ds)
+    in_collection : {c : CollectionId} {vs : List Argument} {cs ds : List PlacedCall} → MemberCalls p (collection_node p c) cs → ArgumentCalls p vs ds → ArgumentCalls p (arguments.Collection c ∷ vs) (cs ++ ds)

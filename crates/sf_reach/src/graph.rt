@@ -1,7 +1,7 @@
 //! The calls in templates.
 ghost use Rattle.std.specs.Prelude.{◌≡◌, ◌≤◌, IfOk, OnOk, All};
 ghost use Rattle.sf_term.specs.Trees.{collection_depth, arguments_depth};
-ghost use Rattle.sf_term.specs.Arena.{ArgumentBelow, CollectionBelow, arguments_of, collection_of, collection_under, term_number};
+ghost use Rattle.sf_term.specs.Arena.{ArgumentBelow, CollectionBelow, arguments_of, collection_of, collection_node, term_number};
 ghost use Rattle.sf_reach.specs.Names.{names_of_set, program_names};
 ghost use Rattle.sf_reach.specs.Graphs.{AddsCalls, AddsMemberCalls, AddsArgumentCalls, IsGraphOf, StaysWithin};
 
@@ -71,7 +71,7 @@ fn gather(
             gather(program, names, second, calls)
         }
         Node::Switching(form) => gather(program, names, form.source, calls),
-        Node::Keeping(form) => {
+        Node::Continuation(form) => {
             gather(program, names, form.source, calls)?;
             gather(program, names, form.observer, calls)
         }
@@ -94,9 +94,9 @@ fn gather_at(
     calls: &mut Vec<Call>,
 ) -> Result<(), AllocError>
     requires names { names_of_set names.now ≡ program_names program.now }
-    requires below { CollectionBelow (term_number form) (collection_under program.now members) }
-    requires shallow { collection_depth (collection_of program.now (collection_under program.now members)) ≤ 64 }
-    ensures { OnOk result (AddsMemberCalls program.now (collection_under program.now members) calls.old.items calls.new.items) }
+    requires below { CollectionBelow (term_number form) (collection_node program.now members) }
+    requires shallow { collection_depth (collection_of program.now (collection_node program.now members)) ≤ 64 }
+    ensures { OnOk result (AddsMemberCalls program.now (collection_node program.now members) calls.old.items calls.new.items) }
 {
     match program.collection(members) {
         Some(collection) => gather_members(program, names, form, collection, calls),

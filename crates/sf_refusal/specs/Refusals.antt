@@ -17,46 +17,46 @@ abbrev pub spot_text : Spot → List ℕ
 spot_text s = decimal s.line ++ 58 ∷ decimal s.column
 
 -- the number of a rule
-abbrev pub number_of : Rule → List ℕ
-number_of BadByte = codes "L1"
-number_of NumberTooLarge = codes "L2"
-number_of OpenText = codes "L3"
-number_of TooLong = codes "L4"
-number_of Unexpected = codes "P1"
-number_of TooDeep = codes "P2"
-number_of Version = codes "P3"
-number_of WrittenTypeTooLarge = codes "P4"
-number_of TooMany = codes "B1"
-number_of UnknownName = codes "C1"
-number_of DuplicateName = codes "C2"
-number_of Arity = codes "C3"
-number_of Mismatch = codes "C4"
-number_of BarePre = codes "C5"
-number_of Endless = codes "C6"
-number_of NoMain = codes "C7"
-number_of BadConstant = codes "C8"
-number_of TypeTooLarge = codes "C9"
+abbrev pub rule_number : Rule → List ℕ
+rule_number BadByte = codes "L1"
+rule_number NumberTooLarge = codes "L2"
+rule_number OpenText = codes "L3"
+rule_number TooLong = codes "L4"
+rule_number Unexpected = codes "P1"
+rule_number TooDeep = codes "P2"
+rule_number Version = codes "P3"
+rule_number WrittenTypeTooLarge = codes "P4"
+rule_number TooMany = codes "B1"
+rule_number UnknownName = codes "C1"
+rule_number DuplicateName = codes "C2"
+rule_number Arity = codes "C3"
+rule_number Mismatch = codes "C4"
+rule_number BarePre = codes "C5"
+rule_number Endless = codes "C6"
+rule_number NoMain = codes "C7"
+rule_number BadConstant = codes "C8"
+rule_number TypeTooLarge = codes "C9"
 
 -- the name of a rule
-abbrev pub name_of : Rule → List ℕ
-name_of BadByte = codes "BadByte"
-name_of NumberTooLarge = codes "NumberTooLarge"
-name_of OpenText = codes "OpenText"
-name_of TooLong = codes "TooLong"
-name_of Unexpected = codes "Unexpected"
-name_of TooDeep = codes "TooDeep"
-name_of Version = codes "Version"
-name_of WrittenTypeTooLarge = codes "TypeTooLarge"
-name_of TooMany = codes "TooMany"
-name_of UnknownName = codes "UnknownName"
-name_of DuplicateName = codes "DuplicateName"
-name_of Arity = codes "Arity"
-name_of Mismatch = codes "Mismatch"
-name_of BarePre = codes "BarePre"
-name_of Endless = codes "Endless"
-name_of NoMain = codes "NoMain"
-name_of BadConstant = codes "BadConstant"
-name_of TypeTooLarge = codes "TypeTooLarge"
+abbrev pub rule_name : Rule → List ℕ
+rule_name BadByte = codes "BadByte"
+rule_name NumberTooLarge = codes "NumberTooLarge"
+rule_name OpenText = codes "OpenText"
+rule_name TooLong = codes "TooLong"
+rule_name Unexpected = codes "Unexpected"
+rule_name TooDeep = codes "TooDeep"
+rule_name Version = codes "Version"
+rule_name WrittenTypeTooLarge = codes "TypeTooLarge"
+rule_name TooMany = codes "TooMany"
+rule_name UnknownName = codes "UnknownName"
+rule_name DuplicateName = codes "DuplicateName"
+rule_name Arity = codes "Arity"
+rule_name Mismatch = codes "Mismatch"
+rule_name BarePre = codes "BarePre"
+rule_name Endless = codes "Endless"
+rule_name NoMain = codes "NoMain"
+rule_name BadConstant = codes "BadConstant"
+rule_name TypeTooLarge = codes "TypeTooLarge"
 
 -- the breach of a rule at a place
 abbrev pub breach_of : Rule → Spot → Breach
@@ -73,7 +73,7 @@ pub data OrMemory (explained : Breach → Type 0) : Refusal → Type 0 where
 
 -- a rule that is broken is told as `NUMBER NAME LINE:COLUMN`
 abbrev pub breach_text : Breach → List ℕ
-breach_text b = number_of b.rule ++ 32 ∷ (name_of b.rule ++ 32 ∷ spot_text b.spot)
+breach_text b = rule_number b.rule ++ 32 ∷ (rule_name b.rule ++ 32 ∷ spot_text b.spot)
 
 -- a refusal is told as the rule that is broken, or as `Memory`
 abbrev pub refusal_text : Refusal → List ℕ

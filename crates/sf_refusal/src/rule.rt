@@ -1,6 +1,6 @@
 //! The rules that a network's text can break.
 ghost use Rattle.std.specs.Prelude.{◌≡◌};
-ghost use Rattle.sf_refusal.specs.Refusals.{number_of, name_of};
+ghost use Rattle.sf_refusal.specs.Refusals.{rule_number, rule_name};
 
 /// A rule that the text of a network can break. Each has a number and a name.
 #[derive(Clone, Copy, Debug, PartialEq, Eq)]
@@ -46,7 +46,7 @@ pub enum Rule {
 impl Rule {
     /// The number of the rule, as `P1`.
     pub fn number(self) -> &'static str
-        ensures { result.now ≡ number_of self }
+        ensures { result.now ≡ rule_number self }
     {
         match self {
             Rule::BadByte => "L1",
@@ -72,7 +72,7 @@ impl Rule {
 
     /// The name of the rule, as `Unexpected`.
     pub fn name(self) -> &'static str
-        ensures { result.now ≡ name_of self }
+        ensures { result.now ≡ rule_name self }
     {
         match self {
             Rule::BadByte => "BadByte",

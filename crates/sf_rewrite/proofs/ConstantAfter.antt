@@ -6,7 +6,7 @@ use Rattle.sf_term.specs.declared.form.WithValue.TheVariants.{Constant}
 use Rattle.sf_term.specs.Trees.{Extent, with_value, Term, staged}
 use Rattle.sf_mean.specs.Lives.{scope_around, relay}
 use Rattle.sf_mean.specs.Formulas.{formula}
-use Rattle.sf_mean.specs.Meaning.{Outcome, gave, combined, value_in, as_outcome, Cost, both_costs, over_stages, one_term, text_cost}
+use Rattle.sf_mean.specs.Meaning.{Outcome, gave, combined, outcome_value, as_outcome, Cost, both_costs, over_stages, one_term, text_cost}
 use Rattle.sf_rewrite.specs.Quiet.{is_quiet}
 use Rattle.sf_rewrite.specs.Laws.{constant}
 use Rattle.sf_rewrite.proofs.Parts.{Leaves, At, at_primitive, OneLeaf, once_at}
@@ -23,7 +23,7 @@ module _ (Q : Leaves) (one : OneLeaf Q) where
       go : {o : Outcome} {c : Cost} → Chained Q x f (constant i) e s L zs o c → Lowered true (At Q (constant i) e s L o) c
       go (chained {ys = ys} {p = p} {q = q} {c = a} {d = b} A B C D) =
           let k = quiet_gave Q one h A C in
-          let N : Outcome → Type 0 = λ p. Along Q p (constant i) e (with_input s (value_in p)) (relay L ys) q b in
+          let N : Outcome → Type 0 = λ p. Along Q p (constant i) e (with_input s (outcome_value p)) (relay L ys) q b in
           finish k.0 (subst N k.1 D) (ap (λ p. combined later p q) k.1 ∙ after_value k.0 q)
         where
           finish : (y : Data) → Along Q (gave y []) (constant i) e (with_input s y) (relay L ys) q b → combined later p q ≡ q → Lowered true (At Q (constant i) e s L (combined later p q)) (over_stages x (both_costs a b))

@@ -5,7 +5,7 @@ use Rattle.sf_value.specs.declared.fault.ValueFault.{ValueFault}
 use Rattle.sf_term.specs.declared.form.Join.TheVariants.{InParallel}
 use Rattle.sf_term.specs.Trees.{whole, Term, joined, staged}
 use Rattle.sf_mean.specs.Lives.{Step, step, wait_of, input_of, Life, Environment, with_inputs, relay}
-use Rattle.sf_mean.specs.Meaning.{Readings, Outcome, gave, faulted, combined, value_in, Cost, count, height, both_costs, over, text_cost}
+use Rattle.sf_mean.specs.Meaning.{Readings, Outcome, gave, faulted, combined, outcome_value, Cost, count, height, both_costs, over, text_cost}
 use Rattle.sf_rewrite.specs.Quiet.{is_quiet}
 use Rattle.sf_rewrite.proofs.Parts.{Leaves, Parts, begins, then_gave, At, OneLeaf}
 use Rattle.sf_rewrite.proofs.Views.{Along, goes, stays, later, pairs, with_input, Chained, chained, Paired, paired, join_stages, make_stages, split_stages, view_stages, join_parallel, make_parallel, split_parallel, view_parallel}
@@ -59,7 +59,7 @@ module _ (Q : Leaves) (one : OneLeaf Q) where
   pub sound_exchanged : {f g h k : Term} → OneQuiet g h → Sound Q one true (staged whole (joined InParallel f g) (joined InParallel h k)) (joined InParallel (staged whole f h) (staged whole g k))
   sound_exchanged {f} {g} {h} {k} quiet e s L zs o c P F = outer (view_stages Q one P F)
     where
-      middle : {ys zs : List Data} {p q : Outcome} {a b : Cost} → Paired Q f g e s L ys p a → Parts Q (joined InParallel h k) e (relay L ys) zs → Along Q p (joined InParallel h k) e (with_input s (value_in p)) (relay L ys) q b
+      middle : {ys zs : List Data} {p q : Outcome} {a b : Cost} → Paired Q f g e s L ys p a → Parts Q (joined InParallel h k) e (relay L ys) zs → Along Q p (joined InParallel h k) e (with_input s (outcome_value p)) (relay L ys) q b
           → Made true (joined InParallel (staged whole f h) (staged whole g k)) e s L (combined later p q) (over (both_costs a b))
       middle {zs = zs} {q = q} {b = b} (paired {ys = xs} {zs = bs} {p = p1} {q = p2} {c = c1} {d = c2} A-one B-one C-one D-one) B D = inner p1 p2 C-one D-one D
         where
@@ -101,7 +101,7 @@ module _ (Q : Leaves) (one : OneLeaf Q) where
           ]
 
           inner : {c1 c2 b : Cost} {q : Outcome} (p1 p2 : Outcome) → At Q f e (with_input s (first_of (input_of s))) (with_inputs first_of L) p1 c1 → Along Q p1 g e (with_input s (second_of (input_of s))) (with_inputs second_of L) p2 c2
-              → Along Q (combined pair p1 p2) (joined InParallel h k) e (with_input s (value_in (combined pair p1 p2))) (relay L (pairs xs bs)) q b
+              → Along Q (combined pair p1 p2) (joined InParallel h k) e (with_input s (outcome_value (combined pair p1 p2))) (relay L (pairs xs bs)) q b
               → Made true (joined InParallel (staged whole f h) (staged whole g k)) e s L (combined later (combined pair p1 p2) q) (over (both_costs (over (both_costs c1 c2)) b))
           inner {c1} {c2} (gave a r1) (gave b r2) C-one (goes E-one) (goes E) = seen (view_parallel Q one B E)
             where

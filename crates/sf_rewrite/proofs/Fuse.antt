@@ -5,10 +5,11 @@ use Rattle.sf_expr.specs.Expressions.{Function}
 use Rattle.sf_expr.specs.Evaluation.{Evaluated, answer, failed, ◌>>=◌}
 use Rattle.sf_term.specs.declared.form.Join.TheVariants.{InParallel, FannedOut}
 use Rattle.sf_term.specs.declared.form.Side.{Side}
-use Rattle.sf_term.specs.Trees.{Chain, lone, chained as chained_functions, on_side, on_both, fanned as fanned_functions, arrow, Extent, whole, rest, primitive, joined, sided, staged}
+use Rattle.sf_term.specs.Trees.{Chain, lone, on_side, on_both, arrow, Extent, whole, rest, primitive, joined, sided, staged}
+use Rattle.sf_term.specs.Trees
 use Rattle.sf_mean.specs.Lives.{Step, input_of, Life, Environment, scope_around, with_inputs, relay}
-use Rattle.sf_mean.specs.Formulas.{side_of, with_side, apply_chain}
-use Rattle.sf_mean.specs.Meaning.{Outcome, gave, changed, combined, value_in, as_outcome, Cost, count, height, both_costs, over, over_stages, one_term}
+use Rattle.sf_mean.specs.Formulas.{side_of, side_replaced, apply_chain}
+use Rattle.sf_mean.specs.Meaning.{Outcome, gave, changed, combined, outcome_value, as_outcome, Cost, count, height, both_costs, over, over_stages, one_term}
 use Rattle.sf_rewrite.specs.Laws.{arr}
 use Rattle.sf_rewrite.proofs.Parts.{Leaves, At, at_leaf, at_primitive, no_truth, OneLeaf, once_at}
 use Rattle.sf_rewrite.proofs.Views.{Along, goes, stays, later, pairs, with_input, Chained, chained, Paired, paired, Fanned, fanned, Sided, seen_side, view_stages, view_parallel, view_fan, view_side}
@@ -46,27 +47,27 @@ module _ (Q : Leaves) (one : OneLeaf Q) where
 
   -- ## One after another
 
-  chained_along : {g : Chain} {e : Environment} (s : Step) {M : Life} {q : Outcome} {b : Cost} (v : Evaluated Data) → Along Q (as_outcome v []) (arr g) e (with_input s (value_in (as_outcome v []))) M q b
+  chained_along : {g : Chain} {e : Environment} (s : Step) {M : Life} {q : Outcome} {b : Cost} (v : Evaluated Data) → Along Q (as_outcome v []) (arr g) e (with_input s (outcome_value (as_outcome v []))) M q b
       → combined later (as_outcome v []) q ≡ as_outcome (v >>= λ y. apply_chain g y (scope_around Q.functions e)) []
   chained_along {g} {e} s (answer y) (goes D) = ap (combined later (gave y [])) (once_at Q one D at_primitive).0 ∙ after_value y (as_outcome (apply_chain g y (scope_around Q.functions e)) [])
   chained_along s (failed x) stays = refl
 
-  pub sound_arr_composed : {x : Extent} {f g : Chain} → Sound Q one true (staged x (arr f) (arr g)) (arr (chained_functions f g))
+  pub sound_arr_composed : {x : Extent} {f g : Chain} → Sound Q one true (staged x (arr f) (arr g)) (arr (Trees.chained f g))
   sound_arr_composed {x} {f} {g} e s L zs o c P B = go (view_stages Q one P B)
     where
-      go : {o : Outcome} {c : Cost} → Chained Q x (arr f) (arr g) e s L zs o c → Lowered true (At Q (arr (chained_functions f g)) e s L o) c
+      go : {o : Outcome} {c : Cost} → Chained Q x (arr f) (arr g) e s L zs o c → Lowered true (At Q (arr (Trees.chained f g)) e s L o) c
       go (chained {ys = ys} {p = p} {q = q} {c = a} {d = b} A B C D) =
           let r = once_at Q one C at_primitive in
           let v = apply_chain f (input_of s) (scope_around Q.functions e) in
-          let N : Outcome → Type 0 = λ p. Along Q p (arr g) e (with_input s (value_in p)) (relay L ys) q b in
-          let M : Outcome → Type 0 = λ o. At Q (arr (chained_functions f g)) e s L o one_term in
+          let N : Outcome → Type 0 = λ p. Along Q p (arr g) e (with_input s (outcome_value p)) (relay L ys) q b in
+          let M : Outcome → Type 0 = λ o. At Q (arr (Trees.chained f g)) e s L o one_term in
           let h : combined later p q ≡ as_outcome (v >>= λ y. apply_chain g y (scope_around Q.functions e)) [] = ap (λ p. combined later p q) r.0 ∙ chained_along s v (subst N r.0 D) in
           lowered (subst M (sym h) at_primitive) (below_one x a b r.1)
 
-  pub back_arr_composed : {x : Extent} {f g : Chain} → Sound Q one false (arr (chained_functions f g)) (staged x (arr f) (arr g))
+  pub back_arr_composed : {x : Extent} {f g : Chain} → Sound Q one false (arr (Trees.chained f g)) (staged x (arr f) (arr g))
   back_arr_composed {x} {f} {g} = rebuilt_stages Q one go
     where
-      go : RebuildsStages Q one false x (arr (chained_functions f g)) (arr f) (arr g)
+      go : RebuildsStages Q one false x (arr (Trees.chained f g)) (arr f) (arr g)
       go e s L ys zs o c A B P F = made (apply_chain f (input_of s) (scope_around Q.functions e)) refl
         where
           made : (v : Evaluated Data) → apply_chain f (input_of s) (scope_around Q.functions e) ≡ v → Lowered false (Chained Q x (arr f) (arr g) e s L zs o) c
@@ -91,7 +92,7 @@ module _ (Q : Leaves) (one : OneLeaf Q) where
           let r = once_at Q one C at_primitive in
           let v = apply_chain f (side_of a (input_of s)) (scope_around Q.functions e) in
           let M : Outcome → Type 0 = λ o. At Q (arr (on_side a f)) e s L o one_term in
-          let h = ap (changed (with_side a (input_of s))) r.0 ∙ changed_answer (with_side a (input_of s)) v in
+          let h = ap (changed (side_replaced a (input_of s))) r.0 ∙ changed_answer (side_replaced a (input_of s)) v in
           let x : count b ≡ 1 = ap count r.1 in
           let y : height b ≡ 1 = ap height r.1 in
           lowered (subst M (sym h) at_primitive) (below (omega (arith, x)) (omega (arith, y)))
@@ -103,7 +104,7 @@ module _ (Q : Leaves) (one : OneLeaf Q) where
       go e s L us o c A F =
           let v = apply_chain f (side_of a (input_of s)) (scope_around Q.functions e) in
           let M : Outcome → Type 0 = λ o. Sided Q a (arr f) e s L o (over one_term) in
-          lowered (subst M (changed_answer (with_side a (input_of s)) v ∙ sym (once_at Q one F at_primitive).0) (seen_side A at_primitive)) (below_any _ _)
+          lowered (subst M (changed_answer (side_replaced a (input_of s)) v ∙ sym (once_at Q one F at_primitive).0) (seen_side A at_primitive)) (below_any _ _)
 
   -- ## Side by side
 
@@ -143,22 +144,22 @@ module _ (Q : Leaves) (one : OneLeaf Q) where
                 lowered (subst M (h ∙ sym (once_at Q one F at_primitive).0) (paired A B at_primitive D)) (below_any _ _)
           ]
 
-  pub sound_arr_fanned_out : {f g : Chain} → Sound Q one true (joined FannedOut (arr f) (arr g)) (arr (fanned_functions f g))
+  pub sound_arr_fanned_out : {f g : Chain} → Sound Q one true (joined FannedOut (arr f) (arr g)) (arr (Trees.fanned f g))
   sound_arr_fanned_out {f} {g} e s L zs o c P B = go (view_fan Q one P B)
     where
-      go : {o : Outcome} {c : Cost} → Fanned Q (arr f) (arr g) e s L o c → Lowered true (At Q (arr (fanned_functions f g)) e s L o) c
+      go : {o : Outcome} {c : Cost} → Fanned Q (arr f) (arr g) e s L o c → Lowered true (At Q (arr (Trees.fanned f g)) e s L o) c
       go (fanned {p = p} {q = q} {c = a} {d = b} A B C D) =
           let r = once_at Q one C at_primitive in
           let v = apply_chain f (input_of s) (scope_around Q.functions e) in
           let N : Outcome → Type 0 = λ p. Along Q p (arr g) e s L q b in
-          let M : Outcome → Type 0 = λ o. At Q (arr (fanned_functions f g)) e s L o one_term in
+          let M : Outcome → Type 0 = λ o. At Q (arr (Trees.fanned f g)) e s L o one_term in
           let h = ap (λ p. combined pair p q) r.0 ∙ paired_along v (subst N r.0 D) in
           lowered (subst M (sym h) at_primitive) (below_one whole a b r.1)
 
-  pub back_arr_fanned_out : {f g : Chain} → Sound Q one false (arr (fanned_functions f g)) (joined FannedOut (arr f) (arr g))
+  pub back_arr_fanned_out : {f g : Chain} → Sound Q one false (arr (Trees.fanned f g)) (joined FannedOut (arr f) (arr g))
   back_arr_fanned_out {f} {g} = rebuilt_fan Q one go
     where
-      go : RebuildsFan Q one false (arr (fanned_functions f g)) (arr f) (arr g)
+      go : RebuildsFan Q one false (arr (Trees.fanned f g)) (arr f) (arr g)
       go e s L ys zs o c A B F =
           elim (both_of g e s L (apply_chain f (input_of s) (scope_around Q.functions e))) [
             | both_made D h ↦

@@ -8,7 +8,7 @@ use Rattle.sf_expr.specs.Evaluation.{answer, eval}
 use Rattle.sf_term.specs.declared.form.Side.TheVariants.{First}
 use Rattle.sf_term.specs.Trees.{whole, Term, sided, staged}
 use Rattle.sf_mean.specs.Lives.{Step, step, wait_of, input_of, Life, Environment, scope_around, with_inputs, relay, fed_back, older, fed}
-use Rattle.sf_mean.specs.Meaning.{Readings, Outcome, gave, faulted, changed, combined, value_in, Cost, both_costs, over, text_cost}
+use Rattle.sf_mean.specs.Meaning.{Readings, Outcome, gave, faulted, changed, combined, outcome_value, Cost, both_costs, over, text_cost}
 use Rattle.sf_rewrite.specs.Quiet.{is_quiet_expression, is_quiet}
 use Rattle.sf_rewrite.specs.Laws.{loop_pre}
 use Rattle.sf_rewrite.proofs.Parts.{Leaves, Part, part, Parts, begins, then_gave, At, at_leaf, at_loop, at_constant, Rounds, no_round, one_round, the_answer, no_fault, no_truth, OneLeaf}
@@ -72,7 +72,7 @@ module _ (Q : Leaves) (one : OneLeaf Q) where
         moved {p} {c} C = let N : Step → Life → Type 0 = λ s M. At Q f e s M p c in subst₂ N (same_step s) (fed_firsts v L (older zs)) C
 
         seen : {p q : Outcome} {c d : Cost} → Sided Q First f e (step (wait_of s) (pair (input_of s) (fed_back v zs))) (fed v L (older zs)) p c
-            → Along Q p g e (with_input (step (wait_of s) (pair (input_of s) (fed_back v zs))) (value_in p)) (relay (fed v L (older zs)) ys) q d → Before s L us zs (combined later p q) (over (both_costs c d))
+            → Along Q p g e (with_input (step (wait_of s) (pair (input_of s) (fed_back v zs))) (outcome_value p)) (relay (fed v L (older zs)) ys) q d → Before s L us zs (combined later p q) (over (both_costs c d))
         seen {q = q} {d = d} (seen_side {o = gave u r} A' C) (goes D) =
             let N : Life → Type 0 = λ M. At Q g e (step (wait_of s) (pair u (fed_back v zs))) M q d in
             goes_before (pair u (fed_back v zs)) (moved C) (part (rounds_parts Q one R) (subst N er D))
@@ -84,7 +84,7 @@ module _ (Q : Leaves) (one : OneLeaf Q) where
     last_before : {s : Step} {L : Life} {us zs : List Data} {o : Outcome} {c : Cost} → Parts Q f e L us → Rounds Q v g e (relay L us) zs → Before s L us zs o c → (z : Data) (r : Readings) → o ≡ gave z r → Split (s ∷ L) (z ∷ zs)
     last_before {s} {L} {us} {zs} F R (goes_before y {u = u} {o = gave w q} {d = d} C G) z r h =
         let N : Data → Type 0 = λ z. Part Q g e (fed v (with_input s u ∷ relay L us) zs) (gave z q) d in
-        split (then_gave F C) (one_round R (subst N (ap value_in h) G))
+        split (then_gave F C) (one_round R (subst N (ap outcome_value h) G))
     last_before F R (goes_before y {o = faulted x} C G) z r h = absurd cc
     last_before F R (stays_before C) z r h = absurd cc
 

@@ -15,13 +15,13 @@ use Rattle.sf_term.specs.declared.form.Observation.{Observation}
 use Rattle.sf_term.specs.declared.form.Start.{Start}
 use Rattle.sf_term.specs.declared.form.Start.TheVariants.{Run, Fresh}
 use Rattle.sf_term.specs.declared.form.Switching.{Switching}
-use Rattle.sf_term.specs.Trees.{Primitive, Term, primitive, Reference, reference, started, call, Arguments, no_arguments, value_argument, process_argument, closed_argument, template_named, joined, sided, headed, transformed, switching, keeping, staged, Template, Templates, collection_argument, gathered, releasing, editing, Collection, without_members, used, added, dropped, kept, chosen}
+use Rattle.sf_term.specs.Trees.{Primitive, Term, primitive, Reference, reference, started, call, Arguments, no_arguments, value_argument, process_argument, closed_argument, template_named, joined, sided, headed, transformed, switching, continuing, staged, Template, Templates, collection_argument, gathered, releasing, editing, Collection, without_members, used, added, dropped, kept, chosen}
 use Rattle.sf_mean.specs.Lives.{Step, wait_of, input_of, Life, Process, closure, resumed, Environment, empty, known, running, passing, process_of, base, process_started, scope_around, bind, after, frozen, first_input, collected, Members, no_members, member, members_of, each_frozen}
 use Rattle.sf_mean.specs.Formulas.{occurring, formula, is_high}
-use Rattle.sf_mean.specs.Meaning.{Network, Readings, Outcome, gave, faulted, as_outcome, answered_by, newest_or, recorded, Cost, no_cost, over, over_first, one_term, text_cost, last_event, Made, process_made, argument_process, argued, process_called, referred, make, entered_cost, arguments_cost, Watched, itself, observed, Takeover, Standing, waits, fired, stands_after, whenever, body_of, body_with, Gives, gives, Outputs, not_begun, and_gave, Sample, of_constants, of_form, of_resumed, Form, of_primitive, of_reference, of_join, of_side, of_loop, of_initialized, of_replaced, of_followed, of_transformed, of_switch, of_keeping, of_recurring, of_stages, what_runs, Next, goes_on, stops, Loops, no_loop, and_looped, Sees, beside_values, by_observer, Since, at_start, watched, had_fired, SwitchTurn, while_waiting, as_body, Switched, after_fault, after_value, Fires, no_event_yet, event_now, combined, both_costs, members_made, collection_cost, body_with_members, event_beside, unless_faulted, without_event, Edit, edit_of, since_edit, edited, which_run, of_gathered, of_releasing, of_editing, Each, no_more, one_more, Others, others_go_on, others_stop, Edited, no_edit, edit_failed, edit_now, observed_members, by_members_observer, Tables, no_tables, and_table}
+use Rattle.sf_mean.specs.Meaning.{Network, Readings, Outcome, gave, faulted, as_outcome, answered_by, newest_or, recorded, Cost, no_cost, over, over_first, one_term, text_cost, last_event, Made, process_made, argument_process, argued, process_called, referred, make, entered_cost, arguments_cost, Watched, itself, observed, Takeover, Standing, waits, fired, stands_after, whenever, body_of, continuing_body, Gives, gives, Outputs, not_begun, and_gave, Sample, of_constants, of_form, of_resumed, Form, of_primitive, of_reference, of_join, of_side, of_loop, of_initialized, of_replaced, of_followed, of_transformed, of_switch, of_continuing, of_recurring, of_stages, what_runs, Next, goes_on, stops, Loops, no_loop, and_looped, Sees, beside_values, by_observer, Since, at_start, watched, had_fired, SwitchTurn, while_waiting, as_body, Switched, after_fault, after_value, Fires, no_event_yet, event_now, combined, both_costs, members_made, collection_cost, body_with_members, event_beside, unless_faulted, without_event, Edit, edit_of, since_edit, edited, which_run, of_gathered, of_releasing, of_editing, Each, no_more, one_more, Others, others_go_on, others_stop, Edited, no_edit, edit_failed, edit_now, observed_members, by_members_observer, Tables, no_tables, and_table}
 use Rattle.sf_value.specs.Keys.{equal_keys}
 use Rattle.sf_operator.specs.FunctionForms.{value_of_key}
-use Rattle.sf_mean.specs.Collections.{as_key, add, drop, keep, collect, with_row}
+use Rattle.sf_mean.specs.Collections.{as_key, add, drop, keep, collect, leading_row}
 use Rattle.sf_mean.proofs.TypedProcesses.{collected_as}
 use Rattle.sf_term.specs.Parameters.{Bindings}
 use Rattle.sf_rewrite.specs.Laws.{Laws, unchanged}
@@ -51,7 +51,7 @@ mutual
     same_heading : {h : Heading} {i : Expression} {t t' : Term} → Alike d t t' → Formed d (headed h i t) (headed h i t')
     same_transformed : {f : Function} {t t' : Term} → Alike d t t' → Formed d (transformed f t) (transformed f t')
     same_switch : {w : Switching} {t t' u u' : Term} {p : Pattern} → Alike d t t' → Alike d u u' → Formed d (switching w t p u) (switching w t' p u')
-    same_keeping : {w : Observation} {t t' q q' u u' : Term} {k : Name} {p : Pattern} → Alike d t t' → Alike d q q' → Alike d u u' → Formed d (keeping w t q k p u) (keeping w t' q' k p u')
+    same_continuing : {w : Observation} {t t' q q' u u' : Term} {k : Name} {p : Pattern} → Alike d t t' → Alike d q q' → Alike d u u' → Formed d (continuing w t q k p u) (continuing w t' q' k p u')
     same_gathered : {i i' : Collection} → AlikeCollection d i i' → Formed d (gathered i) (gathered i')
     same_releasing : {w : Observation} {i i' : Collection} {q q' u u' : Term} {k : Name} {p : Pattern} → AlikeCollection d i i' → Alike d q q' → Alike d u u' → Formed d (releasing w i q k p u) (releasing w i' q' k p u')
     same_editing : {w : Observation} {i i' u u' : Collection} {k : Name} {p : Pattern} → AlikeCollection d i i' → AlikeCollection d u u' → Formed d (editing w i k p u) (editing w i' k p u')
@@ -261,7 +261,7 @@ closed_by (sided a t) e h = refl
 closed_by (headed k i t) e h = refl
 closed_by (transformed f t) e h = refl
 closed_by (switching w t p u) e h = refl
-closed_by (keeping w t q k p u) e h = refl
+closed_by (continuing w t q k p u) e h = refl
 closed_by (gathered i) e h = refl
 closed_by (releasing w i q k p u) e h = refl
 closed_by (editing w i k p u) e h = refl
@@ -376,8 +376,8 @@ alike_after B B' T s L None = alike_waits
 alike_after B B' T s L (Some v) = alike_fired (T s L v)
 
 -- what takes over with its source kept
-keeping_alike : {d : Bool} {t t' u u' : Term} {e e' : Environment} (k : Name) (p : Pattern) → Alike d t t' → Alike d u u' → AlikeNames d e e' → AlikeTakeover d (body_with k (closure t e) p u e) (body_with k (closure t' e') p u' e')
-keeping_alike k p T U E s L v = alike_closure U (alike_bind p v (alike_running (alike_frozen L (wait_of s) (alike_closure T E)) E))
+continuing_alike : {d : Bool} {t t' u u' : Term} {e e' : Environment} (k : Name) (p : Pattern) → Alike d t t' → Alike d u u' → AlikeNames d e e' → AlikeTakeover d (continuing_body k (closure t e) p u e) (continuing_body k (closure t' e') p u' e')
+continuing_alike k p T U E s L v = alike_closure U (alike_bind p v (alike_running (alike_frozen L (wait_of s) (alike_closure T E)) E))
 
 -- what takes over with members kept
 releasing_alike : {d : Bool} {ms ms' : Members} {u u' : Term} {e e' : Environment} (k : Name) (p : Pattern) → AlikeMembers d ms ms' → Alike d u u' → AlikeNames d e e' → AlikeTakeover d (body_with_members k ms p u e) (body_with_members k ms' p u' e')
@@ -432,7 +432,7 @@ mutual
   formed_texts (same_heading A) = below_over _ _ (alike_texts A)
   formed_texts (same_transformed A) = below_over _ _ (alike_texts A)
   formed_texts (same_switch A B) = below_over _ _ (alike_texts A)
-  formed_texts (same_keeping A C B) = below_over _ _ (below_both _ _ _ _ (alike_texts A) (alike_texts C))
+  formed_texts (same_continuing A C B) = below_over _ _ (below_both _ _ _ _ (alike_texts A) (alike_texts C))
   formed_texts (same_gathered I) = below_over _ _ (collection_texts I)
   formed_texts (same_releasing I C B) = below_over _ _ (below_both _ _ _ _ (collection_texts I) (alike_texts C))
   formed_texts (same_editing I J) = below_over _ _ (collection_texts I)
@@ -562,8 +562,8 @@ module _ (d : Bool) (n n' : Network) (all : AlikeAll d n.templates n'.templates)
   go_reference : {r r' : Reference} → Formed d (reference r) (reference r') → Goes (reference r) (reference r')
   go_reference F e e' E s L ys o c P (at_leaf h A) = go_leaf h refl F E A
 
-  go_keeping : {w : Observation} {t t' q q' u u' : Term} {k : Name} {p : Pattern} → Alike d t t' → Alike d q q' → Alike d u u' → Goes (keeping w t q k p u) (keeping w t' q' k p u')
-  go_keeping T H U e e' E s L ys o c P (at_leaf h A) = go_leaf h h (same_keeping T H U) E A
+  go_continuing : {w : Observation} {t t' q q' u u' : Term} {k : Name} {p : Pattern} → Alike d t t' → Alike d q q' → Alike d u u' → Goes (continuing w t q k p u) (continuing w t' q' k p u')
+  go_continuing T H U e e' E s L ys o c P (at_leaf h A) = go_leaf h h (same_continuing T H U) E A
 
   go_gathered : {i i' : Collection} → AlikeCollection d i i' → Goes (gathered i) (gathered i')
   go_gathered I e e' E s L ys o c P (at_leaf h A) = go_leaf h h (same_gathered I) E A
@@ -598,7 +598,7 @@ module _ (d : Bool) (n n' : Network) (all : AlikeAll d n.templates n'.templates)
     go_form (same_heading A) = go_heading (go A) (alike_texts A)
     go_form (same_transformed A) = go_transformed (go A) (alike_texts A)
     go_form (same_switch A B) = go_switch (go A) (go B)
-    go_form (same_keeping A C B) = go_keeping A C B
+    go_form (same_continuing A C B) = go_continuing A C B
     go_form (same_gathered I) = go_gathered I
     go_form (same_releasing I C B) = go_releasing I C B
     go_form (same_editing I U) = go_editing I U
@@ -611,7 +611,7 @@ module _ (d : Bool) (n n' : Network) (all : AlikeAll d n.templates n'.templates)
 
     data ReadyEach : Members → Step → Life → Outcome → Cost → Type 0 where
       ready_none : {s : Step} {L : Life} → ReadyEach no_members s L (gave (table no_rows) []) no_cost
-      ready_one : {k : KeyData} {P : Process} {ms : Members} {s : Step} {L : Life} {o o' : Outcome} {c c' : Cost} → ReadyNow P (s ∷ L) o c → ReadyOthers o ms s L o' c' → ReadyEach (member k P ms) s L (combined (with_row k) o o') (both_costs c c')
+      ready_one : {k : KeyData} {P : Process} {ms : Members} {s : Step} {L : Life} {o o' : Outcome} {c c' : Cost} → ReadyNow P (s ∷ L) o c → ReadyOthers o ms s L o' c' → ReadyEach (member k P ms) s L (combined (leading_row k) o o') (both_costs c c')
 
     data ReadyOthers : Outcome → Members → Step → Life → Outcome → Cost → Type 0 where
       ready_others : {ms : Members} {s : Step} {L : Life} {y : Data} {r : Readings} {o : Outcome} {c : Cost} → ReadyEach ms s L o c → ReadyOthers (gave y r) ms s L o c
@@ -714,7 +714,7 @@ module _ (d : Bool) (n n' : Network) (all : AlikeAll d n.templates n'.templates)
   failing (headed Followed i t) h = absurd cc
   failing (transformed f t) {e} {s} h = at_function (made_fault (apply f (input_of s) (scope_around n.functions e)) h)
   failing (switching w t p u) h = absurd cc
-  failing (keeping w t q k p u) h = absurd cc
+  failing (continuing w t q k p u) h = absurd cc
   failing (gathered i) h = at_leaf refl (of_constants h, λ u e' F E. gathered_fails h F E)
   failing (releasing w i q k p u) h = at_leaf refl (of_constants h, λ u e' F E. releasing_fails h F E)
   failing (editing w i k p u) h = at_leaf refl (of_constants h, λ u e' F E. editing_fails h F E)
@@ -743,16 +743,16 @@ module _ (d : Bool) (n n' : Network) (all : AlikeAll d n.templates n'.templates)
   watches_later C s (began v M) W h = fired_before W
 
   -- a switch that keeps its source steps where what it watches, and what took over, do so in one like it
-  keeping_meets : {w : Observation} {t q u : Term} {k : Name} {p : Pattern} {e : Environment} {s : Step} {L : Life} {st : Standing} {o : Outcome} {c : Cost} {v : Term} {e' : Environment}
-      → Formed d (keeping w t q k p u) v → AlikeNames d e e'
-      → ((W' : Watched) (B' : Takeover) → AlikeWatched d (observed (closure t e) q e) W' → AlikeTakeover d (body_with k (closure t e) p u e) B' → (st' : Standing) × AlikeStanding d st st' × Since n' W' B' L st')
-      → ((W' : Watched) (B' : Takeover) (st' : Standing) → AlikeWatched d (observed (closure t e) q e) W' → AlikeTakeover d (body_with k (closure t e) p u e) B' → AlikeStanding d st st' → Lowered d (SwitchTurn n' w W' B' s L st' o) c)
+  continuing_meets : {w : Observation} {t q u : Term} {k : Name} {p : Pattern} {e : Environment} {s : Step} {L : Life} {st : Standing} {o : Outcome} {c : Cost} {v : Term} {e' : Environment}
+      → Formed d (continuing w t q k p u) v → AlikeNames d e e'
+      → ((W' : Watched) (B' : Takeover) → AlikeWatched d (observed (closure t e) q e) W' → AlikeTakeover d (continuing_body k (closure t e) p u e) B' → (st' : Standing) × AlikeStanding d st st' × Since n' W' B' L st')
+      → ((W' : Watched) (B' : Takeover) (st' : Standing) → AlikeWatched d (observed (closure t e) q e) W' → AlikeTakeover d (continuing_body k (closure t e) p u e) B' → AlikeStanding d st st' → Lowered d (SwitchTurn n' w W' B' s L st' o) c)
       → Lowered d ((Leaf n').leaf v e' s L o) c
-  keeping_meets {k = k} {p = p} (same_keeping A C B) E since turn =
+  continuing_meets {k = k} {p = p} (same_continuing A C B) E since turn =
       let W = alike_observed (alike_closure A E) C E in
-      let body = keeping_alike k p A B E in
+      let body = continuing_alike k p A B E in
       let st = since _ _ W body in
-      elim (turn _ _ _ W body st.1) [ lowered T h ↦ lowered (of_form refl (of_keeping st.2 T)) h ]
+      elim (turn _ _ _ W body st.1) [ lowered T h ↦ lowered (of_form refl (of_continuing st.2 T)) h ]
 
   -- the members of a collection step where those of one like it do
   gathered_meets : {i : Collection} {e : Environment} {ms : Members} {s : Step} {L : Life} {o : Outcome} {c : Cost} {v : Term} {e' : Environment} → make n (gathered i) e (first_input s L) ≡ answer (members_made ms) → ReadyEach ms s L o c
@@ -825,8 +825,8 @@ module _ (d : Bool) (n n' : Network) (all : AlikeAll d n.templates n'.templates)
     ready_form (of_switch {u = u} {p = p} {e = e} A B) k =
         let st = ready_watches (body_of p u e) A refl in
         at_switch st.1 (ready_turns st.0 B refl st.2)
-    ready_form (of_keeping A B) k =
-        at_leaf refl (of_form refl (of_keeping A B), λ u' e' F E. keeping_meets F E (λ W T R B. keeps_since A R B) (λ W T x R D st. keeps_turn B R D st))
+    ready_form (of_continuing A B) k =
+        at_leaf refl (of_form refl (of_continuing A B), λ u' e' F E. continuing_meets F E (λ W T R B. keeps_since A R B) (λ W T x R D st. keeps_turn B R D st))
     ready_form (of_recurring {L = L} A B) k = at_recurring (runs_ready (last_event L) (ready_gives A)) (ready_bodies B refl)
     ready_form (of_gathered A) k = at_leaf refl (of_form k (of_gathered A), λ u' e' F E. gathered_meets k (ready_each A) F E)
     ready_form (of_releasing A B) k =

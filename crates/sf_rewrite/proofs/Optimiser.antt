@@ -10,13 +10,13 @@ use Rattle.sf_term.specs.declared.form.Side.{Side}
 use Rattle.sf_term.specs.declared.form.Side.TheVariants.{First, Second}
 use Rattle.sf_term.specs.declared.form.Heading.TheVariants.{LoopPre, Initialized, Replaced, Followed}
 use Rattle.sf_term.specs.declared.form.Switching.TheVariants.{Basic, Recurring}
-use Rattle.sf_term.specs.Trees.{Chain, lone, chained, on_side, on_both, fanned, bare, probe, never, with_value, timed, selected, arrow, accumulated, fused, Extent, whole, rest, Term, primitive, reference, started, call, Arguments, no_arguments, value_argument, process_argument, closed_argument, joined, sided, headed, transformed, switching, keeping, staged, collection_argument, gathered, releasing, editing, Collection, without_members, used, added, dropped, kept, chosen}
+use Rattle.sf_term.specs.Trees.{Chain, lone, chained, on_side, on_both, fanned, bare, probe, never, with_value, timed, selected, arrow, accumulated, fused, Extent, whole, rest, Term, primitive, reference, started, call, Arguments, no_arguments, value_argument, process_argument, closed_argument, joined, sided, headed, transformed, switching, continuing, staged, collection_argument, gathered, releasing, editing, Collection, without_members, used, added, dropped, kept, chosen}
 use Rattle.sf_term.specs.declared.form.Observation.TheVariants.{Immediate, Delayed}
 use Rattle.sf_term.specs.declared.form.Start.TheVariants.{Run, Fresh}
 use Rattle.sf_rewrite.specs.Quiet.{is_quiet_expression, is_quiet}
 use Rattle.sf_rewrite.specs.Laws.{identity, constant, arr, loop_pre, Laws, unchanged, in_turn, in_join, in_stages, in_side, as_pipeline, within_pipeline, associate_right, associate_left, identity_before, identity_after, arr_as_chain, arr_composed, arr_on_side, arr_in_parallel, arr_fanned_out, sides_composed, exchanged, constant_after, left_tightened, right_tightened}
-use Rattle.sf_rewrite.specs.Plans.{Plans, plans, of_primitive, of_started, of_call, PlansArguments, of_no_arguments, of_value_argument, of_named_argument, of_closed_argument, is_started, of_join, of_side, of_heading, of_transformed, of_switch, of_keeping, of_gathered, of_releasing, of_editing, PlansCollection, of_without, of_used, of_added, of_dropped, of_kept, of_chosen, of_collection_argument}
-use Rattle.sf_rewrite.specs.Normal.{is_arr, is_stage, may_meet, are_written, IsPlan, plan_primitive, plan_started, plan_call, ArePlans, plan_no_arguments, plan_value_argument, plan_term_argument, plan_closed_argument, plan_join, plan_side, plan_heading, plan_transformed, plan_switch, plan_keeping, plan_pipeline, IsRest, last_stage, more_stages, is_written, plan_gathered, plan_releasing, plan_editing, IsPlanned, planned_without, planned_used, planned_added, planned_dropped, planned_kept, planned_chosen, plan_collection_argument, collects_written}
+use Rattle.sf_rewrite.specs.Plans.{Plans, plans, of_primitive, of_started, of_call, PlansArguments, of_no_arguments, of_value_argument, of_named_argument, of_closed_argument, is_started, of_join, of_side, of_heading, of_transformed, of_switch, of_continuing, of_gathered, of_releasing, of_editing, PlansCollection, of_without, of_used, of_added, of_dropped, of_kept, of_chosen, of_collection_argument}
+use Rattle.sf_rewrite.specs.Normal.{is_arr, is_stage, may_meet, are_written, IsPlan, plan_primitive, plan_started, plan_call, ArePlans, plan_no_arguments, plan_value_argument, plan_term_argument, plan_closed_argument, plan_join, plan_side, plan_heading, plan_transformed, plan_switch, plan_continuing, plan_pipeline, IsRest, last_stage, more_stages, is_written, plan_gathered, plan_releasing, plan_editing, IsPlanned, planned_without, planned_used, planned_added, planned_dropped, planned_kept, planned_chosen, plan_collection_argument, collects_written}
 use Rattle.sf_rewrite.proofs.Parts.{no_truth}
 use Rattle.sf_rewrite.proofs.Quiet.{both_true}
 
@@ -52,7 +52,7 @@ arr_view (sided d t) = no_arr refl
 arr_view (headed h i t) = no_arr refl
 arr_view (transformed f t) = no_arr refl
 arr_view (switching w t p u) = no_arr refl
-arr_view (keeping w t q k p u) = no_arr refl
+arr_view (continuing w t q k p u) = no_arr refl
 arr_view (gathered i) = no_arr refl
 arr_view (releasing w i q k p u) = no_arr refl
 arr_view (editing w i k p u) = no_arr refl
@@ -86,7 +86,7 @@ constant_view (sided d t) = no_constant
 constant_view (headed h i t) = no_constant
 constant_view (transformed f t) = no_constant
 constant_view (switching w t p u) = no_constant
-constant_view (keeping w t q k p u) = no_constant
+constant_view (continuing w t q k p u) = no_constant
 constant_view (gathered i) = no_constant
 constant_view (releasing w i q k p u) = no_constant
 constant_view (editing w i k p u) = no_constant
@@ -204,7 +204,7 @@ stages (plan_side P) = one_stage refl
 stages (plan_heading P) = one_stage refl
 stages (plan_transformed P) = one_stage refl
 stages (plan_switch P Q) = one_stage refl
-stages (plan_keeping P Q R) = one_stage refl
+stages (plan_continuing P Q R) = one_stage refl
 stages (plan_gathered I) = one_stage refl
 stages (plan_releasing I Q R) = one_stage refl
 stages (plan_editing I J) = one_stage refl
@@ -335,7 +335,7 @@ with_argument (sided d t) o a = closing refl o a
 with_argument (headed k i t) o a = closing refl o a
 with_argument (transformed f t) o a = closing refl o a
 with_argument (switching w t p u) o a = closing refl o a
-with_argument (keeping w t q k p u) o a = closing refl o a
+with_argument (continuing w t q k p u) o a = closing refl o a
 with_argument (gathered i) o a = closing refl o a
 with_argument (releasing w i q k p u) o a = closing refl o a
 with_argument (editing w i k p u) o a = closing refl o a
@@ -391,13 +391,13 @@ mutual
   optimised (reference (call g vs)) h =
       let a = optimised_arguments vs h in
       record { term = reference (call g a.arguments); plans = plans (of_call a.plans) unchanged; is = plan_call a.are }
-  optimised (keeping w t o k p u) h =
+  optimised (continuing w t o k p u) h =
       let l = both_true (is_written t) (is_written o && is_written u) h in
       let r = both_true (is_written o) (is_written u) l.1 in
       let a = optimised t l.0 in
       let b = optimised o r.0 in
       let c = optimised u r.1 in
-      record { term = keeping w a.term b.term k p c.term; plans = plans (of_keeping a.plans b.plans c.plans) unchanged; is = plan_keeping a.is b.is c.is }
+      record { term = continuing w a.term b.term k p c.term; plans = plans (of_continuing a.plans b.plans c.plans) unchanged; is = plan_continuing a.is b.is c.is }
   optimised (gathered i) h = let a = optimised_collection i h in record { term = gathered a.collection; plans = plans (of_gathered a.plans) unchanged; is = plan_gathered a.is }
   optimised (releasing w i o k p u) h =
       let l = both_true (collects_written i) (is_written o && is_written u) h in
@@ -569,9 +569,9 @@ unfolding optimised in_sequence one_after_another before_tail tail stages headed
 in_transformed_applied = refl
 
 -- and in the source and the observer of one that keeps its source
-in_keeping_applied : (optimised (keeping Immediate (joined InSequence identity f) (joined InSequence f identity) [] unnamed (joined InSequence g identity)) refl).term ≡ keeping Immediate f f [] unnamed g
+in_continuing_applied : (optimised (continuing Immediate (joined InSequence identity f) (joined InSequence f identity) [] unnamed (joined InSequence g identity)) refl).term ≡ continuing Immediate f f [] unnamed g
 unfolding optimised in_sequence one_after_another before_tail tail stages headed_by pushed appended merged arrs before_constant arr_view constant_view in_parallel side_by_side fanned_out both_on on_a_side in_loop before_loop looped compose_sides exchange in_planned decided
-in_keeping_applied = refl
+in_continuing_applied = refl
 
 -- and in the terms of collections and of edits
 in_collections_applied : (optimised (editing Immediate (added (used []) one (joined InSequence identity f)) [] unnamed (added (used []) one (joined InSequence g identity))) refl).term

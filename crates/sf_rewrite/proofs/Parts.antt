@@ -14,10 +14,10 @@ use Rattle.sf_term.specs.declared.form.Heading.{Heading}
 use Rattle.sf_term.specs.declared.form.Heading.TheVariants.{LoopPre, Initialized, Replaced, Followed}
 use Rattle.sf_term.specs.declared.form.Observation.{Observation}
 use Rattle.sf_term.specs.declared.form.Switching.TheVariants.{Basic, Recurring}
-use Rattle.sf_term.specs.Trees.{Primitive, Extent, Term, primitive, reference, joined, sided, headed, transformed, switching, keeping, staged, gathered, releasing, editing}
+use Rattle.sf_term.specs.Trees.{Primitive, Extent, Term, primitive, reference, joined, sided, headed, transformed, switching, continuing, staged, gathered, releasing, editing}
 use Rattle.sf_mean.specs.Lives.{Step, input_of, Life, Environment, scope_around, bind, with_inputs, relay, first_input, fed}
-use Rattle.sf_mean.specs.Formulas.{at_first, with_first, occurring, side_of, with_side, formula}
-use Rattle.sf_mean.specs.Meaning.{Readings, Outcome, gave, faulted, changed, combined, value_in, as_outcome, answered_by, newest_or, recorded, Cost, no_cost, both_costs, over, over_stages, one_term, text_cost, left_life, right_life, join_value, switched_value, event_beside, last_event, since_event, unless_faulted, without_event}
+use Rattle.sf_mean.specs.Formulas.{at_first, first_replaced, occurring, side_of, side_replaced, formula}
+use Rattle.sf_mean.specs.Meaning.{Readings, Outcome, gave, faulted, changed, combined, outcome_value, as_outcome, answered_by, newest_or, recorded, Cost, no_cost, both_costs, over, over_stages, one_term, text_cost, left_life, right_life, join_value, switched_value, event_beside, last_event, since_event, unless_faulted, without_event}
 
 -- what stored functions answer, and what a form that no law looks into gives at a step
 pub record Leaves : Type 1 where
@@ -33,7 +33,7 @@ is_leaf (sided d t) = false
 is_leaf (headed h i t) = false
 is_leaf (transformed f t) = false
 is_leaf (switching w t p u) = false
-is_leaf (keeping w t q k p u) = true
+is_leaf (continuing w t q k p u) = true
 is_leaf (gathered i) = true
 is_leaf (releasing w i q k p u) = true
 is_leaf (editing w i k p u) = true
@@ -73,16 +73,16 @@ mutual
     at_join : {j : Join} {f g : Term} {e : Environment} {s : Step} {L : Life} {ys : List Data} {o o' : Outcome} {c c' : Cost}
         → Parts Q f e (left_life j L) ys
         → Part Q f e (left_life j (s ∷ L)) o c
-        → Then Q o g e (right_life j (s ∷ L) (value_in o ∷ ys)) o' c'
+        → Then Q o g e (right_life j (s ∷ L) (outcome_value o ∷ ys)) o' c'
         → At Q (joined j f g) e s L (combined (join_value j) o o') (over (both_costs c c'))
     at_stages : {x : Extent} {f g : Term} {e : Environment} {s : Step} {L : Life} {ys : List Data} {o o' : Outcome} {c c' : Cost}
         → Parts Q f e L ys
         → Part Q f e (s ∷ L) o c
-        → Then Q o g e (relay (s ∷ L) (value_in o ∷ ys)) o' c'
+        → Then Q o g e (relay (s ∷ L) (outcome_value o ∷ ys)) o' c'
         → At Q (staged x f g) e s L (combined (join_value InSequence) o o') (over_stages x (both_costs c c'))
     at_side : {d : Side} {t : Term} {e : Environment} {s : Step} {L : Life} {o : Outcome} {c : Cost}
         → Part Q t e (with_inputs (side_of d) (s ∷ L)) o c
-        → At Q (sided d t) e s L (changed (with_side d (input_of s)) o) (over c)
+        → At Q (sided d t) e s L (changed (side_replaced d (input_of s)) o) (over c)
     at_loop : {i : Expression} {t : Term} {e : Environment} {v : Data} {s : Step} {L : Life} {zs : List Data} {o : Outcome} {c : Cost}
         → eval i (scope_around Q.functions e) ≡ answer v
         → Rounds Q v t e L zs
@@ -94,7 +94,7 @@ mutual
         → At Q (headed Initialized i t) e s L (changed (at_first L v) o) (over c)
     at_replaced : {i : Expression} {t : Term} {e : Environment} {v : Data} {s : Step} {L : Life} {o : Outcome} {c : Cost}
         → eval i (scope_around Q.functions e) ≡ answer v
-        → Part Q t e (with_first v (s ∷ L)) o c
+        → Part Q t e (first_replaced v (s ∷ L)) o c
         → At Q (headed Replaced i t) e s L o (over c)
     at_followed : {i : Expression} {t : Term} {e : Environment} {s : Step} {L : Life} {ys : List Data} {o : Outcome} {c : Cost}
         → Parts Q t e L ys
@@ -106,7 +106,7 @@ mutual
         → At Q (headed h i t) e s [] (faulted x) (over (text_cost t))
     at_transformed : {f : Function} {t : Term} {e : Environment} {v : Data} {s : Step} {L : Life} {o : Outcome} {c : Cost}
         → apply f (first_input s L) (scope_around Q.functions e) ≡ answer v
-        → Part Q t e (with_first v (s ∷ L)) o c
+        → Part Q t e (first_replaced v (s ∷ L)) o c
         → At Q (transformed f t) e s L o (over c)
     at_function : {f : Function} {t : Term} {e : Environment} {x : ValueFault} {s : Step}
         → apply f (input_of s) (scope_around Q.functions e) ≡ failed x
@@ -209,7 +209,7 @@ module _ (Q : Leaves) (one : OneLeaf Q) where
 
     pub onces : {t : Term} {e : Environment} {L : Life} {ys zs : List Data} → Parts Q t e L ys → Parts Q t e L zs → ys ≡ zs
     onces begins begins = refl
-    onces (then_gave A B) (then_gave A' B') = ap₂ (λ y ys. y ∷ ys) (ap value_in (once_at B B').0) (onces A A')
+    onces (then_gave A B) (then_gave A' B') = ap₂ (λ y ys. y ∷ ys) (ap outcome_value (once_at B B').0) (onces A A')
 
     pub once_at : {t : Term} {e : Environment} {s : Step} {L : Life} {a b : Outcome} {c d : Cost} → At Q t e s L a c → At Q t e s L b d → Same a b c d
     once_at (at_leaf h A) (at_leaf h' B) = one _ _ _ _ _ _ _ _ A B
@@ -243,16 +243,16 @@ module _ (Q : Leaves) (one : OneLeaf Q) where
     once_at (at_join {j = j} {g = g} {e = e} {s = s} {L = L} A B C) (at_join {ys = zs} {o = q} {o' = b} {c' = d} A' B' C') =
         let e1 = onces A A' in
         let e2 = once B B' in
-        let N : Outcome → List Data → Type 0 = λ q l. Then Q q g e (right_life j (s ∷ L) (value_in q ∷ l)) b d in
+        let N : Outcome → List Data → Type 0 = λ q l. Then Q q g e (right_life j (s ∷ L) (outcome_value q ∷ l)) b d in
         let e3 = once_then C (subst₂ N (sym e2.0) (sym e1) C') in
         (ap₂ (combined (join_value j)) e2.0 e3.0, ap₂ (λ x y. over (both_costs x y)) e2.1 e3.1)
     once_at (at_stages {x = x} {g = g} {e = e} {s = s} {L = L} A B C) (at_stages {ys = zs} {o = q} {o' = b} {c' = d} A' B' C') =
         let e1 = onces A A' in
         let e2 = once B B' in
-        let N : Outcome → List Data → Type 0 = λ q l. Then Q q g e (relay (s ∷ L) (value_in q ∷ l)) b d in
+        let N : Outcome → List Data → Type 0 = λ q l. Then Q q g e (relay (s ∷ L) (outcome_value q ∷ l)) b d in
         let e3 = once_then C (subst₂ N (sym e2.0) (sym e1) C') in
         (ap₂ (combined (join_value InSequence)) e2.0 e3.0, ap₂ (λ a b. over_stages x (both_costs a b)) e2.1 e3.1)
-    once_at (at_side {d = d} {s = s} A) (at_side B) = let r = once A B in (ap (changed (with_side d (input_of s))) r.0, ap over r.1)
+    once_at (at_side {d = d} {s = s} A) (at_side B) = let r = once A B in (ap (changed (side_replaced d (input_of s))) r.0, ap over r.1)
     once_at (at_loop {t = t} {e = e} {v = v} {s = s} {L = L} h A B) (at_loop {v = w} {zs = zs} {o = b} {c = d} h' A' B') =
         let ev : w ≡ v = ap the_answer (sym h' ∙ h) in
         let R : Data → Type 0 = λ x. Rounds Q x t e L zs in
@@ -267,7 +267,7 @@ module _ (Q : Leaves) (one : OneLeaf Q) where
     once_at (at_constant z h) (at_initialized h' A) = absurd (no_fault (sym h' ∙ h))
     once_at (at_replaced {t = t} {e = e} {v = v} {s = s} {L = L} h A) (at_replaced {v = w} {o = b} {c = d} h' B) =
         let ev : w ≡ v = ap the_answer (sym h' ∙ h) in
-        let N : Data → Type 0 = λ x. Part Q t e (with_first x (s ∷ L)) b d in
+        let N : Data → Type 0 = λ x. Part Q t e (first_replaced x (s ∷ L)) b d in
         let q = once A (subst N ev B) in
         (q.0, ap over q.1)
     once_at (at_replaced h A) (at_constant z h') = absurd (no_fault (sym h ∙ h'))
@@ -282,7 +282,7 @@ module _ (Q : Leaves) (one : OneLeaf Q) where
     once_at (at_constant {x = x} z h) (at_constant z' h') = (ap (λ v. faulted (the_fault x v)) (sym h ∙ h'), refl)
     once_at (at_transformed {t = t} {e = e} {v = v} {s = s} {L = L} h A) (at_transformed {v = w} {o = b} {c = d} h' B) =
         let ev : w ≡ v = ap the_answer (sym h' ∙ h) in
-        let N : Data → Type 0 = λ x. Part Q t e (with_first x (s ∷ L)) b d in
+        let N : Data → Type 0 = λ x. Part Q t e (first_replaced x (s ∷ L)) b d in
         let q = once A (subst N ev B) in
         (q.0, ap over q.1)
     once_at (at_transformed h A) (at_function h') = absurd (no_fault (sym h ∙ h'))
@@ -311,11 +311,11 @@ module _ (Q : Leaves) (one : OneLeaf Q) where
         let e1 = once_rounds A A' in
         let N : List Data → Type 0 = λ l. Part Q t e (fed v (s ∷ L) l) (gave z r) d in
         let e2 = once B (subst N (sym e1) B') in
-        ap₂ (λ y ys. y ∷ ys) (ap value_in e2.0) e1
+        ap₂ (λ y ys. y ∷ ys) (ap outcome_value e2.0) e1
 
     pub once_watches : {t : Term} {e : Environment} {L : Life} {a b : Stand} → Watches Q t e L a → Watches Q t e L b → a ≡ b
     once_watches watch_begins watch_begins = refl
-    once_watches (then_watched {s = s} A B h) (then_watched A' B' h') = sym h ∙ ap (λ o. stand_after s (occurring (second_of (value_in o)))) (once B B').0 ∙ h'
+    once_watches (then_watched {s = s} A B h) (then_watched A' B' h') = sym h ∙ ap (λ o. stand_after s (occurring (second_of (outcome_value o)))) (once B B').0 ∙ h'
     once_watches (then_watched A B h) (fired_before A') = absurd (not_begun_yet (once_watches A A'))
     once_watches (fired_before A) (then_watched A' B' h') = absurd (not_begun_yet (sym (once_watches A A')))
     once_watches (fired_before {s = s} A) (fired_before A') = ap (later_stand s) (once_watches A A')

@@ -3,7 +3,7 @@ use Rattle.std.proofs.Common.{◌≡◌, IsTrue, Bool, true, false, ◌&&◌, co
 use Rattle.std.specs.Prelude.{Option}
 use mathlib.Core.Path.{subst₂}
 use Rattle.sf_value.specs.Values.{Data, pair, Rows, no_rows, row, first_of, second_of}
-use Rattle.sf_expr.specs.Expressions.{Expression, variable, literal, paired as paired_expression, applied, operation, conditional, mapped, folded, called, Function, function}
+use Rattle.sf_expr.specs.Expressions.{Expression, variable, literal, applied, operation, conditional, mapped, folded, called, Function, function, paired}
 use Rattle.sf_operator.specs.declared.operator.Unary.{Unary}
 use Rattle.sf_operator.specs.declared.operator.Unary.TheVariants.{Not, Event, First as FirstOf, Second as SecondOf, IsEvent, Size}
 use Rattle.sf_operator.specs.declared.operator.Operator.{Operator}
@@ -15,7 +15,7 @@ use Rattle.sf_operator.specs.declared.operator.Mapping.TheVariants.{Let, Filter,
 use Rattle.sf_operator.specs.declared.operator.Folding.{Folding}
 use Rattle.sf_operator.specs.declared.operator.Folding.TheVariants as folding
 use Rattle.sf_operator.specs.FunctionForms.{kept_payload, mapped_payload, mapped_value, matched_payload, merged_by, value_of_key, folded_rows, folded_value}
-use Rattle.sf_operator.specs.Operations.{truth_in, halves_in, payload_in, rows_in, key_in, order_of, merged, unary_value, decided, operated}
+use Rattle.sf_operator.specs.Operations.{truth_held, halves_held, payload_held, rows_held, key_held, order_of, merged, unary_value, decided, operated}
 use Rattle.sf_expr.specs.Evaluation.{Evaluated, answer, ◌>>=◌, known, Scope, bound_in, unless_decided, eval, apply}
 use Rattle.sf_term.specs.declared.form.Bare.TheVariants.{Identity, LocalTime, Integral, Edge, NotYet, Once, Count, Pre}
 use Rattle.sf_term.specs.declared.form.Accumulation.{Accumulation}
@@ -23,9 +23,9 @@ use Rattle.sf_term.specs.declared.form.Accumulation.TheVariants.{EdgeBy, AccumBy
 use Rattle.sf_term.specs.declared.form.Join.{Join}
 use Rattle.sf_term.specs.declared.form.Join.TheVariants.{InSequence, InParallel, FannedOut}
 use Rattle.sf_term.specs.declared.form.Heading.TheVariants.{LoopPre, Initialized, Replaced, Followed}
-use Rattle.sf_term.specs.Trees.{Chain, lone, chained as chained_functions, on_side, on_both, fanned, Primitive, bare, probe, never, with_value, timed, selected, arrow, accumulated, fused, Extent, Term, primitive, reference, joined, sided, headed, transformed, switching, keeping, staged, gathered, releasing, editing}
+use Rattle.sf_term.specs.Trees.{Chain, lone, on_side, on_both, fanned, Primitive, bare, probe, never, with_value, timed, selected, arrow, accumulated, fused, Extent, Term, primitive, reference, joined, sided, headed, transformed, switching, continuing, staged, gathered, releasing, editing, chained}
 use Rattle.sf_mean.specs.Lives.{Step, step, wait_of, input_of, Life, Environment, scope_around, first_input, with_inputs, relay, fed}
-use Rattle.sf_mean.specs.Formulas.{at_first, with_first, timed_formula, before, occurring, next_value, accumulation, event_where, accumulated_formula, side_of, with_side, apply_chain, value_formula, formula}
+use Rattle.sf_mean.specs.Formulas.{at_first, first_replaced, timed_formula, before, occurring, next_value, accumulation, event_where, accumulated_formula, side_of, side_replaced, apply_chain, value_formula, formula}
 use Rattle.sf_mean.specs.Meaning.{Readings, Outcome, gave, as_outcome, newest_or, recorded, Cost, over, one_term, text_cost}
 use Rattle.sf_rewrite.specs.Quiet.{is_quiet_unary, is_quiet_operator, is_quiet_expression, is_quiet_function, is_quiet_chain, is_quiet_primitive, is_quiet}
 use Rattle.sf_rewrite.proofs.Parts.{Leaves, Part, part, Parts, begins, then_gave, At, at_primitive, at_join, at_stages, at_side, at_loop, at_initialized, at_replaced, at_followed, at_transformed, then_part, Rounds, no_round, one_round, no_truth, OneLeaf, once_at}
@@ -52,11 +52,11 @@ of_known (Some a) f h = h a
 of_known None f h = (_, refl)
 
 quiet_unary : (o : Unary) (d : Data) → IsTrue (is_quiet_unary o) → Answers (unary_value o d)
-quiet_unary Not d h = of_known (truth_in d) _ (λ b. (_, refl))
+quiet_unary Not d h = of_known (truth_held d) _ (λ b. (_, refl))
 quiet_unary Event d h = (_, refl)
-quiet_unary FirstOf d h = of_known (halves_in d) _ (λ p. (_, refl))
-quiet_unary SecondOf d h = of_known (halves_in d) _ (λ p. (_, refl))
-quiet_unary IsEvent d h = of_known (payload_in d) _ (λ e. (_, refl))
+quiet_unary FirstOf d h = of_known (halves_held d) _ (λ p. (_, refl))
+quiet_unary SecondOf d h = of_known (halves_held d) _ (λ p. (_, refl))
+quiet_unary IsEvent d h = of_known (payload_held d) _ (λ e. (_, refl))
 quiet_unary Size d h = absurd (no_truth h)
 
 -- one event of two, where not both occur or one is preferred
@@ -72,12 +72,12 @@ quiet_operator (Arithmetic o) a b h = absurd (no_truth h)
 quiet_operator (Equality o) a b h = (_, refl)
 quiet_operator (Comparison o) a b h = of_known (order_of a b) _ (λ r. (_, refl))
 quiet_operator (Logic o) a b h = (_, refl)
-quiet_operator Tag a b h = of_known (payload_in a) _ (λ e. (_, refl))
-quiet_operator Attach a b h = of_known (payload_in a) _ (λ e. (_, refl))
-quiet_operator FromEvent a b h = of_known (payload_in a) _ (λ e. (_, refl))
-quiet_operator Gate a b h = of_known (truth_in b) _ (λ c. (_, refl))
-quiet_operator (Merge m) a b h = of_known (payload_in a) _ (λ e. of_known (payload_in b) _ (λ f. quiet_merge m e f h))
-quiet_operator Get a b h = of_known (rows_in a) _ (λ rs. of_known (key_in b) _ (λ k. (_, refl)))
+quiet_operator Tag a b h = of_known (payload_held a) _ (λ e. (_, refl))
+quiet_operator Attach a b h = of_known (payload_held a) _ (λ e. (_, refl))
+quiet_operator FromEvent a b h = of_known (payload_held a) _ (λ e. (_, refl))
+quiet_operator Gate a b h = of_known (truth_held b) _ (λ c. (_, refl))
+quiet_operator (Merge m) a b h = of_known (payload_held a) _ (λ e. of_known (payload_held b) _ (λ f. quiet_merge m e f h))
+quiet_operator Get a b h = of_known (rows_held a) _ (λ rs. of_known (key_held b) _ (λ k. (_, refl)))
 
 -- what the first operand decides, or an answer
 or_decided : (o : Option Data) (v : Evaluated Data) → Answers v → Answers (unless_decided o v)
@@ -92,7 +92,7 @@ chosen false v w h k = k
 module _ (f : Data → Evaluated Data) (h : (x : Data) → Answers (f x)) where
   quiet_kept : (e : Option Data) → Answers (kept_payload e f)
   quiet_kept None = (_, refl)
-  quiet_kept (Some x) = next (f x) _ (h x) (λ b. of_known (truth_in b) _ (λ c. (_, refl)))
+  quiet_kept (Some x) = next (f x) _ (h x) (λ b. of_known (truth_held b) _ (λ c. (_, refl)))
 
   quiet_payload : (e : Option Data) → Answers (mapped_payload e f)
   quiet_payload None = (_, refl)
@@ -100,8 +100,8 @@ module _ (f : Data → Evaluated Data) (h : (x : Data) → Answers (f x)) where
 
   quiet_mapped : (m : Mapping) (d : Data) → Answers (mapped_value m d f)
   quiet_mapped Let d = h d
-  quiet_mapped Filter d = of_known (payload_in d) _ quiet_kept
-  quiet_mapped Map d = of_known (payload_in d) _ quiet_payload
+  quiet_mapped Filter d = of_known (payload_held d) _ quiet_kept
+  quiet_mapped Map d = of_known (payload_held d) _ quiet_payload
 
   quiet_matched : (e : Option Data) (other : Evaluated Data) → Answers other → Answers (matched_payload e other f)
   quiet_matched None other k = k
@@ -117,14 +117,14 @@ module _ (f : Data → Evaluated Data) (h : (x : Data) → Answers (f x)) where
   quiet_rows (row k x rs) d = next (f (pair d (pair (value_of_key k) x))) (λ c. folded_rows rs c f) (h (pair d (pair (value_of_key k) x))) (quiet_rows rs)
 
   quiet_folded : (o : Folding) (d : Data) (other : Evaluated Data) → Answers other → Answers (folded_value o d other f)
-  quiet_folded folding.Match d other k = of_known (payload_in d) _ (λ e. quiet_matched e other k)
-  quiet_folded folding.Merge d other k = next other _ k (λ c. of_known (payload_in d) _ (λ e. of_known (payload_in c) _ (quiet_both e)))
-  quiet_folded folding.Fold d other k = next other _ k (λ c. of_known (rows_in d) _ (λ rs. quiet_rows rs c))
+  quiet_folded folding.Match d other k = of_known (payload_held d) _ (λ e. quiet_matched e other k)
+  quiet_folded folding.Merge d other k = next other _ k (λ c. of_known (payload_held d) _ (λ e. of_known (payload_held c) _ (quiet_both e)))
+  quiet_folded folding.Fold d other k = next other _ k (λ c. of_known (rows_held d) _ (λ rs. quiet_rows rs c))
 
 pub quiet_eval : (i : Expression) → IsTrue (is_quiet_expression i) → (sc : Scope) → Answers (eval i sc)
 quiet_eval (variable x) h sc = (_, refl)
 quiet_eval (literal n) h sc = (_, refl)
-quiet_eval (paired_expression a b) h sc =
+quiet_eval (paired a b) h sc =
     let k = both_true (is_quiet_expression a) (is_quiet_expression b) h in
     next (eval a sc) (λ x. eval b sc >>= λ y. answer (pair x y)) (quiet_eval a k.0 sc) (λ x. next (eval b sc) (λ y. answer (pair x y)) (quiet_eval b k.1 sc) (λ y. (pair x y, refl)))
 quiet_eval (applied o a) h sc =
@@ -138,8 +138,8 @@ quiet_eval (operation a op b) h sc =
 quiet_eval (conditional a b c) h sc =
     let k = both_true (is_quiet_expression a) (is_quiet_expression b && is_quiet_expression c) h in
     let l = both_true (is_quiet_expression b) (is_quiet_expression c) k.1 in
-    next (eval a sc) (λ x. known (truth_in x) (λ t. cond t (eval b sc) (eval c sc))) (quiet_eval a k.0 sc)
-    (λ x. of_known (truth_in x) _ (λ t. chosen t (eval b sc) (eval c sc) (quiet_eval b l.0 sc) (quiet_eval c l.1 sc)))
+    next (eval a sc) (λ x. known (truth_held x) (λ t. cond t (eval b sc) (eval c sc))) (quiet_eval a k.0 sc)
+    (λ x. of_known (truth_held x) _ (λ t. chosen t (eval b sc) (eval c sc) (quiet_eval b l.0 sc) (quiet_eval c l.1 sc)))
 quiet_eval (mapped a m p b) h sc =
     let k = both_true (is_quiet_expression a) (is_quiet_expression b) h in
     next (eval a sc) (λ x. mapped_value m x (λ y. eval b (bound_in p y sc))) (quiet_eval a k.0 sc)
@@ -156,10 +156,10 @@ quiet_apply (function p i) h x sc = quiet_eval i h (bound_in p x sc)
 
 pub quiet_chain : (f : Chain) → IsTrue (is_quiet_chain f) → (x : Data) (sc : Scope) → Answers (apply_chain f x sc)
 quiet_chain (lone f) h x sc = quiet_apply f h x sc
-quiet_chain (chained_functions f g) h x sc =
+quiet_chain (chained f g) h x sc =
     let k = both_true (is_quiet_chain f) (is_quiet_chain g) h in
     next (apply_chain f x sc) (λ y. apply_chain g y sc) (quiet_chain f k.0 x sc) (λ y. quiet_chain g k.1 y sc)
-quiet_chain (on_side d f) h x sc = next (apply_chain f (side_of d x) sc) (λ y. answer (with_side d x y)) (quiet_chain f h (side_of d x) sc) (λ y. (with_side d x y, refl))
+quiet_chain (on_side d f) h x sc = next (apply_chain f (side_of d x) sc) (λ y. answer (side_replaced d x y)) (quiet_chain f h (side_of d x) sc) (λ y. (side_replaced d x y, refl))
 quiet_chain (on_both f g) h x sc =
     let k = both_true (is_quiet_chain f) (is_quiet_chain g) h in
     next (apply_chain f (first_of x) sc) (λ y. apply_chain g (second_of x) sc >>= λ z. answer (pair y z)) (quiet_chain f k.0 (first_of x) sc)
@@ -285,7 +285,7 @@ module _ (Q : Leaves) (one : OneLeaf Q) where
   steps_replaced : (i : Expression) {t : Term} → IsTrue (is_quiet_expression i) → Steps t → Steps (headed Replaced i t)
   steps_replaced i h S e s L ys P =
       let v = quiet_eval i h (scope_around Q.functions e) in
-      let r = last_step S e (step (wait_of s) (at_first L v.0 (input_of s))) (with_first v.0 L) in
+      let r = last_step S e (step (wait_of s) (at_first L v.0 (input_of s))) (first_replaced v.0 L) in
       (r.0, at_replaced v.1 r.1)
 
   steps_followed : (i : Expression) {t : Term} → IsTrue (is_quiet_expression i) → Steps t → Steps (headed Followed i t)
@@ -299,7 +299,7 @@ module _ (Q : Leaves) (one : OneLeaf Q) where
   steps_transformed : (f : Function) {t : Term} → IsTrue (is_quiet_function f) → Steps t → Steps (transformed f t)
   steps_transformed f h S e s L ys P =
       let v = quiet_apply f h (first_input s L) (scope_around Q.functions e) in
-      let r = last_step S e (step (wait_of s) (at_first L v.0 (input_of s))) (with_first v.0 L) in
+      let r = last_step S e (step (wait_of s) (at_first L v.0 (input_of s))) (first_replaced v.0 L) in
       (r.0, at_transformed v.1 r.1)
 
   pub quiet_steps : (t : Term) → IsTrue (is_quiet t) → Steps t
@@ -310,7 +310,7 @@ module _ (Q : Leaves) (one : OneLeaf Q) where
   quiet_steps (joined j f g) h = let k = both_true (is_quiet f) (is_quiet g) h in steps_join j (quiet_steps f k.0) (quiet_steps g k.1)
   quiet_steps (sided d t) h = λ e s L ys P.
       let r = last_step (quiet_steps t h) e (step (wait_of s) (side_of d (input_of s))) (with_inputs (side_of d) L) in
-      (with_side d (input_of s) r.0, at_side r.1)
+      (side_replaced d (input_of s) r.0, at_side r.1)
   quiet_steps (headed LoopPre i t) h = let k = both_true (is_quiet_expression i) (is_quiet t) h in steps_loop i k.0 (quiet_steps t k.1)
   quiet_steps (headed Initialized i t) h = let k = both_true (is_quiet_expression i) (is_quiet t) h in steps_initialized i k.0 (quiet_steps t k.1)
   quiet_steps (headed Replaced i t) h = let k = both_true (is_quiet_expression i) (is_quiet t) h in steps_replaced i k.0 (quiet_steps t k.1)
@@ -318,7 +318,7 @@ module _ (Q : Leaves) (one : OneLeaf Q) where
   quiet_steps (transformed f t) h = let k = both_true (is_quiet_function f) (is_quiet t) h in steps_transformed f k.0 (quiet_steps t k.1)
   quiet_steps (switching w t p u) h = absurd (no_truth h)
   quiet_steps (reference r) h = absurd (no_truth h)
-  quiet_steps (keeping w t q k p u) h = absurd (no_truth h)
+  quiet_steps (continuing w t q k p u) h = absurd (no_truth h)
   quiet_steps (gathered i) h = absurd (no_truth h)
   quiet_steps (releasing w i q k p u) h = absurd (no_truth h)
   quiet_steps (editing w i k p u) h = absurd (no_truth h)

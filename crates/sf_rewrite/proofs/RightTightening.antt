@@ -8,8 +8,8 @@ use Rattle.sf_expr.specs.Evaluation.{answer, eval}
 use Rattle.sf_term.specs.declared.form.Side.TheVariants.{First}
 use Rattle.sf_term.specs.Trees.{whole, Term, sided, staged}
 use Rattle.sf_mean.specs.Lives.{Step, step, wait_of, input_of, Life, Environment, scope_around, with_inputs, relay, fed_back, older, fed}
-use Rattle.sf_mean.specs.Formulas.{with_side}
-use Rattle.sf_mean.specs.Meaning.{Readings, Outcome, gave, faulted, changed, combined, value_in, Cost, both_costs, over, text_cost}
+use Rattle.sf_mean.specs.Formulas.{side_replaced}
+use Rattle.sf_mean.specs.Meaning.{Readings, Outcome, gave, faulted, changed, combined, outcome_value, Cost, both_costs, over, text_cost}
 use Rattle.sf_rewrite.specs.Laws.{loop_pre}
 use Rattle.sf_rewrite.proofs.Parts.{Leaves, Part, part, Parts, begins, then_gave, At, at_leaf, at_side, at_loop, at_constant, Rounds, no_round, one_round, no_truth, OneLeaf, onces}
 use Rattle.sf_rewrite.proofs.Views.{Along, goes, stays, later, with_input, Chained, chained, Sided, seen_side, make_stages, split_stages, view_stages, view_side}
@@ -58,7 +58,7 @@ module _ (Q : Leaves) (one : OneLeaf Q) where
     -- one step of the loop and of what comes after
     data Lives (s : Step) (L : Life) (ys : List Data) : Outcome → Cost → Type 0 where
       goes_after : {y : Data} {r : Readings} {o : Outcome} {c d : Cost} → Part Q g e (fed v (s ∷ L) ys) (gave y r) c → At Q h e (with_input s (first_of y)) (relay L (firsts ys)) o d
-          → Lives s L ys (combined later (gave y r) (changed (with_side First y) o)) (over (both_costs c (over d)))
+          → Lives s L ys (combined later (gave y r) (changed (side_replaced First y) o)) (over (both_costs c (over d)))
       stays_after : {x : ValueFault} {c : Cost} → Part Q g e (fed v (s ∷ L) ys) (faulted x) c → Lives s L ys (faulted x) (over (both_costs c (over (text_cost h))))
 
     step_after : {s : Step} {L : Life} {zs ys : List Data} {o : Outcome} {c : Cost} → Rounds Q v g e L ys → Echo zs ys
@@ -84,7 +84,7 @@ module _ (Q : Leaves) (one : OneLeaf Q) where
         stays_after (subst N (fed_echo v (s ∷ L) E) (part A C))
 
     last_after : {s : Step} {L : Life} {zs ys us : List Data} {o : Outcome} {c : Cost} → Rounds Q v g e L ys → Parts Q h e (relay L (firsts ys)) us → Echo zs ys → Lives s L ys o c → (z : Data) (r : Readings) → o ≡ gave z r → Lived (s ∷ L) (z ∷ zs)
-    last_after R H E (goes_after {y = y} {o = gave u q} G F) z r h = lived (one_round R G) (then_gave H F) (one_echo (ap second_of (ap value_in (sym h))) E)
+    last_after R H E (goes_after {y = y} {o = gave u q} G F) z r h = lived (one_round R G) (then_gave H F) (one_echo (ap second_of (ap outcome_value (sym h))) E)
     last_after R H E (goes_after {o = faulted x} G F) z r h = absurd cc
     last_after R H E (stays_after G) z r h = absurd cc
 
@@ -133,7 +133,7 @@ module _ (Q : Leaves) (one : OneLeaf Q) where
         at_zs {o} {c} G = let N : Life → Type 0 = λ M. Part Q g e M o c in subst N (sym (fed_echo v (s ∷ L) E)) G
 
         with_h : {y : Data} {r : Readings} {o : Outcome} {c d b : Cost} → Part Q g e (fed v (s ∷ L) zs) (gave y r) c → At Q h e (with_input s (first_of y)) (relay L (firsts ys)) o d
-            → Lowered false (Part Q Both e (fed v (s ∷ L) zs) (combined later (gave y r) (changed (with_side First y) o))) b
+            → Lowered false (Part Q Both e (fed v (s ∷ L) zs) (combined later (gave y r) (changed (side_replaced First y) o))) b
         with_h {y = y} {o = o} {d = d} (part A C) F =
             let N : Life → Type 0 = λ M. At Q h e (with_input s (first_of y)) M o d in
             lowered (part (rounds_parts S) (make_stages Q one (chained sp.1 sp.2 C (goes (at_side (part H-two (subst N (sym er) F))))))) (below_any _ _)
@@ -153,7 +153,7 @@ module _ (Q : Leaves) (one : OneLeaf Q) where
     back_rounds (one_round {s = s} R G) (then_gave {r = q} H F) =
         elim (back_rounds R H) [ rebuilt_rounds S E ↦ elim (step_back {s = s} R H S E (goes_after G F)) [ lowered B k ↦ rebuilt_rounds (one_round S B) (one_echo refl E) ] ]
 
-  first_after : (y : Data) (r : Readings) (q : Outcome) → changed first_of (combined later (gave y r) (changed (with_side First y) q)) ≡ combined later (gave (first_of y) r) q
+  first_after : (y : Data) (r : Readings) (q : Outcome) → changed first_of (combined later (gave y r) (changed (side_replaced First y) q)) ≡ combined later (gave (first_of y) r) q
   first_after y r (gave u w) = refl
   first_after y r (faulted x) = refl
 
@@ -162,7 +162,7 @@ module _ (Q : Leaves) (one : OneLeaf Q) where
   back_right_tightened {i} {g} {h} e s L zs o c P F = outer (view_stages Q one P F)
     where
       value : {L : Life} {v : Data} {ys us : List Data} {p q : Outcome} {c d b : Cost} → eval i (scope_around Q.functions e) ≡ answer v → Rounds Q v g e L ys → Parts Q h e (relay L (firsts ys)) us → Part Q g e (fed v (s ∷ L) ys) p c
-          → Along Q (changed first_of p) h e (with_input s (value_in (changed first_of p))) (relay L (firsts ys)) q d → Lowered false (At Q (loop_pre i (staged whole g (sided First h))) e s L (combined later (changed first_of p) q)) b
+          → Along Q (changed first_of p) h e (with_input s (outcome_value (changed first_of p))) (relay L (firsts ys)) q d → Lowered false (At Q (loop_pre i (staged whole g (sided First h))) e s L (combined later (changed first_of p) q)) b
       value {L = L} {v = v} {p = gave y r} {q = q} k R H G (goes F) =
           elim (back_rounds g h e v R H) [
             | rebuilt_rounds S E ↦ elim (step_back g h e v {s = s} R H S E (goes_after G F)) [
@@ -175,10 +175,10 @@ module _ (Q : Leaves) (one : OneLeaf Q) where
           elim (back_rounds g h e v R H) [ rebuilt_rounds S E ↦ elim (step_back g h e v {s = s} R H S E (stays_after G)) [ lowered B l ↦ lowered (at_loop k S B) (below_any _ _) ] ]
 
       moved : {L : Life} {v : Data} {ys fs us : List Data} {p q : Outcome} {c d b : Cost} → fs ≡ firsts ys → eval i (scope_around Q.functions e) ≡ answer v → Rounds Q v g e L ys → Parts Q h e (relay L fs) us → Part Q g e (fed v (s ∷ L) ys) p c
-          → Along Q (changed first_of p) h e (with_input s (value_in (changed first_of p))) (relay L fs) q d → Lowered false (At Q (loop_pre i (staged whole g (sided First h))) e s L (combined later (changed first_of p) q)) b
+          → Along Q (changed first_of p) h e (with_input s (outcome_value (changed first_of p))) (relay L fs) q d → Lowered false (At Q (loop_pre i (staged whole g (sided First h))) e s L (combined later (changed first_of p) q)) b
       moved {L = L} {us = us} {p = p} {q = q} {d = d} x k R H G D =
           let N : List Data → Type 0 = λ l. Parts Q h e (relay L l) us in
-          let O : List Data → Type 0 = λ l. Along Q (changed first_of p) h e (with_input s (value_in (changed first_of p))) (relay L l) q d in
+          let O : List Data → Type 0 = λ l. Along Q (changed first_of p) h e (with_input s (outcome_value (changed first_of p))) (relay L l) q d in
           value k R (subst N x H) G (subst O x D)
 
       outer : {L : Life} {zs : List Data} {o : Outcome} {c : Cost} → Chained Q whole (loop_pre i g) h e s L zs o c → Lowered false (At Q (loop_pre i (staged whole g (sided First h))) e s L o) c

@@ -6,18 +6,18 @@ use Rattle.sf_term.specs.declared.form.Side.{Side}
 use Rattle.sf_term.specs.declared.form.Side.TheVariants.{First, Second}
 use Rattle.sf_term.specs.Trees.{whole, Term, sided, staged}
 use Rattle.sf_mean.specs.Lives.{step, wait_of, input_of, Life, Environment, with_inputs, relay}
-use Rattle.sf_mean.specs.Formulas.{side_of, with_side}
-use Rattle.sf_mean.specs.Meaning.{Readings, Outcome, gave, faulted, changed, combined, value_in, Cost, both_costs, over}
+use Rattle.sf_mean.specs.Formulas.{side_of, side_replaced}
+use Rattle.sf_mean.specs.Meaning.{Readings, Outcome, gave, faulted, changed, combined, outcome_value, Cost, both_costs, over}
 use Rattle.sf_rewrite.proofs.Parts.{Leaves, Parts, At, OneLeaf, onces}
 use Rattle.sf_rewrite.proofs.Views.{Along, goes, stays, later, sides, with_input, Chained, chained, Sided, seen_side, join_stages, make_stages, view_stages, join_side, make_side, view_side, split_side}
 use Rattle.sf_rewrite.proofs.Lowered.{Lowered, lowered, below_any, below}
 use Rattle.sf_rewrite.proofs.Along.{Sound}
 
-side_with : (a : Side) (x y : Data) → side_of a (with_side a x y) ≡ y
+side_with : (a : Side) (x y : Data) → side_of a (side_replaced a x y) ≡ y
 side_with First x y = refl
 side_with Second x y = refl
 
-with_with : (a : Side) (x y z : Data) → with_side a (with_side a x y) z ≡ with_side a x z
+with_with : (a : Side) (x y z : Data) → side_replaced a (side_replaced a x y) z ≡ side_replaced a x z
 with_with First x y z = refl
 with_with Second x y z = refl
 
@@ -32,7 +32,7 @@ module _ (Q : Leaves) (one : OneLeaf Q) where
   pub sides_are : {a : Side} {t : Term} {e : Environment} {L : Life} {ys us : List Data} → Parts Q (sided a t) e L ys → Parts Q t e (with_inputs (side_of a) L) us → ys ≡ sides a L us
   sides_are {L = L} P A = onces Q one P (join_side Q one L A)
 
-  merged_value : (a : Side) (x u : Data) (r : Readings) (o : Outcome) → combined later (gave (with_side a x u) r) (changed (with_side a (with_side a x u)) o) ≡ changed (with_side a x) (combined later (gave u r) o)
+  merged_value : (a : Side) (x u : Data) (r : Readings) (o : Outcome) → combined later (gave (side_replaced a x u) r) (changed (side_replaced a (side_replaced a x u)) o) ≡ changed (side_replaced a x) (combined later (gave u r) o)
   merged_value a x u r (gave z q) = ap (λ w. gave w (r ++ q)) (with_with a x u z)
   merged_value a x u r (faulted f) = refl
 
@@ -44,10 +44,10 @@ module _ (Q : Leaves) (one : OneLeaf Q) where
           let us = split_side Q one A in
           let vs = split_side Q one B in
           inner us.0 us.1 vs.0 (let N : List Data → Type 0 = λ l. Parts Q g e (with_inputs (side_of a) (relay L l)) vs.0 in subst N (sides_are A us.1) vs.1) (view_side Q one C)
-          (let N : List Data → Type 0 = λ l. Along Q p (sided a g) e (with_input s (value_in p)) (relay L l) q d in subst N (sides_are A us.1) D)
+          (let N : List Data → Type 0 = λ l. Along Q p (sided a g) e (with_input s (outcome_value p)) (relay L l) q d in subst N (sides_are A us.1) D)
         where
           inner : {p q : Outcome} {c d : Cost} (us : List Data) → Parts Q f e (with_inputs (side_of a) L) us → (vs : List Data) → Parts Q g e (with_inputs (side_of a) (relay L (sides a L us))) vs → Sided Q a f e s L p c
-              → Along Q p (sided a g) e (with_input s (value_in p)) (relay L (sides a L us)) q d → Lowered true (At Q (sided a (staged whole f g)) e s L (combined later p q)) (over (both_costs c d))
+              → Along Q p (sided a g) e (with_input s (outcome_value p)) (relay L (sides a L us)) q d → Lowered true (At Q (sided a (staged whole f g)) e s L (combined later p q)) (over (both_costs c d))
           inner us A vs B (seen_side {o = gave u r} {c = c} A' C) (goes D) = last (view_side Q one D)
             where
               el : with_inputs (side_of a) (relay L (sides a L us)) ≡ relay (with_inputs (side_of a) L) us
@@ -56,10 +56,10 @@ module _ (Q : Leaves) (one : OneLeaf Q) where
               B' : Parts Q g e (relay (with_inputs (side_of a) L) us) vs
               B' = let N : Life → Type 0 = λ M. Parts Q g e M vs in subst N el B
 
-              last : {q : Outcome} {d : Cost} → Sided Q a g e (with_input s (with_side a (input_of s) u)) (relay L (sides a L us)) q d
-                  → Lowered true (At Q (sided a (staged whole f g)) e s L (combined later (gave (with_side a (input_of s) u) r) q)) (over (both_costs (over c) d))
+              last : {q : Outcome} {d : Cost} → Sided Q a g e (with_input s (side_replaced a (input_of s) u)) (relay L (sides a L us)) q d
+                  → Lowered true (At Q (sided a (staged whole f g)) e s L (combined later (gave (side_replaced a (input_of s) u) r) q)) (over (both_costs (over c) d))
               last (seen_side {o = q} {c = d} B'' D) =
-                  let N : Life → Type 0 = λ M. At Q g e (with_input s (side_of a (with_side a (input_of s) u))) M q d in
+                  let N : Life → Type 0 = λ M. At Q g e (with_input s (side_of a (side_replaced a (input_of s) u))) M q d in
                   let O : Data → Type 0 = λ x. At Q g e (with_input s x) (relay (with_inputs (side_of a) L) us) q d in
                   let M : Outcome → Type 0 = λ o. At Q (sided a (staged whole f g)) e s L o (over (over (both_costs c d))) in
                   lowered (subst M (sym (merged_value a (input_of s) u r q))
@@ -76,7 +76,7 @@ module _ (Q : Leaves) (one : OneLeaf Q) where
       outer (seen_side {c = c} A F) = inner (over c) (view_stages Q one A F)
         where
           inner : {zs : List Data} {o : Outcome} {c : Cost} (b : Cost) → Chained Q whole f g e (with_input s (side_of a (input_of s))) (with_inputs (side_of a) L) zs o c
-              → Lowered false (At Q (staged whole (sided a f) (sided a g)) e s L (changed (with_side a (input_of s)) o)) b
+              → Lowered false (At Q (staged whole (sided a f) (sided a g)) e s L (changed (side_replaced a (input_of s)) o)) b
           inner b (chained {ys = us} {zs = vs} {p = p} {q = q} {c = c} {d = d} A B C D) = last p q C D
             where
               el : with_inputs (side_of a) (relay L (sides a L us)) ≡ relay (with_inputs (side_of a) L) us
@@ -85,8 +85,8 @@ module _ (Q : Leaves) (one : OneLeaf Q) where
               B' : Parts Q g e (with_inputs (side_of a) (relay L (sides a L us))) vs
               B' = let N : Life → Type 0 = λ M. Parts Q g e M vs in subst N (sym el) B
 
-              last : {c d : Cost} (p q : Outcome) → At Q f e (with_input s (side_of a (input_of s))) (with_inputs (side_of a) L) p c → Along Q p g e (with_input s (value_in p)) (relay (with_inputs (side_of a) L) us) q d
-                  → Lowered false (At Q (staged whole (sided a f) (sided a g)) e s L (changed (with_side a (input_of s)) (combined later p q))) b
+              last : {c d : Cost} (p q : Outcome) → At Q f e (with_input s (side_of a (input_of s))) (with_inputs (side_of a) L) p c → Along Q p g e (with_input s (outcome_value p)) (relay (with_inputs (side_of a) L) us) q d
+                  → Lowered false (At Q (staged whole (sided a f) (sided a g)) e s L (changed (side_replaced a (input_of s)) (combined later p q))) b
               last {c} {d} (gave u r) q C (goes D) =
                   let N : Life → Type 0 = λ M. At Q g e (with_input s u) M q d in
                   let O : Data → Type 0 = λ x. At Q g e (with_input s x) (with_inputs (side_of a) (relay L (sides a L us))) q d in

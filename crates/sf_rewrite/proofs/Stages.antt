@@ -5,7 +5,7 @@ use Rattle.sf_value.specs.Values.{Data}
 use Rattle.sf_term.specs.declared.form.Join.TheVariants.{InSequence}
 use Rattle.sf_term.specs.Trees.{Extent, whole, rest, Term, joined, staged}
 use Rattle.sf_mean.specs.Lives.{Step, step, wait_of, input_of, Life, Environment, relay}
-use Rattle.sf_mean.specs.Meaning.{Outcome, gave, faulted, combined, value_in, Cost, both_costs, over_stages, one_term, text_cost}
+use Rattle.sf_mean.specs.Meaning.{Outcome, gave, faulted, combined, outcome_value, Cost, both_costs, over_stages, one_term, text_cost}
 use Rattle.sf_rewrite.specs.Laws.{identity}
 use Rattle.sf_rewrite.proofs.Parts.{Leaves, Parts, begins, then_gave, At, at_leaf, at_primitive, at_join, at_stages, no_truth, OneLeaf, once_at}
 use Rattle.sf_rewrite.proofs.Views.{Along, goes, stays, later, with_input, Chained, chained, join_stages, make_stages, split_stages, view_stages}
@@ -63,7 +63,7 @@ module _ (Q : Leaves) (one : OneLeaf Q) where
 
   identity_relay : {e : Environment} {L : Life} {ys : List Data} → Parts Q identity e L ys → relay L ys ≡ L
   identity_relay begins = refl
-  identity_relay (then_gave {s = s} A B) = ap₂ (λ s L. s ∷ L) (ap (step (wait_of s)) (ap value_in (once_at Q one B at_primitive).0) ∙ same_step s) (identity_relay A)
+  identity_relay (then_gave {s = s} A B) = ap₂ (λ s L. s ∷ L) (ap (step (wait_of s)) (ap outcome_value (once_at Q one B at_primitive).0) ∙ same_step s) (identity_relay A)
 
   pub sound_identity_before : {x : Extent} {f : Term} → Sound Q one true (staged x identity f) f
   sound_identity_before {x} {f} e s L zs o c P B = go (view_stages Q one P B)
@@ -71,7 +71,7 @@ module _ (Q : Leaves) (one : OneLeaf Q) where
       go : {o : Outcome} {c : Cost} → Chained Q x identity f e s L zs o c → Lowered true (At Q f e s L o) c
       go (chained {ys = ys} {p = p} {q = q} {c = a} {d = b} A-one B-one C-one D-one) =
           let h : p ≡ gave (input_of s) [] = (once_at Q one C-one at_primitive).0 in
-          let N : Outcome → Type 0 = λ p. Along Q p f e (with_input s (value_in p)) (relay L ys) q b in
+          let N : Outcome → Type 0 = λ p. Along Q p f e (with_input s (outcome_value p)) (relay L ys) q b in
           finish (subst N h D-one) (ap (λ p. combined later p q) h ∙ after_value (input_of s) q) (identity_relay A-one)
         where
           finish : Along Q (gave (input_of s) []) f e (with_input s (input_of s)) (relay L ys) q b → combined later p q ≡ q → relay L ys ≡ L → Lowered true (At Q f e s L (combined later p q)) (over_stages x (both_costs a b))
@@ -122,7 +122,7 @@ module _ (Q : Leaves) (one : OneLeaf Q) where
       outer : {o : Outcome} {c : Cost} → Chained Q x (staged rest f g) h e s L zs o c → Lowered d (At Q (staged x f (staged rest g h)) e s L o) c
       outer (chained {ys = ys} {q = q} {d = k} A B C D) = inner (view_stages Q one A C) D
         where
-          inner : {p : Outcome} {c : Cost} → Chained Q rest f g e s L ys p c → Along Q p h e (with_input s (value_in p)) (relay L ys) q k
+          inner : {p : Outcome} {c : Cost} → Chained Q rest f g e s L ys p c → Along Q p h e (with_input s (outcome_value p)) (relay L ys) q k
               → Lowered d (At Q (staged x f (staged rest g h)) e s L (combined later p q)) (over_stages x (both_costs c k))
           inner (chained {ys = xs} {p = p1} {q = q1} {c = a} {d = b} A-one B-one C-one D-one) E = last p1 q1 C-one D-one E
             where
@@ -135,8 +135,8 @@ module _ (Q : Leaves) (one : OneLeaf Q) where
               PP : Parts Q (staged rest g h) e (relay L xs) zs
               PP = join_stages Q one B-one B-two
 
-              last : {a b k : Cost} {q : Outcome} (p1 q1 : Outcome) → At Q f e s L p1 a → Along Q p1 g e (with_input s (value_in p1)) (relay L xs) q1 b
-                  → Along Q (combined later p1 q1) h e (with_input s (value_in (combined later p1 q1))) (relay L ys) q k
+              last : {a b k : Cost} {q : Outcome} (p1 q1 : Outcome) → At Q f e s L p1 a → Along Q p1 g e (with_input s (outcome_value p1)) (relay L xs) q1 b
+                  → Along Q (combined later p1 q1) h e (with_input s (outcome_value (combined later p1 q1))) (relay L ys) q k
                   → Lowered d (At Q (staged x f (staged rest g h)) e s L (combined later (combined later p1 q1) q)) (over_stages x (both_costs (both_costs a b) k))
               last {a} {b} {k} {q} (gave y r) (gave z r1) C-one (goes D-one) (goes E) =
                   let N : Life → Type 0 = λ M. At Q h e (with_input s z) M q k in
@@ -160,7 +160,7 @@ module _ (Q : Leaves) (one : OneLeaf Q) where
               B-three : Parts Q h e (relay L ys) zs
               B-three = let N : Life → Type 0 = λ M. Parts Q h e M zs in subst N el B-two
 
-              last : {b k : Cost} (p2 q : Outcome) → At Q g e (with_input s y) (relay L xs) p2 b → Along Q p2 h e (with_input s (value_in p2)) (relay (relay L xs) ys) q k
+              last : {b k : Cost} (p2 q : Outcome) → At Q g e (with_input s y) (relay L xs) p2 b → Along Q p2 h e (with_input s (outcome_value p2)) (relay (relay L xs) ys) q k
                   → Lowered d (At Q (staged x (staged rest f g) h) e s L (combined later (gave y r) (combined later p2 q))) (over_stages x (both_costs a (both_costs b k)))
               last {b} {k} (gave z r1) q C-two (goes E) =
                   let N : Life → Type 0 = λ M. At Q h e (with_input s z) M q k in

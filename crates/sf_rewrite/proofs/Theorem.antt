@@ -8,12 +8,12 @@ use Rattle.sf_mean.proofs.Once.{once_sample}
 use Rattle.sf_rewrite.specs.Quiet.{is_quiet}
 use Rattle.sf_rewrite.specs.Laws.{unchanged}
 use Rattle.sf_rewrite.specs.Plans.{Plans, plans, PlansParts, PlansProcess, of_closure, of_frozen, PlansNames, of_nothing, of_value, of_process, PlansAll, no_templates, one_more, PlansNetwork}
-use Rattle.sf_rewrite.specs.Plans.{of_primitive, of_started, of_call, PlansArguments, of_no_arguments, of_value_argument, of_named_argument, of_closed_argument, of_term_argument, of_join, of_side, of_heading, of_transformed, of_switch, of_keeping, of_gathered, of_releasing, of_editing, PlansCollection, of_without, of_used, of_added, of_dropped, of_kept, of_chosen, of_collection_argument, PlansMembers, of_no_member, of_member, of_collected}
+use Rattle.sf_rewrite.specs.Plans.{of_primitive, of_started, of_call, PlansArguments, of_no_arguments, of_value_argument, of_named_argument, of_closed_argument, of_term_argument, of_join, of_side, of_heading, of_transformed, of_switch, of_continuing, of_gathered, of_releasing, of_editing, PlansCollection, of_without, of_used, of_added, of_dropped, of_kept, of_chosen, of_collection_argument, PlansMembers, of_no_member, of_member, of_collected}
 use Rattle.sf_rewrite.proofs.Parts.{OneLeaf}
 use Rattle.sf_rewrite.proofs.Quiet.{last_step, quiet_steps}
 use Rattle.sf_rewrite.proofs.Lowered.{lowered}
 use Rattle.sf_rewrite.proofs.Opening.{Leaf, closed_part}
-use Rattle.sf_rewrite.proofs.Main.{to_plan, from_plan, Alike, alike, Formed, same_primitive, same_started, same_call, AlikeArguments, alike_none, alike_value, alike_named, alike_closed, alike_opened, alike_terms, same_join, same_side, same_heading, same_transformed, same_switch, same_keeping, AlikeProcess, alike_closure, alike_resumed, AlikeNames, alike_empty, alike_known, alike_running, AlikeAll, none_alike, more_alike, keeps, same_gathered, same_releasing, same_editing, AlikeCollection, alike_without, alike_used, alike_added, alike_dropped, alike_kept, alike_chosen, alike_collection, AlikeMembers, alike_no_member, alike_member, alike_collected}
+use Rattle.sf_rewrite.proofs.Main.{to_plan, from_plan, Alike, alike, Formed, same_primitive, same_started, same_call, AlikeArguments, alike_none, alike_value, alike_named, alike_closed, alike_opened, alike_terms, same_join, same_side, same_heading, same_transformed, same_switch, same_continuing, AlikeProcess, alike_closure, alike_resumed, AlikeNames, alike_empty, alike_known, alike_running, AlikeAll, none_alike, more_alike, keeps, same_gathered, same_releasing, same_editing, AlikeCollection, alike_without, alike_used, alike_added, alike_dropped, alike_kept, alike_chosen, alike_collection, AlikeMembers, alike_no_member, alike_member, alike_collected}
 
 mutual
   onto : {t u : Term} → Plans t u → Alike true t u
@@ -28,7 +28,7 @@ mutual
   onto_parts (of_heading A) = same_heading (onto A)
   onto_parts (of_transformed A) = same_transformed (onto A)
   onto_parts (of_switch A B) = same_switch (onto A) (onto B)
-  onto_parts (of_keeping A C B) = same_keeping (onto A) (onto C) (onto B)
+  onto_parts (of_continuing A C B) = same_continuing (onto A) (onto C) (onto B)
   onto_parts (of_gathered I) = same_gathered (onto_collection I)
   onto_parts (of_releasing I A B) = same_releasing (onto_collection I) (onto A) (onto B)
   onto_parts (of_editing I J) = same_editing (onto_collection I) (onto_collection J)
@@ -62,7 +62,7 @@ mutual
   from_parts (of_heading A) = same_heading (from A)
   from_parts (of_transformed A) = same_transformed (from A)
   from_parts (of_switch A B) = same_switch (from A) (from B)
-  from_parts (of_keeping A C B) = same_keeping (from A) (from C) (from B)
+  from_parts (of_continuing A C B) = same_continuing (from A) (from C) (from B)
   from_parts (of_gathered I) = same_gathered (from_collection I)
   from_parts (of_releasing I A B) = same_releasing (from_collection I) (from A) (from B)
   from_parts (of_editing I J) = same_editing (from_collection I) (from_collection J)

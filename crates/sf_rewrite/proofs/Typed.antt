@@ -10,61 +10,61 @@ use Rattle.sf_term.specs.declared.form.Side.{Side}
 use Rattle.sf_term.specs.declared.form.Heading.{Heading}
 use Rattle.sf_term.specs.declared.form.Observation.{Observation}
 use Rattle.sf_term.specs.declared.form.Switching.{Switching}
-use Rattle.sf_term.specs.Trees.{Chain, Extent, Term, Arguments, joined, sided, headed, transformed, switching, keeping, staged, Template, Templates, gathered, releasing, editing, Collection}
-use Rattle.sf_mean.specs.Contexts.{Context, Bindings, Signature, signature_of, context_with, inside_pattern, inside_process, inside_collection}
-use Rattle.sf_mean.specs.Typing.{ChainTakes, lone_takes, chained_takes, on_first_takes, on_second_takes, on_both_takes, fanned_takes, bare_takes, value_takes, arrow_takes, fused_takes, Takes, takes, primitive_takes, call_takes, ArgumentsFit, value_fits, process_fits, closed_fits, sequence_takes, parallel_takes, fan_takes, first_takes, second_takes, loop_takes, initialized_takes, replaced_takes, followed_takes, transformed_takes, switch_takes, keeping_takes, recurring_takes, stages_take, gathered_takes, releasing_takes, editing_takes, Collects, collects_added, collects_dropped, collects_kept, collects_chosen, collection_fits}
+use Rattle.sf_term.specs.Trees.{Chain, Extent, Term, Arguments, joined, sided, headed, transformed, switching, continuing, staged, Template, Templates, gathered, releasing, editing, Collection}
+use Rattle.sf_mean.specs.Contexts.{Context, Bindings, Signature, signature_of, outer_context, inside_pattern, inside_process, inside_collection}
+use Rattle.sf_mean.specs.Typing.{ChainTakes, lone_takes, chained_takes, on_first_takes, on_second_takes, on_both_takes, fanned_takes, bare_takes, value_takes, arrow_takes, fused_takes, Takes, takes, primitive_takes, call_takes, ArgumentsFit, value_fits, process_fits, closed_fits, sequence_takes, parallel_takes, fan_takes, first_takes, second_takes, loop_takes, initialized_takes, replaced_takes, followed_takes, transformed_takes, switch_takes, continuing_takes, recurring_takes, stages_take, gathered_takes, releasing_takes, editing_takes, Collects, collects_added, collects_dropped, collects_kept, collects_chosen, collection_fits}
 use Rattle.sf_mean.proofs.Inferred.{input_fits, output_fits}
 use Rattle.sf_rewrite.specs.Laws.{arr, Laws, unchanged, in_turn, in_join, in_stages, in_side, in_heading, in_transformed, in_switch, as_pipeline, within_pipeline, associate_right, associate_left, identity_before, identity_after, arr_as_chain, chain_as_arr, arr_composed, arr_on_side, arr_in_parallel, arr_fanned_out, sides_composed, exchanged, constant_after, left_tightened, right_tightened}
-use Rattle.sf_rewrite.specs.Plans.{Plans, plans, PlansParts, of_primitive, of_started, of_call, PlansArguments, of_no_arguments, of_value_argument, of_named_argument, of_closed_argument, of_term_argument, of_join, of_side, of_heading, of_transformed, of_switch, of_keeping, PlansTemplate, PlansAll, no_templates, one_more, of_gathered, of_releasing, of_editing, PlansCollection, of_without, of_used, of_added, of_dropped, of_kept, of_chosen, of_collection_argument}
+use Rattle.sf_rewrite.specs.Plans.{Plans, plans, PlansParts, of_primitive, of_started, of_call, PlansArguments, of_no_arguments, of_value_argument, of_named_argument, of_closed_argument, of_term_argument, of_join, of_side, of_heading, of_transformed, of_switch, of_continuing, PlansTemplate, PlansAll, no_templates, one_more, of_gathered, of_releasing, of_editing, PlansCollection, of_without, of_used, of_added, of_dropped, of_kept, of_chosen, of_collection_argument}
 
-abbrev Keeps : Context → Term → Term → Type 0
-Keeps Γ t u = (a b : Kind) → Takes Γ t a b → Takes Γ u a b
+abbrev Extends : Context → Term → Term → Type 0
+Extends Γ t u = (a b : Kind) → Takes Γ t a b → Takes Γ u a b
 
 module _ {Γ : Context} where
-  keeps_join : {j : Join} {f f' g g' : Term} → Keeps Γ f f' → Keeps Γ g g' → Keeps Γ (joined j f g) (joined j f' g')
+  keeps_join : {j : Join} {f f' g g' : Term} → Extends Γ f f' → Extends Γ g g' → Extends Γ (joined j f g) (joined j f' g')
   keeps_join F G a b (takes p q (sequence_takes f g)) = takes p q (sequence_takes (F _ _ f) (G _ _ g))
   keeps_join F G a b (takes p q (parallel_takes f g)) = takes p q (parallel_takes (F _ _ f) (G _ _ g))
   keeps_join F G a b (takes p q (fan_takes f g)) = takes p q (fan_takes (F _ _ f) (G _ _ g))
 
-  keeps_stages : {x : Extent} {f f' g g' : Term} → Keeps Γ f f' → Keeps Γ g g' → Keeps Γ (staged x f g) (staged x f' g')
+  keeps_stages : {x : Extent} {f f' g g' : Term} → Extends Γ f f' → Extends Γ g g' → Extends Γ (staged x f g) (staged x f' g')
   keeps_stages F G a b (takes p q (stages_take f g)) = takes p q (stages_take (F _ _ f) (G _ _ g))
 
-  keeps_side : {d : Side} {t t' : Term} → Keeps Γ t t' → Keeps Γ (sided d t) (sided d t')
+  keeps_side : {d : Side} {t t' : Term} → Extends Γ t t' → Extends Γ (sided d t) (sided d t')
   keeps_side F a b (takes p q (first_takes f)) = takes p q (first_takes (F _ _ f))
   keeps_side F a b (takes p q (second_takes f)) = takes p q (second_takes (F _ _ f))
 
-  keeps_heading : {h : Heading} {i : Expression} {t t' : Term} → Keeps Γ t t' → Keeps Γ (headed h i t) (headed h i t')
+  keeps_heading : {h : Heading} {i : Expression} {t t' : Term} → Extends Γ t t' → Extends Γ (headed h i t) (headed h i t')
   keeps_heading F a b (takes p q (loop_takes e f)) = takes p q (loop_takes e (F _ _ f))
   keeps_heading F a b (takes p q (initialized_takes e f)) = takes p q (initialized_takes e (F _ _ f))
   keeps_heading F a b (takes p q (replaced_takes e f)) = takes p q (replaced_takes e (F _ _ f))
   keeps_heading F a b (takes p q (followed_takes e f)) = takes p q (followed_takes e (F _ _ f))
 
-  keeps_transformed : {f : Function} {t t' : Term} → Keeps Γ t t' → Keeps Γ (transformed f t) (transformed f t')
+  keeps_transformed : {f : Function} {t t' : Term} → Extends Γ t t' → Extends Γ (transformed f t) (transformed f t')
   keeps_transformed F a b (takes p q (transformed_takes e f)) = takes p q (transformed_takes e (F _ _ f))
 
-  keeps_switch : {w : Switching} {t t' u u' : Term} {p : Pattern} → Keeps Γ t t' → ((c : Kind) → Keeps (inside_pattern p c Γ) u u') → Keeps Γ (switching w t p u) (switching w t' p u')
+  keeps_switch : {w : Switching} {t t' u u' : Term} {p : Pattern} → Extends Γ t t' → ((c : Kind) → Extends (inside_pattern p c Γ) u u') → Extends Γ (switching w t p u) (switching w t' p u')
   keeps_switch F G a b (takes x y (switch_takes f h g)) = takes x y (switch_takes (F _ _ f) h (G _ _ _ g))
   keeps_switch F G a b (takes x y (recurring_takes f h g)) = takes x y (recurring_takes (F _ _ f) h (G _ _ _ g))
 
-  keeps_keeping : {w : Observation} {t t' q q' u u' : Term} {k : Name} {p : Pattern} → Keeps Γ t t' → Keeps Γ q q' → ((a b c : Kind) → Keeps (inside_pattern p c (inside_process k a b Γ)) u u') → Keeps Γ (keeping w t q k p u) (keeping w t' q' k p u')
-  keeps_keeping F H G a b (takes x y (keeping_takes f i h g)) = takes x y (keeping_takes (F _ _ f) (H _ _ i) h (G _ _ _ _ _ g))
+  keeps_continuing : {w : Observation} {t t' q q' u u' : Term} {k : Name} {p : Pattern} → Extends Γ t t' → Extends Γ q q' → ((a b c : Kind) → Extends (inside_pattern p c (inside_process k a b Γ)) u u') → Extends Γ (continuing w t q k p u) (continuing w t' q' k p u')
+  keeps_continuing F H G a b (takes x y (continuing_takes f i h g)) = takes x y (continuing_takes (F _ _ f) (H _ _ i) h (G _ _ _ _ _ g))
 
-  keeps_gathered : {i i' : Collection} → ((k : KeyKind) (a b : Kind) → Collects Γ i k a b → Collects Γ i' k a b) → Keeps Γ (gathered i) (gathered i')
+  keeps_gathered : {i i' : Collection} → ((k : KeyKind) (a b : Kind) → Collects Γ i k a b → Collects Γ i' k a b) → Extends Γ (gathered i) (gathered i')
   keeps_gathered C a b (takes x y (gathered_takes c)) = takes x y (gathered_takes (C _ _ _ c))
 
-  keeps_releasing : {w : Observation} {i i' : Collection} {q q' u u' : Term} {k : Name} {p : Pattern} → ((k : KeyKind) (a b : Kind) → Collects Γ i k a b → Collects Γ i' k a b) → Keeps Γ q q'
-      → ((l : KeyKind) (a b c : Kind) → Keeps (inside_pattern p c (inside_collection k l a b Γ)) u u') → Keeps Γ (releasing w i q k p u) (releasing w i' q' k p u')
+  keeps_releasing : {w : Observation} {i i' : Collection} {q q' u u' : Term} {k : Name} {p : Pattern} → ((k : KeyKind) (a b : Kind) → Collects Γ i k a b → Collects Γ i' k a b) → Extends Γ q q'
+      → ((l : KeyKind) (a b c : Kind) → Extends (inside_pattern p c (inside_collection k l a b Γ)) u u') → Extends Γ (releasing w i q k p u) (releasing w i' q' k p u')
   keeps_releasing C H G a b (takes x y (releasing_takes c j h g)) = takes x y (releasing_takes (C _ _ _ c) (H _ _ j) h (G _ _ _ _ _ _ g))
 
   keeps_editing : {w : Observation} {i i' u u' : Collection} {k : Name} {p : Pattern} → ((k : KeyKind) (a b : Kind) → Collects Γ i k a b → Collects Γ i' k a b)
-      → ((Δ : Context) (l : KeyKind) (a b : Kind) → Collects Δ u l a b → Collects Δ u' l a b) → Keeps Γ (editing w i k p u) (editing w i' k p u')
+      → ((Δ : Context) (l : KeyKind) (a b : Kind) → Collects Δ u l a b → Collects Δ u' l a b) → Extends Γ (editing w i k p u) (editing w i' k p u')
   keeps_editing C D a b (takes x y (editing_takes c h d)) = takes x y (editing_takes (C _ _ _ c) h (D _ _ _ _ d))
 
   -- the types of a fused function
   arr_chain : {f : Chain} {a b : Kind} → Takes Γ (arr f) a b → ChainTakes Γ f a b
   arr_chain (takes p q (primitive_takes (fused_takes f h))) = f
 
-pub law_takes : {Γ : Context} {t u : Term} → Laws t u → Keeps Γ t u
+pub law_takes : {Γ : Context} {t u : Term} → Laws t u → Extends Γ t u
 law_takes unchanged a b k = k
 law_takes (in_turn A B) a b k = law_takes B a b (law_takes A a b k)
 law_takes (in_join A B) a b k = keeps_join (law_takes A) (law_takes B) a b k
@@ -95,10 +95,10 @@ law_takes right_tightened a b (takes p q (loop_takes e (takes p' q' (stages_take
 law_takes (constant_after z) a b (takes p q (stages_take f (takes p' q' (primitive_takes (value_takes e h k))))) = takes p q (primitive_takes (value_takes e h k))
 
 mutual
-  pub plan_takes : {Γ : Context} {t u : Term} → Plans t u → Keeps Γ t u
+  pub plan_takes : {Γ : Context} {t u : Term} → Plans t u → Extends Γ t u
   plan_takes (plans A B) a b k = law_takes B a b (parts_take A a b k)
 
-  parts_take : {Γ : Context} {t u : Term} → PlansParts t u → Keeps Γ t u
+  parts_take : {Γ : Context} {t u : Term} → PlansParts t u → Extends Γ t u
   parts_take of_primitive a b k = k
   parts_take of_started a b k = k
   parts_take (of_call A) a b (takes p q (call_takes h F)) = takes p q (call_takes h (arguments_take A F))
@@ -107,7 +107,7 @@ mutual
   parts_take (of_heading A) a b k = keeps_heading (plan_takes A) a b k
   parts_take (of_transformed A) a b k = keeps_transformed (plan_takes A) a b k
   parts_take (of_switch A B) a b k = keeps_switch (plan_takes A) (λ c. plan_takes B) a b k
-  parts_take (of_keeping A C B) a b k = keeps_keeping (plan_takes A) (plan_takes C) (λ a b c. plan_takes B) a b k
+  parts_take (of_continuing A C B) a b k = keeps_continuing (plan_takes A) (plan_takes C) (λ a b c. plan_takes B) a b k
   parts_take (of_gathered I) a b k = keeps_gathered (λ l a b. collection_takes I) a b k
   parts_take (of_releasing I A B) a b k = keeps_releasing (λ l a b. collection_takes I) (plan_takes A) (λ l a b c. plan_takes B) a b k
   parts_take (of_editing I J) a b k = keeps_editing (λ l a b. collection_takes I) (λ Δ l a b. collection_takes J) a b k
@@ -137,5 +137,5 @@ signatures_are (one_more A B) = ap₂ (λ (s : Signature) (l : List Signature). 
     same_signature : {s t : Template} → PlansTemplate s t → signature_of t ≡ signature_of s
     same_signature A = (λ x. record { name = A.name x; parameters = A.parameters x; input = A.input x; output = A.output x })
 
-pub same_context : {ss ts : Templates} (fs : TypesByName) (bs : Bindings) → PlansAll ss ts → context_with fs bs ss ≡ context_with fs bs ts
+pub same_context : {ss ts : Templates} (fs : TypesByName) (bs : Bindings) → PlansAll ss ts → outer_context fs bs ss ≡ outer_context fs bs ts
 same_context fs bs P = ap (λ (l : List Signature). record { bindings = bs; signatures = l; functions = fs }) (signatures_are P)

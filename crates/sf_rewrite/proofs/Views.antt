@@ -6,8 +6,8 @@ use Rattle.sf_term.specs.declared.form.Join.TheVariants.{InParallel, FannedOut}
 use Rattle.sf_term.specs.declared.form.Side.{Side}
 use Rattle.sf_term.specs.Trees.{Extent, Term, joined, sided, staged}
 use Rattle.sf_mean.specs.Lives.{Step, step, wait_of, input_of, Life, Environment, with_inputs, relay}
-use Rattle.sf_mean.specs.Formulas.{side_of, with_side}
-use Rattle.sf_mean.specs.Meaning.{Readings, Outcome, gave, faulted, changed, combined, value_in, Cost, both_costs, over, over_stages, text_cost}
+use Rattle.sf_mean.specs.Formulas.{side_of, side_replaced}
+use Rattle.sf_mean.specs.Meaning.{Readings, Outcome, gave, faulted, changed, combined, outcome_value, Cost, both_costs, over, over_stages, text_cost}
 use Rattle.sf_rewrite.proofs.Parts.{Leaves, part, Parts, begins, then_gave, At, at_leaf, at_join, at_stages, at_side, Then, then_part, then_stops, no_truth, OneLeaf, onces}
 
 -- one step of the part that stands next
@@ -28,7 +28,7 @@ pairs (y ∷ ys) (w ∷ ws) = pair y w ∷ pairs ys ws
 abbrev pub sides : Side → Life → List Data → List Data
 sides a [] us = []
 sides a (s ∷ L) [] = []
-sides a (s ∷ L) (u ∷ us) = with_side a (input_of s) u ∷ sides a L us
+sides a (s ∷ L) (u ∷ us) = side_replaced a (input_of s) u ∷ sides a L us
 
 -- the step with another input
 abbrev pub with_input : Step → Data → Step
@@ -37,7 +37,7 @@ with_input s y = step (wait_of s) y
 -- a stage and the others
 pub data Chained (Q : Leaves) (x : Extent) (f g : Term) (e : Environment) (s : Step) (L : Life) : List Data → Outcome → Cost → Type 0 where
   chained : {ys zs : List Data} {p q : Outcome} {c d : Cost}
-      → Parts Q f e L ys → Parts Q g e (relay L ys) zs → At Q f e s L p c → Along Q p g e (with_input s (value_in p)) (relay L ys) q d
+      → Parts Q f e L ys → Parts Q g e (relay L ys) zs → At Q f e s L p c → Along Q p g e (with_input s (outcome_value p)) (relay L ys) q d
       → Chained Q x f g e s L zs (combined later p q) (over_stages x (both_costs c d))
 
 -- `***`
@@ -57,7 +57,7 @@ pub data Fanned (Q : Leaves) (f g : Term) (e : Environment) (s : Step) (L : Life
 -- `first` and `second`
 pub data Sided (Q : Leaves) (a : Side) (t : Term) (e : Environment) (s : Step) (L : Life) : Outcome → Cost → Type 0 where
   seen_side : {us : List Data} {o : Outcome} {c : Cost} → Parts Q t e (with_inputs (side_of a) L) us → At Q t e (with_input s (side_of a (input_of s))) (with_inputs (side_of a) L) o c
-      → Sided Q a t e s L (changed (with_side a (input_of s)) o) (over c)
+      → Sided Q a t e s L (changed (side_replaced a (input_of s)) o) (over c)
 
 module _ (Q : Leaves) (one : OneLeaf Q) where
   then_along : {p : Outcome} {g : Term} {e : Environment} {s : Step} {L : Life} {q : Outcome} {c : Cost} → Then Q p g e (s ∷ L) q c → Along Q p g e s L q c
@@ -83,14 +83,14 @@ module _ (Q : Leaves) (one : OneLeaf Q) where
   pub last_stages : {x : Extent} {f g : Term} {e : Environment} {s : Step} {L : Life} {zs : List Data} {o : Outcome} {c : Cost} → Chained Q x f g e s L zs o c → (z : Data) (r : Readings) → o ≡ gave z r → SplitStages f g e (s ∷ L) (z ∷ zs)
   last_stages {g = g} {e = e} {s = s} {L = L} {zs = zs} (chained {ys = ys} {p = gave y r'} {q = gave z' r''} A B C (goes D)) z r h =
       let N : Data → Type 0 = λ z. Parts Q g e (with_input s y ∷ relay L ys) (z ∷ zs) in
-      (y ∷ ys, then_gave A C, subst N (ap value_in h) (then_gave B D))
+      (y ∷ ys, then_gave A C, subst N (ap outcome_value h) (then_gave B D))
   last_stages (chained {p = gave y r'} {q = faulted x} A B C D) z r h = absurd cc
   last_stages (chained {p = faulted x} A B C D) z r h = absurd cc
 
   with_stages : {x : Extent} {f g : Term} {e : Environment} {s : Step} {L : Life} {zs : List Data} {o : Outcome} {c : Cost} → SplitStages f g e L zs → At Q (staged x f g) e s L o c → Chained Q x f g e s L zs o c
   with_stages k (at_leaf h B) = absurd (no_truth h)
   with_stages {f = f} {g = g} {e = e} {s = s} {L = L} k (at_stages {o = p} {o' = q} {c' = d} A (part A' C) D) =
-      let N : List Data → Type 0 = λ l. Along Q p g e (with_input s (value_in p)) (relay L l) q d in
+      let N : List Data → Type 0 = λ l. Along Q p g e (with_input s (outcome_value p)) (relay L l) q d in
       chained k.1 k.2 C (subst N (onces Q one A k.1) (then_along D))
 
   pub split_stages : {x : Extent} {f g : Term} {e : Environment} {L : Life} {zs : List Data} → Parts Q (staged x f g) e L zs → SplitStages f g e L zs
@@ -114,7 +114,7 @@ module _ (Q : Leaves) (one : OneLeaf Q) where
 
   pub last_parallel : {f g : Term} {e : Environment} {s : Step} {L : Life} {zs : List Data} {o : Outcome} {c : Cost} → Paired Q f g e s L zs o c → (z : Data) (r : Readings) → o ≡ gave z r → SplitParallel f g e (s ∷ L) (z ∷ zs)
   last_parallel (paired {ys = ys} {zs = ws} {p = gave y r'} {q = gave z' r''} A B C (goes D)) z r h =
-      (y ∷ ys, z' ∷ ws, then_gave A C, then_gave B D, ap (λ z. z ∷ pairs ys ws) (ap value_in h))
+      (y ∷ ys, z' ∷ ws, then_gave A C, then_gave B D, ap (λ z. z ∷ pairs ys ws) (ap outcome_value h))
   last_parallel (paired {p = gave y r'} {q = faulted x} A B C D) z r h = absurd cc
   last_parallel (paired {p = faulted x} A B C D) z r h = absurd cc
 

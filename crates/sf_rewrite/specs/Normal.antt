@@ -10,7 +10,7 @@ use Rattle.sf_term.specs.declared.form.Heading.{Heading}
 use Rattle.sf_term.specs.declared.form.Observation.{Observation}
 use Rattle.sf_term.specs.declared.form.Start.{Start}
 use Rattle.sf_term.specs.declared.form.Switching.{Switching}
-use Rattle.sf_term.specs.Trees.{Primitive, bare, probe, never, with_value, timed, selected, arrow, accumulated, fused, whole, rest, Term, primitive, Reference, reference, started, call, Arguments, no_arguments, value_argument, process_argument, closed_argument, joined, sided, headed, transformed, switching, keeping, staged, collection_argument, gathered, releasing, editing, Collection, without_members, used, added, dropped, kept, chosen}
+use Rattle.sf_term.specs.Trees.{Primitive, bare, probe, never, with_value, timed, selected, arrow, accumulated, fused, whole, rest, Term, primitive, Reference, reference, started, call, Arguments, no_arguments, value_argument, process_argument, closed_argument, joined, sided, headed, transformed, switching, continuing, staged, collection_argument, gathered, releasing, editing, Collection, without_members, used, added, dropped, kept, chosen}
 
 -- `arr`, of one function or of functions made into one
 abbrev pub is_arr : Term → Bool
@@ -29,7 +29,7 @@ is_arr (sided d t) = false
 is_arr (headed h i t) = false
 is_arr (transformed f t) = false
 is_arr (switching w t p u) = false
-is_arr (keeping w t q k p u) = false
+is_arr (continuing w t q k p u) = false
 is_arr (gathered i) = false
 is_arr (releasing w i q k p u) = false
 is_arr (editing w i k p u) = false
@@ -65,7 +65,7 @@ is_stage (sided d t) = true
 is_stage (headed h i t) = true
 is_stage (transformed f t) = true
 is_stage (switching w t p u) = true
-is_stage (keeping w t q k p u) = true
+is_stage (continuing w t q k p u) = true
 is_stage (gathered i) = true
 is_stage (releasing w i q k p u) = true
 is_stage (editing w i k p u) = true
@@ -89,7 +89,7 @@ mutual
     plan_heading : {h : Heading} {i : Expression} {t : Term} → IsPlan t → IsPlan (headed h i t)
     plan_transformed : {f : Function} {t : Term} → IsPlan t → IsPlan (transformed f t)
     plan_switch : {w : Switching} {t u : Term} {p : Pattern} → IsPlan t → IsPlan u → IsPlan (switching w t p u)
-    plan_keeping : {w : Observation} {t q u : Term} {k : Name} {p : Pattern} → IsPlan t → IsPlan q → IsPlan u → IsPlan (keeping w t q k p u)
+    plan_continuing : {w : Observation} {t q u : Term} {k : Name} {p : Pattern} → IsPlan t → IsPlan q → IsPlan u → IsPlan (continuing w t q k p u)
     plan_gathered : {i : Collection} → IsPlanned i → IsPlan (gathered i)
     plan_releasing : {w : Observation} {i : Collection} {q u : Term} {k : Name} {p : Pattern} → IsPlanned i → IsPlan q → IsPlan u → IsPlan (releasing w i q k p u)
     plan_editing : {w : Observation} {i u : Collection} {k : Name} {p : Pattern} → IsPlanned i → IsPlanned u → IsPlan (editing w i k p u)
@@ -139,7 +139,7 @@ abbrev mutual
   is_written (headed h i t) = is_written t
   is_written (transformed f t) = is_written t
   is_written (switching w t p u) = is_written t && is_written u
-  is_written (keeping w t q k p u) = is_written t && (is_written q && is_written u)
+  is_written (continuing w t q k p u) = is_written t && (is_written q && is_written u)
   is_written (gathered i) = collects_written i
   is_written (releasing w i q k p u) = collects_written i && (is_written q && is_written u)
   is_written (editing w i k p u) = collects_written i && collects_written u

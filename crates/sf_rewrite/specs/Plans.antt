@@ -8,7 +8,7 @@ use Rattle.sf_term.specs.declared.form.Heading.{Heading}
 use Rattle.sf_term.specs.declared.form.Observation.{Observation}
 use Rattle.sf_term.specs.declared.form.Start.{Start}
 use Rattle.sf_term.specs.declared.form.Switching.{Switching}
-use Rattle.sf_term.specs.Trees.{Primitive, Term, primitive, reference, started, call, Arguments, no_arguments, value_argument, process_argument, closed_argument, joined, sided, headed, transformed, switching, keeping, staged, Template, Templates, collection_argument, gathered, releasing, editing, Collection, without_members, used, added, dropped, kept, chosen}
+use Rattle.sf_term.specs.Trees.{Primitive, Term, primitive, reference, started, call, Arguments, no_arguments, value_argument, process_argument, closed_argument, joined, sided, headed, transformed, switching, continuing, staged, Template, Templates, collection_argument, gathered, releasing, editing, Collection, without_members, used, added, dropped, kept, chosen}
 use Rattle.sf_mean.specs.Lives.{Life, Process, closure, resumed, Environment, empty, known, running, collected, Members, no_members, member}
 use Rattle.sf_mean.specs.Meaning.{Network}
 use Rattle.sf_rewrite.specs.Laws.{Laws}
@@ -23,7 +23,7 @@ is_started (sided d t) = false
 is_started (headed h i t) = false
 is_started (transformed f t) = false
 is_started (switching w t p u) = false
-is_started (keeping w t q k p u) = false
+is_started (continuing w t q k p u) = false
 is_started (gathered i) = false
 is_started (releasing w i q k p u) = false
 is_started (editing w i k p u) = false
@@ -43,7 +43,7 @@ mutual
     of_heading : {h : Heading} {i : Expression} {t t' : Term} → Plans t t' → PlansParts (headed h i t) (headed h i t')
     of_transformed : {f : Function} {t t' : Term} → Plans t t' → PlansParts (transformed f t) (transformed f t')
     of_switch : {w : Switching} {t t' u u' : Term} {p : Pattern} → Plans t t' → Plans u u' → PlansParts (switching w t p u) (switching w t' p u')
-    of_keeping : {w : Observation} {t t' q q' u u' : Term} {k : Name} {p : Pattern} → Plans t t' → Plans q q' → Plans u u' → PlansParts (keeping w t q k p u) (keeping w t' q' k p u')
+    of_continuing : {w : Observation} {t t' q q' u u' : Term} {k : Name} {p : Pattern} → Plans t t' → Plans q q' → Plans u u' → PlansParts (continuing w t q k p u) (continuing w t' q' k p u')
     of_gathered : {i i' : Collection} → PlansCollection i i' → PlansParts (gathered i) (gathered i')
     of_releasing : {w : Observation} {i i' : Collection} {q q' u u' : Term} {k : Name} {p : Pattern} → PlansCollection i i' → Plans q q' → Plans u u' → PlansParts (releasing w i q k p u) (releasing w i' q' k p u')
     of_editing : {w : Observation} {i i' u u' : Collection} {k : Name} {p : Pattern} → PlansCollection i i' → PlansCollection u u' → PlansParts (editing w i k p u) (editing w i' k p u')

@@ -9,7 +9,7 @@ use Rattle.sf_operator.specs.declared.operator.Merge.TheVariants.{Exclusive}
 use Rattle.sf_expr.specs.Expressions.{Expression, variable, literal, paired, applied, operation, conditional, mapped, folded, called, Function, function}
 use Rattle.sf_term.specs.declared.form.Bare.{Bare}
 use Rattle.sf_term.specs.declared.form.Bare.TheVariants.{Identity, LocalTime, Integral, Edge, NotYet, Once, Count, Pre}
-use Rattle.sf_term.specs.Trees.{Chain, lone, chained, on_side, on_both, fanned, Primitive, bare, probe, never, with_value, timed, selected, arrow, accumulated, fused, Term, primitive, reference, joined, sided, headed, transformed, switching, keeping, staged, gathered, releasing, editing}
+use Rattle.sf_term.specs.Trees.{Chain, lone, chained, on_side, on_both, fanned, Primitive, bare, probe, never, with_value, timed, selected, arrow, accumulated, fused, Term, primitive, reference, joined, sided, headed, transformed, switching, continuing, staged, gathered, releasing, editing}
 
 -- an operator on a value that always makes one; a table may have more keys than there are numbers
 abbrev pub is_quiet_unary : Unary → Bool
@@ -79,7 +79,7 @@ is_quiet (sided d t) = is_quiet t
 is_quiet (headed h i t) = is_quiet_expression i && is_quiet t
 is_quiet (transformed f t) = is_quiet_function f && is_quiet t
 is_quiet (switching w t p u) = false
-is_quiet (keeping w t q k p u) = false
+is_quiet (continuing w t q k p u) = false
 is_quiet (gathered i) = false
 is_quiet (releasing w i q k p u) = false
 is_quiet (editing w i k p u) = false

@@ -6,7 +6,7 @@ ghost use Rattle.sf_func.specs.Registries.{TypesByName};
 ghost use Rattle.sf_term.specs.Trees.{Term, Templates};
 ghost use Rattle.sf_mean.specs.Lives.{Step, Life, Process, closure, Environment};
 ghost use Rattle.sf_mean.specs.Meaning.{Network, Outcome, gave, Cost, count, height, text_cost, Gives};
-ghost use Rattle.sf_mean.specs.Contexts.{Context, context_with, Bindings};
+ghost use Rattle.sf_mean.specs.Contexts.{Context, outer_context, Bindings};
 ghost use Rattle.sf_mean.specs.Typing.{Takes};
 ghost use Rattle.sf_rewrite.specs.Quiet.{is_quiet};
 ghost use Rattle.sf_rewrite.specs.Plans.{Plans, PlansProcess, PlansAll, PlansNetwork};
@@ -28,7 +28,7 @@ pub fn plan_law()
 /// a plan make the contexts that those of its network make.
 pub fn plan_types()
     ensures terms { (Γ : Context) (t u : Term) (a b : Kind) → Plans t u → Takes Γ t a b → Takes Γ u a b }
-    ensures contexts { (fs : TypesByName) (bs : Bindings) (ss ts : Templates) → PlansAll ss ts → context_with fs bs ss ≡ context_with fs bs ts }
+    ensures contexts { (fs : TypesByName) (bs : Bindings) (ss ts : Templates) → PlansAll ss ts → outer_context fs bs ss ≡ outer_context fs bs ts }
 {}
 
 /// A quiet term gives a value without readings at each step of every life, never a fault, and steps each term of its text.

@@ -8,30 +8,30 @@ use Rattle.sf_lines.specs.Lines.{lines_of}
 use Rattle.sf_player.specs.Scripts.{at_start, LeadsTo}
 use Rattle.sf_player.specs.Telling.{RunGives}
 use Rattle.sf_player.specs.Stops.{stop_end, stop_line}
-use Rattle.sf_player.specs.Playing.{Played, Feeds, gathered, line_in, IsForgotten}
+use Rattle.sf_player.specs.Playing.{Played, Feeds, gathered, line_of_stop, IsForgotten}
 use Rattle.sf_player.specs.declared.stop.Stop.{Stop}
 use Rattle.sf_session.proofs.Taking.{backs}
-use Rattle.sf_session.specs.Feeding.{waiting_in, end_by, HasSaid, so_far, in_all, IsFed, IsTaken}
+use Rattle.sf_session.specs.Feeding.{session_waiting, end_by, HasSaid, so_far, in_all, IsFed, IsTaken}
 use Rattle.sf_session.specs.declared.session.Session.{Session}
 
 -- what waits while a run goes on
-pub waiting_alone : (s : Session) → s.stop ≡ None → waiting_in s ≡ gathered s.player
+pub waiting_alone : (s : Session) → s.stop ≡ None → session_waiting s ≡ gathered s.player
 waiting_alone s none =
-    ap (λ o. gathered s.player ++ drop s.told (line_in o)) none ∙ ap (λ x. gathered s.player ++ x) (drop-nil s.told) ∙ append-nil (gathered s.player)
+    ap (λ o. gathered s.player ++ drop s.told (line_of_stop o)) none ∙ ap (λ x. gathered s.player ++ x) (drop-nil s.told) ∙ append-nil (gathered s.player)
 
 -- a run that goes on
 pub fed_on : {probes : Bool} {n : Network} {m : Template} {fed given : List ℕ} (s : Session) → s.stop ≡ None → Played probes n m fed given s.player → IsFed probes n m fed given s
 fed_on {probes = probes} {n = n} {m = m} {fed = fed} {given = given} s none P = record {
   said =
-      subst (λ o. HasSaid probes n m fed (given ++ waiting_in s) (end_by o)) (sym none)
+      subst (λ o. HasSaid probes n m fed (given ++ session_waiting s) (end_by o)) (sym none)
       (subst (λ (x : List ℕ). HasSaid probes n m fed (given ++ x) None) (sym (waiting_alone s none)) (so_far P.stands.splits P.reaches));
   plays = λ same. P;
 }
 
 -- a run that has ended
-pub ended_at : {probes : Bool} {n : Network} {m : Template} {fed given : List ℕ} {x : Stop} (s : Session) → s.stop ≡ Some x → ((left : List ℕ) → RunGives probes n m (lines_of (fed ++ left)) (given ++ waiting_in s) (stop_end x)) → IsFed probes n m fed given s
+pub ended_at : {probes : Bool} {n : Network} {m : Template} {fed given : List ℕ} {x : Stop} (s : Session) → s.stop ≡ Some x → ((left : List ℕ) → RunGives probes n m (lines_of (fed ++ left)) (given ++ session_waiting s) (stop_end x)) → IsFed probes n m fed given s
 ended_at {probes = probes} {n = n} {m = m} {fed = fed} {given = given} s stopped gives = record {
-  said = subst (λ o. HasSaid probes n m fed (given ++ waiting_in s) (end_by o)) (sym stopped) (in_all gives);
+  said = subst (λ o. HasSaid probes n m fed (given ++ session_waiting s) (end_by o)) (sym stopped) (in_all gives);
   plays = λ none. absurd cc;
 }
 
@@ -39,8 +39,8 @@ ended_at {probes = probes} {n = n} {m = m} {fed = fed} {given = given} s stopped
 pub feeds_fed : {probes : Bool} {n : Network} {m : Template} {given : List ℕ} (fed piece : List ℕ) (old new : Session) (r : Option Stop) → new.stop ≡ r → new.told ≡ 0 → Feeds probes n m fed given old.player piece r new.player → IsFed probes n m (fed ++ piece) given new
 feeds_fed fed piece old new None stop told F = fed_on new stop F.played
 feeds_fed {probes = probes} {n = n} {m = m} {given = given} fed piece old new (Some x) stop told F =
-    let rest : drop new.told (line_in new.stop) ≡ stop_line x = ap (λ k. drop k (line_in new.stop)) told ∙ ap line_in stop in
-    let text : (given ++ gathered new.player) ++ stop_line x ≡ given ++ waiting_in new = append_assoc given (gathered new.player) (stop_line x) ∙ ap (λ l. given ++ (gathered new.player ++ l)) (sym rest) in
+    let rest : drop new.told (line_of_stop new.stop) ≡ stop_line x = ap (λ k. drop k (line_of_stop new.stop)) told ∙ ap line_of_stop stop in
+    let text : (given ++ gathered new.player) ++ stop_line x ≡ given ++ session_waiting new = append_assoc given (gathered new.player) (stop_line x) ∙ ap (λ l. given ++ (gathered new.player ++ l)) (sym rest) in
     ended_at new stop (λ left. subst (λ (t : List ℕ). RunGives probes n m (lines_of ((fed ++ piece) ++ left)) t (stop_end x)) text (F left))
 
 -- what a run that has ended has said is all, whatever follows
@@ -66,15 +66,15 @@ left_behind k count told g l least =
 pub takes_fed : {probes : Bool} {n : Network} {m : Template} {fed given room : List ℕ} {old new : Session} {count of_gathered : ℕ} → IsFed probes n m fed given old → IsTaken old count room new → of_gathered ≡ min count (length (gathered old.player)) → IsForgotten of_gathered old.player new.player → IsFed probes n m fed (given ++ take count room) new
 takes_fed {probes = probes} {n = n} {m = m} {fed = fed} {given = given} {room = room} {old = old} {new = new} {count = count} {of_gathered = k} F T same G = record {
   said =
-      let text : given ++ waiting_in old ≡ (given ++ take count room) ++ waiting_in new =
-      ap (λ x. given ++ x) (sym (take-append-drop count (waiting_in old))) ∙ sym (append_assoc given (take count (waiting_in old)) (drop count (waiting_in old)))
-      ∙ ap (λ x. (given ++ x) ++ drop count (waiting_in old)) (sym T.written) ∙ ap (λ x. (given ++ take count room) ++ x) (sym T.left) in
-      subst (λ o. HasSaid probes n m fed ((given ++ take count room) ++ waiting_in new) (end_by o)) (sym T.stop)
+      let text : given ++ session_waiting old ≡ (given ++ take count room) ++ session_waiting new =
+      ap (λ x. given ++ x) (sym (take-append-drop count (session_waiting old))) ∙ sym (append_assoc given (take count (session_waiting old)) (drop count (session_waiting old)))
+      ∙ ap (λ x. (given ++ x) ++ drop count (session_waiting old)) (sym T.written) ∙ ap (λ x. (given ++ take count room) ++ x) (sym T.left) in
+      subst (λ o. HasSaid probes n m fed ((given ++ take count room) ++ session_waiting new) (end_by o)) (sym T.stop)
       (subst (λ (x : List ℕ). HasSaid probes n m fed x (end_by old.stop)) text F.said);
   plays = λ none.
       let before : old.stop ≡ None = sym T.stop ∙ none in
       let P = F.plays before in
-      let all : waiting_in old ≡ gathered old.player = waiting_alone old before in
+      let all : session_waiting old ≡ gathered old.player = waiting_alone old before in
       let few : count ≤ length (gathered old.player) = subst (λ (x : List ℕ). count ≤ length x) all (omega (arith, T.most)) in
       let whole : k ≡ count = omega arith in
       let front : take count room ≡ take count (gathered old.player) = T.written ∙ ap (take count) all in

@@ -9,15 +9,15 @@ use Rattle.sf_player.specs.Scripts.{Moment, at_start, LeadsTo}
 use Rattle.sf_player.specs.Telling.{RunGives}
 use Rattle.sf_player.specs.Stops.{stop_end}
 use Rattle.sf_player.specs.Statuses.{status_of}
-use Rattle.sf_player.specs.Playing.{Played, gathered, line_in}
+use Rattle.sf_player.specs.Playing.{Played, gathered, line_of_stop}
 use Rattle.sf_player.specs.declared.end.PlayEnd.{PlayEnd}
 use Rattle.sf_player.specs.declared.stop.Stop.{Stop}
 use Rattle.sf_session.specs.Alone.{alone}
 use Rattle.sf_session.specs.declared.session.Session.{Session}
 
 -- what waits to be taken
-abbrev pub waiting_in : Session → List ℕ
-waiting_in s = gathered s.player ++ drop s.told (line_in s.stop)
+abbrev pub session_waiting : Session → List ℕ
+session_waiting s = gathered s.player ++ drop s.told (line_of_stop s.stop)
 
 -- how a run ended by a stop, if there is one
 abbrev pub end_by : Option Stop → Option PlayEnd
@@ -29,8 +29,8 @@ abbrev pub status_by : Option Stop → ℕ
 status_by None = 0
 status_by (Some x) = status_of (stop_end x)
 
-abbrev pub status_in : Session → ℕ
-status_in s = status_by s.stop
+abbrev pub session_status : Session → ℕ
+session_status s = status_by s.stop
 
 abbrev pub HasEnded : Session → Type 0
 HasEnded s = s.stop ≢ None
@@ -46,7 +46,7 @@ module _ (probes : Bool) (n : Network) (m : Template) where
 
   -- So much was fed to a session and so much was taken from it, and it goes on from there.
   pub record IsFed (fed given : List ℕ) (s : Session) : Type 0 where
-    pub said : HasSaid fed (given ++ waiting_in s) (end_by s.stop)
+    pub said : HasSaid fed (given ++ session_waiting s) (end_by s.stop)
     pub plays : s.stop ≡ None → Played probes n m fed given s.player
 
 -- A session of some network was fed something.
@@ -68,7 +68,7 @@ pub record IsStarted (probes : Bool) (net : List ℕ) (s : Session) : Type 0 whe
 
 -- As much of what waits as a room takes was written there, and the rest waits.
 pub record IsTaken (old : Session) (count : ℕ) (room : List ℕ) (new : Session) : Type 0 where
-  pub most : count ≡ min (length (waiting_in old)) (length room)
-  pub written : take count room ≡ take count (waiting_in old)
-  pub left : waiting_in new ≡ drop count (waiting_in old)
+  pub most : count ≡ min (length (session_waiting old)) (length room)
+  pub written : take count room ≡ take count (session_waiting old)
+  pub left : session_waiting new ≡ drop count (session_waiting old)
   pub stop : new.stop ≡ old.stop

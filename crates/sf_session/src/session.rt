@@ -4,7 +4,7 @@ ghost use Rattle.sf_refusal.specs.Refusals.{OrMemory};
 ghost use Rattle.sf_term.specs.Trees.{Template};
 ghost use Rattle.sf_mean.specs.Meaning.{Network};
 ghost use Rattle.sf_accept.specs.Refusals.{IsRefusedFor};
-ghost use Rattle.sf_player.specs.Playing.{line_in};
+ghost use Rattle.sf_player.specs.Playing.{line_of_stop};
 
 use crate::nothing::NoFunctions;
 use crate::room::{copy_both, copy_front};
@@ -22,11 +22,11 @@ pub struct Session {
     player: Player<NoFunctions>,
     stop: Option<Stop>,
     told: usize,
-    ghost within: { told ≤ length (line_in stop) },
+    ghost within: { told ≤ length (line_of_stop stop) },
 }
 
 impl Session {
-    ghost use Rattle.sf_session.specs.Feeding.{IsStarted, IsLive, IsFed, HasEnded, IsTaken, waiting_in, status_in};
+    ghost use Rattle.sf_session.specs.Feeding.{IsStarted, IsLive, IsFed, HasEnded, IsTaken, session_waiting, session_status};
 
     /// A session at its start, of the network that a text is. It says what probes record, or doesn't. It refuses what
     /// `read_accepted` refuses where there are no functions; `Memory` says nothing of the text.
@@ -64,7 +64,7 @@ impl Session {
 
     /// How many bytes wait to be taken.
     pub fn waiting(&self) -> usize
-        ensures { result ≡ length (waiting_in self.now) }
+        ensures { result ≡ length (session_waiting self.now) }
     {
         let of_the_end = match self.stop {
             None => 0,
@@ -88,9 +88,9 @@ impl Session {
 
     /// Writes as much of what waits as the room takes. How many bytes that is.
     fn copy_out(&self, room: &mut [u8]) -> usize
-        ensures count { result ≡ min (length (waiting_in self.now)) (length room.new) }
-        ensures front { take result room.new ≡ take result (waiting_in self.now) }
-        ensures end { length (line_in self.now.stop) < 2 ^ 63 }
+        ensures count { result ≡ min (length (session_waiting self.now)) (length room.new) }
+        ensures front { take result room.new ≡ take result (session_waiting self.now) }
+        ensures end { length (line_of_stop self.now.stop) < 2 ^ 63 }
     {
         match self.stop {
             None => copy_front(self.player.gathered(), room),
@@ -104,7 +104,7 @@ impl Session {
 
     /// The status of the run: 0 while it goes on, or the one with which it has ended.
     pub fn status(&self) -> u8
-        ensures { result ≡ status_in self.now }
+        ensures { result ≡ session_status self.now }
     {
         match self.stop {
             None => 0,

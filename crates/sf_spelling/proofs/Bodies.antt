@@ -1,7 +1,7 @@
 -- Reading the bytes of a text one by one.
 use Rattle.std.proofs.Common.{◌≡◌, ℕ, zero, suc, ◌-◌, ◌≤◌, List, [], ◌∷◌, ◌++◌, length, take, drop, get_or, ◌<◌, Ok, Err, refl, sym, ap, subst, ◌∙◌, arith, append_assoc}
 use Rattle.std.specs.Str.{IsUtf8}
-use Rattle.sf_spelling.specs.Scan.{bad, Scanned, Point, between, within, more_of, stops, ends, skips, puts, moved, by_move, put_byte, chars_at, text_at}
+use Rattle.sf_spelling.specs.Scan.{bad, Scanned, Point, between, within, more_of, stops, ends, skips, puts, moved, by_move, put_byte, chars_at, scanned_text}
 use Rattle.sf_spelling.proofs.Readers.{Sound}
 use Rattle.sf_decimal.proofs.Runs.{take_whole}
 use Rattle.sf_spelling.proofs.Keys.{texts, texts_reader}
@@ -60,7 +60,7 @@ follows_none bytes chars p [] h f = f.is
 follows_none bytes chars p (c ∷ left) h f = absurd (omega arith)
 
 -- what is read of a text is UTF-8
-pub text_utf8 : (s : List ℕ) (v r : List ℕ) → text_at s ≡ Ok (v, r) → IsUtf8 v
+pub text_utf8 : (s : List ℕ) (v r : List ℕ) → scanned_text s ≡ Ok (v, r) → IsUtf8 v
 text_utf8 s v r e = let w = subst (Sound texts s) e (texts_reader s).sound in w.fit
 
 -- and so is what is read behind its opening quote

@@ -2,7 +2,7 @@
 use Rattle.std.proofs.Common.{◌≡◌, ℤ, List, ℕ, refl}
 use Rattle.std.specs.Prelude.{⊤}
 use Rattle.sf_value.specs.Values.{Kind, unit_kind, bool_kind, int_kind, text_kind, pair_kind, event_kind, table_kind, Data, number}
-use Rattle.sf_spelling.specs.Scan.{integer_at, value_at}
+use Rattle.sf_spelling.specs.Scan.{scanned_integer, scanned_value}
 use Rattle.sf_spelling.specs.Reading.{HasShape, int_shape}
 use Rattle.sf_spelling.proofs.Readers.{IsReader, mapped, map_reader, same_reader}
 use Rattle.sf_spelling.proofs.Integers.{integers, integers_reader}
@@ -16,15 +16,15 @@ use Rattle.sf_spelling.proofs.Tables.{table_reader}
 int_up : (b : Data) → HasShape b int_kind → (z : ℤ) × (b ≡ number z) × ⊤
 int_up b (int_shape {z = z}) = (z, refl, tt)
 
-int_same : (s : List ℕ) → mapped number (integer_at s) ≡ value_at int_kind s
-unfolding value_at
-int_same s = mapped_is number (integer_at s)
+int_same : (s : List ℕ) → mapped number (scanned_integer s) ≡ scanned_value int_kind s
+unfolding scanned_value
+int_same s = mapped_is number (scanned_integer s)
 
-int_reader : IsReader (kinds int_kind) (value_at int_kind)
+int_reader : IsReader (kinds int_kind) (scanned_value int_kind)
 int_reader s = same_reader (kinds int_kind) s _ _ (int_same s)
-    (map_reader integers (kinds int_kind) number (λ _ _. int_shape) (λ _ _. refl) (λ _ _ _ _ f. f) (λ _ _ _ _ f. f) int_up s (integer_at s) (integers_reader s))
+    (map_reader integers (kinds int_kind) number (λ _ _. int_shape) (λ _ _. refl) (λ _ _ _ _ f. f) (λ _ _ _ _ f. f) int_up s (scanned_integer s) (integers_reader s))
 
-pub reader : (t : Kind) → IsReader (kinds t) (value_at t)
+pub reader : (t : Kind) → IsReader (kinds t) (scanned_value t)
 reader unit_kind = unit_reader
 reader bool_kind = truth_reader
 reader int_kind = int_reader

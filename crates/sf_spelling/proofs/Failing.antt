@@ -4,7 +4,7 @@ use Rattle.std.specs.Prelude.{IsErrAnd, IfErr}
 use Rattle.std.proofs.lemmas.Bool.Decides.{nat_tests}
 use Rattle.sf_spelling.specs.declared.read.Failure.{Failure}
 use Rattle.sf_spelling.specs.declared.read.Failure.TheVariants.{Bad, Wide, Again, Memory}
-use Rattle.sf_spelling.specs.Scan.{Stop, ◌>>=◌, word_at, positive_at, integer_at, narrow}
+use Rattle.sf_spelling.specs.Scan.{Stop, ◌>>=◌, word_at, positive_at, scanned_integer, narrow}
 use Rattle.sf_decimal.specs.Decimals.{signed}
 use Rattle.sf_spelling.specs.Gives.{Fails, GivesRead}
 use Rattle.sf_decimal.proofs.Runs.{take_whole}
@@ -44,10 +44,10 @@ positive_is s m after e = (subst (PositiveSound s) e (positive_sound s)).0
 
 -- a minus and a number after it
 pub minus_is : (s : List ℕ) (m : ℕ) (after : List ℕ) → 1 ≤ length s → get_or s 0 0 ≡ 45 → positive_at (take (length s - 1) (drop 1 s)) ≡ Ok (m, after)
-    → (0 < m) × (integer_at s ≡ narrow s (signed true m) after)
+    → (0 < m) × (scanned_integer s ≡ narrow s (signed true m) after)
 minus_is [] m after h d e = absurd (omega arith)
 minus_is (c ∷ rest) m after h d e =
     let len : suc (length rest) - 1 ≡ length rest = omega arith in
     let all : take (suc (length rest) - 1) rest ≡ rest = rw len (take_whole rest) in
     let e' : positive_at rest ≡ Ok (m, after) = ap positive_at (sym all) ∙ e in
-    (positive_is rest m after e', subst (λ x. integer_at (x ∷ rest) ≡ narrow (x ∷ rest) (signed true m) after) (sym d) (ap (λ o. o >>= (λ n. narrow (45 ∷ rest) (signed true n.0) n.1)) e'))
+    (positive_is rest m after e', subst (λ x. scanned_integer (x ∷ rest) ≡ narrow (x ∷ rest) (signed true m) after) (sym d) (ap (λ o. o >>= (λ n. narrow (45 ∷ rest) (signed true n.0) n.1)) e'))

@@ -5,7 +5,7 @@ use Rattle.std.proofs.lemmas.Bool.Decides.{nat_tests}
 use Rattle.std.specs.Char.{is_ascii_digit}
 use Rattle.std.specs.Str.Parse.{digits_value}
 use Rattle.sf_decimal.specs.Decimals.{natural, integer, BeginsNoDigit, digits_at, after_digits, signed}
-use Rattle.sf_spelling.specs.Scan.{bad, fault, Scanned, ◌>>=◌, positive_at, integer_at, narrow}
+use Rattle.sf_spelling.specs.Scan.{bad, fault, Scanned, ◌>>=◌, positive_at, scanned_integer, narrow}
 use Rattle.sf_spelling.specs.Reading.{Cause, wide, EndsBefore}
 use Rattle.sf_spelling.specs.Spelling.{key_spelling}
 use Rattle.sf_value.specs.Values.{KeyData, number_key, is_narrow}
@@ -79,15 +79,15 @@ positive_longest n (d ∷ f) more back h e =
     let first = starts_digit d (starts_from d low high) in
     subst (λ o. Within back o) (sym (positive_digits d (f ++ back) low high)) (run_longest (d ∷ f) back (first, a))
 
-plain_at : (c : ℕ) (t : List ℕ) (n : ℕ) (more : List ℕ) → 48 < c → positive_at (c ∷ t) ≡ Ok (n, more) → integer_at (c ∷ t) ≡ narrow (c ∷ t) (pos n) more
+plain_at : (c : ℕ) (t : List ℕ) (n : ℕ) (more : List ℕ) → 48 < c → positive_at (c ∷ t) ≡ Ok (n, more) → scanned_integer (c ∷ t) ≡ narrow (c ∷ t) (pos n) more
 plain_at c t n more l e = rw (not_minus c l, not_zero c l) (ap (λ o. o >>= (λ m. narrow (c ∷ t) (pos m.0) m.1)) e)
 
 -- a number is read where it stands alone
-pub integer_read : (z : ℤ) (more : List ℕ) → BeginsNoDigit more → integer_at (integer z ++ more) ≡ narrow (integer z ++ more) z more
+pub integer_read : (z : ℤ) (more : List ℕ) → BeginsNoDigit more → scanned_integer (integer z ++ more) ≡ narrow (integer z ++ more) z more
 integer_read (pos zero) more b = rw (natural_small 0 (omega arith)) refl
 integer_read (pos (suc n)) more b =
     let r = numeral (suc n) (omega arith) in
-    subst (λ x. integer_at (x ++ more) ≡ narrow (x ++ more) (pos (suc n)) more) (sym r.is)
+    subst (λ x. scanned_integer (x ++ more) ≡ narrow (x ++ more) (pos (suc n)) more) (sym r.is)
     (plain_at r.head (r.tail ++ more) (suc n) more (omega (arith, r.low)) (subst (λ x. positive_at (x ++ more) ≡ Ok (suc n, more)) r.is (positive_read (suc n) more (omega arith) b)))
 integer_read (negsuc n) more b =
     ap (λ o. o >>= (λ m. narrow (45 ∷ (natural (suc n) ++ more)) (signed true m.0) m.1)) (positive_read (suc n) more (omega arith) b)
@@ -136,7 +136,7 @@ sound_sign : (c : ℕ) (s : List ℕ) (b : Bool) → (c == 45) ≡ b → Sound i
 sound_sign c s true e = subst (λ x. Sound integers (x ∷ s) (positive_at s >>= (λ n. narrow (x ∷ s) (signed true n.0) n.1))) (sym (same_byte c 45 e)) (sound_minus s (positive_at s) (positive_sound s))
 sound_sign c s false e = sound_zero c s (c == 48) refl
 
-integer_sound : (s : List ℕ) → Sound integers s (integer_at s)
+integer_sound : (s : List ℕ) → Sound integers s (scanned_integer s)
 integer_sound [] = record { value = pos 0; fit = tt; front = []; more = natural 0; cut = refl; good = refl }
 integer_sound (c ∷ s) = sound_sign c s (c == 45) refl
 
@@ -144,10 +144,10 @@ narrow_completes : (s : List ℕ) (z : ℤ) (more : List ℕ) → length more �
 narrow_completes s z more h true n = (refl, refl)
 narrow_completes s z more h false n = (h, ([], number_key z, (refl, refl, refl, n)))
 
-integer_complete : (s more : List ℕ) (v : ℤ) → ⊤ → BeginsNoDigit more → s ≡ integer v ++ more → Completes integers v more (integer_at s)
+integer_complete : (s more : List ℕ) (v : ℤ) → ⊤ → BeginsNoDigit more → s ≡ integer v ++ more → Completes integers v more (scanned_integer s)
 integer_complete s more v _ b e =
     let full = integer v ++ more in
-    subst (λ x. Completes integers v more (integer_at x)) (sym e) (subst (λ o. Completes integers v more o) (sym (integer_read v more b)) (narrow_completes full v more (omega (arith, length-append (integer v) more)) (is_narrow v) refl))
+    subst (λ x. Completes integers v more (scanned_integer x)) (sym e) (subst (λ o. Completes integers v more o) (sym (integer_read v more b)) (narrow_completes full v more (omega (arith, length-append (integer v) more)) (is_narrow v) refl))
 
 narrow_within : (back s : List ℕ) (g : ℕ → ℤ) (o : Scanned ℕ) → Within back o → Within back (o >>= (λ n. narrow s (g n.0) n.1))
 narrow_within back s g (Ok p) h = each (is_narrow (g p.0))
@@ -158,12 +158,12 @@ narrow_within back s g (Ok p) h = each (is_narrow (g p.0))
 narrow_within back s g (Err (bad r)) h = h
 narrow_within back s g (Err (fault c r)) h = tt
 
-longest_at : (z : ℤ) (f more back : List ℕ) → integer z ≡ f ++ more → Within back (integer_at (f ++ back))
-longest_at z [] more back e = never_grows integers back (integer_at back) (integer_sound back)
+longest_at : (z : ℤ) (f more back : List ℕ) → integer z ≡ f ++ more → Within back (scanned_integer (f ++ back))
+longest_at z [] more back e = never_grows integers back (scanned_integer back) (integer_sound back)
 longest_at (pos zero) (d ∷ []) more back e =
     let g : 48 ∷ [] ≡ d ∷ more = sym (natural_small 0 (omega arith)) ∙ e in
     let is : 48 ≡ d = cc in
-    subst (λ x. Within back (integer_at (x ∷ back))) is (omega arith)
+    subst (λ x. Within back (scanned_integer (x ∷ back))) is (omega arith)
 longest_at (pos zero) (d ∷ x ∷ f) more back e =
     let g : 48 ∷ [] ≡ d ∷ x ∷ (f ++ more) = sym (natural_small 0 (omega arith)) ∙ e in absurd (cc)
 longest_at (pos (suc n)) (d ∷ f) more back e =
@@ -175,21 +175,21 @@ longest_at (pos (suc n)) (d ∷ f) more back e =
 longest_at (negsuc n) (d ∷ f) more back e =
     let hd : 45 ≡ d = cc in
     let tl : natural (suc n) ≡ f ++ more = cc in
-    subst (λ x. Within back (integer_at (x ∷ (f ++ back)))) hd (narrow_within back (45 ∷ (f ++ back)) (signed true) (positive_at (f ++ back)) (positive_longest (suc n) f more back (omega arith) tl))
+    subst (λ x. Within back (scanned_integer (x ∷ (f ++ back)))) hd (narrow_within back (45 ∷ (f ++ back)) (signed true) (positive_at (f ++ back)) (positive_longest (suc n) f more back (omega arith) tl))
 
-integer_first : (s before more : List ℕ) (v : ℤ) (c : Cause) (k : KeyData) → (before ≡ []) × (c ≡ wide) × (k ≡ number_key v) × (is_narrow v ≡ false) → s ≡ before ++ (key_spelling k ++ more) → EndsBefore k more → NoneBefore {A = ℤ} (length (key_spelling k ++ more)) (integer_at s)
+integer_first : (s before more : List ℕ) (v : ℤ) (c : Cause) (k : KeyData) → (before ≡ []) × (c ≡ wide) × (k ≡ number_key v) × (is_narrow v ≡ false) → s ≡ before ++ (key_spelling k ++ more) → EndsBefore k more → NoneBefore {A = ℤ} (length (key_spelling k ++ more)) (scanned_integer s)
 integer_first s before more v c k f e b =
     let full = integer v ++ more in
     let same : key_spelling k ++ more ≡ full = ap (λ x. key_spelling x ++ more) f.2 in
     let g : s ≡ full = e ∙ ap (λ x. x ++ (key_spelling k ++ more)) f.0 ∙ same in
     let ends : BeginsNoDigit more = subst (λ x. EndsBefore x more) f.2 b in
-    let stops : integer_at s ≡ Err (fault wide full) = ap integer_at g ∙ integer_read v more ends ∙ ap (λ k. cond k (Ok (v, more)) (Err (fault wide full))) f.3 in
+    let stops : scanned_integer s ≡ Err (fault wide full) = ap scanned_integer g ∙ integer_read v more ends ∙ ap (λ k. cond k (Ok (v, more)) (Err (fault wide full))) f.3 in
     subst (λ o. NoneBefore {A = ℤ} (length (key_spelling k ++ more)) o) (sym stops) (omega (arith, ap length same))
 
-pub integers_reader : IsReader integers integer_at
+pub integers_reader : IsReader integers scanned_integer
 integers_reader s = record {
   sound = integer_sound s;
   complete = integer_complete s;
-  longest = λ f more back v _ e g. subst (λ x. Within back (integer_at x)) (sym g) (longest_at v f more back e);
+  longest = λ f more back v _ e g. subst (λ x. Within back (scanned_integer x)) (sym g) (longest_at v f more back e);
   first = λ before more v c k _ f e b. integer_first s before more v c k f e b;
 }

@@ -8,7 +8,7 @@ use Rattle.std.proofs.lemmas.Str.{IsUtf8-nil}
 use Rattle.std.proofs.lemmas.Slice.Eq.{bytes_eq-Decides}
 use Rattle.sf_decimal.specs.Decimals.{BeginsNoDigit}
 use Rattle.sf_value.specs.Values.{KeyKind, int_keys, text_keys, text_kind, KeyData, number_key, text_key, Data, text, IsOneOf}
-use Rattle.sf_spelling.specs.Scan.{bad, Scanned, ◌>>=◌, byte_at, between, text_at, begins_digit, integer_at, key_at, value_at}
+use Rattle.sf_spelling.specs.Scan.{bad, Scanned, ◌>>=◌, byte_at, between, scanned_text, begins_digit, scanned_integer, scanned_key, scanned_value}
 use Rattle.sf_spelling.specs.Spelling.{escaped, quoted, key_spelling}
 use Rattle.sf_spelling.specs.Reading.{HasKeyShape, int_key_shape, text_key_shape, HasShape, text_shape, Cause, wide, again, IsWrongAfter, EndsBefore}
 use Rattle.sf_spelling.proofs.Readers.{Language, ReadsAt, IsReader, Sound, Completes, Within, NoneBefore, mapped, map_reader, same_reader}
@@ -31,16 +31,16 @@ raws = after 34 (ways between tt)
 text_up : (b : List ℕ) → IsUtf8 b → (a : List ℕ) × (b ≡ out between a) × raws.Fit a
 text_up b u = let k = spelled_leads b u in (flat_map escaped b ++ 34 ∷ [], sym (append-nil b) ∙ sym k.same, k.leads)
 
-text_same : (s : List ℕ) → mapped (out between) (byte_at 34 s >>= raw_at between) ≡ text_at s
+text_same : (s : List ℕ) → mapped (out between) (byte_at 34 s >>= raw_at between) ≡ scanned_text s
 text_same s = mapped_bind (out between) (byte_at 34 s) (raw_at between) ∙ ap (λ g. byte_at 34 s >>= g) (λ i e. sym (body_same between e) i)
 
-pub texts_reader : IsReader texts text_at
+pub texts_reader : IsReader texts scanned_text
 texts_reader s = same_reader texts s _ _ (text_same s)
     (map_reader raws texts (out between) (λ a l. (leads_spelled a l).utf8) (λ a l. ap (λ u. 34 ∷ u) (sym (leads_spelled a l).is)) (λ _ _ _ _ f. absurd f.2) (λ _ _ _ _ f. absurd f) text_up s
     (byte_at 34 s >>= raw_at between) (after_reader 34 (ways between tt) (raw_at between) s (λ t _. raw_reader between tt t)))
 
 -- a text is read whole, whatever follows it
-pub text_whole : (v more : List ℕ) → IsUtf8 v → text_at (quoted v ++ more) ≡ Ok (v, more)
+pub text_whole : (v more : List ℕ) → IsUtf8 v → scanned_text (quoted v ++ more) ≡ Ok (v, more)
 text_whole v more u =
     let k = spelled_leads v u in
     let x = flat_map escaped v ++ 34 ∷ [] in
@@ -49,13 +49,13 @@ text_whole v more u =
 text_value_up : (b : Data) → HasShape b text_kind → (a : List ℕ) × (b ≡ text a) × IsUtf8 a
 text_value_up b (text_shape {s = s} u) = (s, refl, u)
 
-text_value_same : (s : List ℕ) → mapped text (text_at s) ≡ value_at text_kind s
-unfolding value_at
-text_value_same s = mapped_is text (text_at s)
+text_value_same : (s : List ℕ) → mapped text (scanned_text s) ≡ scanned_value text_kind s
+unfolding scanned_value
+text_value_same s = mapped_is text (scanned_text s)
 
-pub text_reader : IsReader (kinds text_kind) (value_at text_kind)
+pub text_reader : IsReader (kinds text_kind) (scanned_value text_kind)
 text_reader s = same_reader (kinds text_kind) s _ _ (text_value_same s)
-    (map_reader texts (kinds text_kind) text (λ _ u. text_shape u) (λ _ _. refl) (λ _ _ _ _ f. absurd f) (λ _ _ _ _ f. absurd f) text_value_up s (text_at s) (texts_reader s))
+    (map_reader texts (kinds text_kind) text (λ _ u. text_shape u) (λ _ _. refl) (λ _ _ _ _ f. absurd f) (λ _ _ _ _ f. absurd f) text_value_up s (scanned_text s) (texts_reader s))
 
 -- keys of a type, after those seen
 abbrev key_example : KeyKind → KeyData
@@ -149,8 +149,8 @@ int_key_back : (a : ℤ) (before : List ℕ) (c : Cause) (k : KeyData) → (keys
 int_key_back a before wide k f = (f.0, refl, f.1, f.2)
 int_key_back a before again k f = absurd f.2
 
-int_key_at : (s : List ℕ) → mapped number_key (ended_at (integer_at s)) ≡ key_at int_keys s
-int_key_at s = each (integer_at s)
+int_key_at : (s : List ℕ) → mapped number_key (ended_at (scanned_integer s)) ≡ scanned_key int_keys s
+int_key_at s = each (scanned_integer s)
   where
     each : (o : Scanned ℤ) → mapped number_key (ended_at o) ≡ (o >>= (λ n. cond (begins_digit n.1) (Err (bad n.1)) (Ok (number_key n.0, n.1))))
     each (Ok n) = by (begins_digit n.1)
@@ -160,10 +160,10 @@ int_key_at s = each (integer_at s)
         by false = refl
     each (Err e) = refl
 
-int_key_reads : (s : List ℕ) → ReadsAt (keys int_keys []) s (mapped number_key (ended_at (integer_at s)))
-int_key_reads s = map_reader integers (keys int_keys []) number_key (λ _ _. int_key_shape) (λ _ _. refl) int_key_down int_key_back int_key_up s (ended_at (integer_at s)) (ended_reads s (integer_at s) (integers_reader s))
+int_key_reads : (s : List ℕ) → ReadsAt (keys int_keys []) s (mapped number_key (ended_at (scanned_integer s)))
+int_key_reads s = map_reader integers (keys int_keys []) number_key (λ _ _. int_key_shape) (λ _ _. refl) int_key_down int_key_back int_key_up s (ended_at (scanned_integer s)) (ended_reads s (scanned_integer s) (integers_reader s))
 
-int_key_whole : (s : List ℕ) (v : KeyData) (more : List ℕ) → HasKeyShape v int_keys → EndsBefore v more → s ≡ key_spelling v ++ more → Completes (keys int_keys []) v more (mapped number_key (ended_at (integer_at s)))
+int_key_whole : (s : List ℕ) (v : KeyData) (more : List ℕ) → HasKeyShape v int_keys → EndsBefore v more → s ≡ key_spelling v ++ more → Completes (keys int_keys []) v more (mapped number_key (ended_at (scanned_integer s)))
 int_key_whole s v more (int_key_shape {z = z}) b e = (int_key_reads s).complete more (number_key z) int_key_shape b e
 
 text_key_up : (b : KeyData) → HasKeyShape b text_keys → (a : List ℕ) × (b ≡ text_key a) × IsUtf8 a
@@ -173,19 +173,19 @@ text_key_back : (a before : List ℕ) (c : Cause) (k : KeyData) → (keys text_k
 text_key_back a before wide k f = f.2
 text_key_back a before again k f = f.2
 
-text_key_reads : (s : List ℕ) → ReadsAt (keys text_keys []) s (mapped text_key (text_at s))
-text_key_reads s = map_reader texts (keys text_keys []) text_key (λ _ u. text_key_shape u) (λ _ _. refl) (λ _ _ _ _ f. absurd f) text_key_back text_key_up s (text_at s) (texts_reader s)
+text_key_reads : (s : List ℕ) → ReadsAt (keys text_keys []) s (mapped text_key (scanned_text s))
+text_key_reads s = map_reader texts (keys text_keys []) text_key (λ _ u. text_key_shape u) (λ _ _. refl) (λ _ _ _ _ f. absurd f) text_key_back text_key_up s (scanned_text s) (texts_reader s)
 
-text_key_whole : (s : List ℕ) (v : KeyData) (more : List ℕ) → HasKeyShape v text_keys → EndsBefore v more → s ≡ key_spelling v ++ more → Completes (keys text_keys []) v more (mapped text_key (text_at s))
-text_key_whole s v more (text_key_shape {s = w} u) b e = subst (λ o. Completes (keys text_keys []) (text_key w) more (mapped text_key o)) (sym (ap text_at e ∙ text_whole w more u)) (refl, refl)
+text_key_whole : (s : List ℕ) (v : KeyData) (more : List ℕ) → HasKeyShape v text_keys → EndsBefore v more → s ≡ key_spelling v ++ more → Completes (keys text_keys []) v more (mapped text_key (scanned_text s))
+text_key_whole s v more (text_key_shape {s = w} u) b e = subst (λ o. Completes (keys text_keys []) (text_key w) more (mapped text_key o)) (sym (ap scanned_text e ∙ text_whole w more u)) (refl, refl)
 
 text_ends : (o : Scanned (List ℕ)) (p : KeyData × List ℕ) → mapped text_key o ≡ Ok p → EndsBefore p.0 p.1
 text_ends (Ok n) p e = let is : (text_key n.0, n.1) ≡ p = cc in subst (λ (q : KeyData × List ℕ). EndsBefore q.0 q.1) is tt
 text_ends (Err x) p e = cc
 
-pub key_reads : (t : KeyKind) (s : List ℕ) → KeyReads t s (key_at t s)
-key_reads int_keys s = subst (KeyReads int_keys s) (int_key_at s) (record { reads = int_key_reads s; ends = ends_in (integer_at s); whole = int_key_whole s })
-key_reads text_keys s = subst (KeyReads text_keys s) (mapped_is text_key (text_at s)) (record { reads = text_key_reads s; ends = text_ends (text_at s); whole = text_key_whole s })
+pub key_reads : (t : KeyKind) (s : List ℕ) → KeyReads t s (scanned_key t s)
+key_reads int_keys s = subst (KeyReads int_keys s) (int_key_at s) (record { reads = int_key_reads s; ends = ends_in (scanned_integer s); whole = int_key_whole s })
+key_reads text_keys s = subst (KeyReads text_keys s) (mapped_is text_key (scanned_text s)) (record { reads = text_key_reads s; ends = text_ends (scanned_text s); whole = text_key_whole s })
 
 -- whether the key's spelling is one of those of the keys seen
 abbrev pub is_seen : KeyData → List KeyData → Bool

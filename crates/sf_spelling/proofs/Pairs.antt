@@ -1,7 +1,7 @@
 -- Reading a pair.
 use Rattle.std.proofs.Common.{◌≡◌, inl, inr, ⊎_elim, List, [], ◌∷◌, ◌++◌, Ok, Err, refl, ap, ◌∙◌, append_assoc, ℕ}
 use Rattle.sf_value.specs.Values.{Kind, pair_kind, KeyData, Data, pair}
-use Rattle.sf_spelling.specs.Scan.{Scanned, ◌>>=◌, byte_at, value_at}
+use Rattle.sf_spelling.specs.Scan.{Scanned, ◌>>=◌, byte_at, scanned_value}
 use Rattle.sf_spelling.specs.Spelling.{spelling}
 use Rattle.sf_spelling.specs.Reading.{HasShape, pair_shape, Cause, HasFault}
 use Rattle.sf_spelling.proofs.Readers.{Language, IsReader, mapped, map_reader, same_reader}
@@ -50,10 +50,10 @@ module _ (t u : Kind) where
   end_at s = byte_at 41 s >>= nothing_at
 
   abbrev second_at : List ℕ → Scanned (Data × Unit {0})
-  second_at s = byte_at 44 s >>= (λ e. then_at (λ _. end_at) (value_at u e))
+  second_at s = byte_at 44 s >>= (λ e. then_at (λ _. end_at) (scanned_value u e))
 
   abbrev parts_at : List ℕ → Scanned Parts
-  parts_at s = byte_at 40 s >>= (λ e. then_at (λ _. second_at) (value_at t e))
+  parts_at s = byte_at 40 s >>= (λ e. then_at (λ _. second_at) (scanned_value t e))
 
   same_end : (x y : Data) (s : List ℕ) → mapped (λ (e : Unit {0}). pair x y) (end_at s) ≡ (byte_at 41 s >>= (λ e. Ok (pair x y, e)))
   same_end x y s = mapped_bind (λ (e : Unit {0}). pair x y) (byte_at 41 s) nothing_at
@@ -62,25 +62,25 @@ module _ (t u : Kind) where
   same_second x (Ok y) = mapped_twice (λ (p : Data × Unit {0}). pair x p.0) (λ b. (y.0, b)) (end_at y.1) ∙ same_end x y.0 y.1
   same_second x (Err e) = refl
 
-  same_comma : (x : Data) (s : List ℕ) → mapped (λ (p : Data × Unit {0}). pair x p.0) (second_at s) ≡ (byte_at 44 s >>= (λ a. value_at u a >>= (λ y. byte_at 41 y.1 >>= (λ e. Ok (pair x y.0, e)))))
-  same_comma x s = mapped_bind (λ (p : Data × Unit {0}). pair x p.0) (byte_at 44 s) (λ e. then_at (λ _. end_at) (value_at u e))
-      ∙ ap (λ g. byte_at 44 s >>= g) (λ i a. same_second x (value_at u a) i)
+  same_comma : (x : Data) (s : List ℕ) → mapped (λ (p : Data × Unit {0}). pair x p.0) (second_at s) ≡ (byte_at 44 s >>= (λ a. scanned_value u a >>= (λ y. byte_at 41 y.1 >>= (λ e. Ok (pair x y.0, e)))))
+  same_comma x s = mapped_bind (λ (p : Data × Unit {0}). pair x p.0) (byte_at 44 s) (λ e. then_at (λ _. end_at) (scanned_value u e))
+      ∙ ap (λ g. byte_at 44 s >>= g) (λ i a. same_second x (scanned_value u a) i)
 
-  same_first : (o : Scanned Data) → mapped to_pair (then_at (λ _. second_at) o) ≡ (o >>= (λ x. byte_at 44 x.1 >>= (λ a. value_at u a >>= (λ y. byte_at 41 y.1 >>= (λ e. Ok (pair x.0 y.0, e))))))
+  same_first : (o : Scanned Data) → mapped to_pair (then_at (λ _. second_at) o) ≡ (o >>= (λ x. byte_at 44 x.1 >>= (λ a. scanned_value u a >>= (λ y. byte_at 41 y.1 >>= (λ e. Ok (pair x.0 y.0, e))))))
   same_first (Ok x) = mapped_twice to_pair (λ b. (x.0, b)) (second_at x.1) ∙ same_comma x.0 x.1
   same_first (Err e) = refl
 
-  pair_same : (s : List ℕ) → mapped to_pair (parts_at s) ≡ value_at (pair_kind t u) s
-  unfolding value_at
-  pair_same s = mapped_bind to_pair (byte_at 40 s) (λ e. then_at (λ _. second_at) (value_at t e))
-      ∙ ap (λ g. byte_at 40 s >>= g) (λ i e. same_first (value_at t e) i)
+  pair_same : (s : List ℕ) → mapped to_pair (parts_at s) ≡ scanned_value (pair_kind t u) s
+  unfolding scanned_value
+  pair_same s = mapped_bind to_pair (byte_at 40 s) (λ e. then_at (λ _. second_at) (scanned_value t e))
+      ∙ ap (λ g. byte_at 40 s >>= g) (λ i e. same_first (scanned_value t e) i)
 
-  pub pair_reader : IsReader (kinds t) (value_at t) → IsReader (kinds u) (value_at u) → IsReader (kinds (pair_kind t u)) (value_at (pair_kind t u))
+  pub pair_reader : IsReader (kinds t) (scanned_value t) → IsReader (kinds u) (scanned_value u) → IsReader (kinds (pair_kind t u)) (scanned_value (pair_kind t u))
   pair_reader h k s =
       let last : IsReader ends end_at = λ s. after_reader 41 nothing nothing_at s (λ t _. nothing_reader t) in
-      let second : IsReader (seconds u) second_at = λ s. after_reader 44 (then (kinds u) (λ _. ends)) (λ e. then_at (λ _. end_at) (value_at u e)) s
-      (λ e _. then_reader (kinds u) (λ _. ends) (λ _. end_at) (λ _ _ _. refl) e (value_at u e) (k e) (λ _ a _. last a)) in
+      let second : IsReader (seconds u) second_at = λ s. after_reader 44 (then (kinds u) (λ _. ends)) (λ e. then_at (λ _. end_at) (scanned_value u e)) s
+      (λ e _. then_reader (kinds u) (λ _. ends) (λ _. end_at) (λ _ _ _. refl) e (scanned_value u e) (k e) (λ _ a _. last a)) in
       same_reader (kinds (pair_kind t u)) s _ _ (pair_same s)
       (map_reader (pairs t u) (kinds (pair_kind t u)) to_pair (λ a h. pair_shape h.0 h.1.0) (λ a _. pair_text a.0 a.1.0) (pair_down t u) (pair_back t u) (pair_up t u) s (parts_at s)
-      (after_reader 40 (then (kinds t) (λ _. seconds u)) (λ e. then_at (λ _. second_at) (value_at t e)) s
-      (λ e _. then_reader (kinds t) (λ _. seconds u) (λ _. second_at) (λ _ _ _. refl) e (value_at t e) (h e) (λ _ a _. second a))))
+      (after_reader 40 (then (kinds t) (λ _. seconds u)) (λ e. then_at (λ _. second_at) (scanned_value t e)) s
+      (λ e _. then_reader (kinds t) (λ _. seconds u) (λ _. second_at) (λ _ _ _. refl) e (scanned_value t e) (h e) (λ _ a _. second a))))

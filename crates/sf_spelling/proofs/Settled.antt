@@ -3,9 +3,9 @@ use Rattle.std.proofs.Common.{◌≡◌, ◌⊎◌, inl, inr, ⊎_elim, ℕ, ◌
 use Rattle.std.proofs.lemmas.Bool.{false≢true}
 use Rattle.std.specs.Prelude.{codes}
 use Rattle.sf_value.specs.Values.{KeyKind, Kind, KeyData, number_key, Data, Rows, is_narrow, IsOneOf, HasNewKeys, HasKeyKind, has_int_key, has_text_key, HasKind, has_unit, has_bool, has_int, has_text, has_pair, has_no_event, has_event, has_table, HasRowKinds, has_no_rows, has_row}
-use Rattle.sf_spelling.specs.Scan.{Stop, bad, fault, Scanned, value_at}
+use Rattle.sf_spelling.specs.Scan.{Stop, bad, fault, Scanned, scanned_value}
 use Rattle.sf_spelling.specs.Spelling.{spelling, key_spelling}
-use Rattle.sf_spelling.specs.Reading.{HasKeyShape, int_key_shape, text_key_shape, HasShape, unit_shape, bool_shape, int_shape, text_shape, pair_shape, no_event_shape, event_shape, table_shape, HasRowShapes, no_rows_shape, row_shape, Cause, wide, again, IsWide, IsWrongAfter, HasFault, HasRowFault, IsGood, IsLongestGood, IsFaultAt, Refusal, bad_value, out_of_range, duplicate_key, place, IsRefused, Reads}
+use Rattle.sf_spelling.specs.Reading.{HasKeyShape, int_key_shape, text_key_shape, HasShape, unit_shape, bool_shape, int_shape, text_shape, pair_shape, no_event_shape, event_shape, table_shape, HasRowShapes, no_rows_shape, row_shape, Cause, wide, again, IsWide, IsWrongAfter, HasFault, HasRowFault, IsGood, IsLongestGood, IsFaultAt, Refusal, bad_value, out_of_range, duplicate_key, refused_place, IsRefused, Reads}
 use Rattle.sf_spelling.proofs.Readers.{Sound, Whole, StopsAt, FaultFrom, Completes, Within, NoneBefore}
 use Rattle.sf_spelling.proofs.Languages.{kinds}
 use Rattle.sf_spelling.proofs.EachKind.{reader}
@@ -111,7 +111,7 @@ mutual
 
 module _ (t : Kind) (bytes : List ℕ) where
   abbrev outcome : Scanned Data
-  outcome = value_at t bytes
+  outcome = scanned_value t bytes
 
   -- a number with a fault comes no sooner than where reading stops
   pub none_sooner : (c : Cause) (k : ℕ) → IsFaultAt t bytes c k → NoneBefore {A = Data} (length bytes - k) outcome
@@ -143,7 +143,7 @@ module _ (t : Kind) (bytes : List ℕ) where
   Meets o = (v : Data) → HasShape v t → bytes ≡ spelling v → Completes (kinds t) v [] o
 
   stops_least : (rest : List ℕ) (front : List ℕ) → bytes ≡ front ++ rest → IsGood t front → ((c : Cause) (k : ℕ) → IsFaultAt t bytes c k → ⊥)
-      → (other : Refusal) → IsRefused t bytes other → length bytes - length rest ≤ place other
+      → (other : Refusal) → IsRefused t bytes other → length bytes - length rest ≤ refused_place other
   stops_least rest front e g nowhere (bad_value k) h = no_later front rest k e g h.0
   stops_least rest front e g nowhere (out_of_range k) h = absurd (nowhere wide k h)
   stops_least rest front e g nowhere (duplicate_key k) h = absurd (nowhere again k h)
@@ -182,7 +182,7 @@ module _ (t : Kind) (bytes : List ℕ) where
   }
 
   fault_least : (c : Cause) (rest : List ℕ) → FaultFrom (kinds t) bytes c rest → ((d : Cause) (k : ℕ) → IsFaultAt t bytes d k → length bytes - k ≤ length rest)
-      → (other : Refusal) → IsRefused t bytes other → length bytes - length rest ≤ place other
+      → (other : Refusal) → IsRefused t bytes other → length bytes - length rest ≤ refused_place other
   fault_least c rest h nowhere (bad_value k) g =
       let f = (kinds t).shown h.value h.before c h.key h.at in
       no_later h.before rest k h.cut (h.value, h.fit, key_spelling h.key ++ f.0, f.1) g.0

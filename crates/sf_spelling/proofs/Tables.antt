@@ -5,7 +5,7 @@ use Rattle.std.proofs.lemmas.Bool.{false≢true}
 use Rattle.std.proofs.lemmas.Bool.Decides.{nat_tests}
 use Rattle.sf_decimal.specs.Decimals.{BeginsNoDigit}
 use Rattle.sf_value.specs.Values.{KeyKind, int_keys, text_keys, Kind, table_kind, KeyData, number_key, text_key, Data, table, Rows, no_rows, row}
-use Rattle.sf_spelling.specs.Scan.{bad, fault, Scanned, ◌>>=◌, byte_at, key_at, new_key_at, row_at, put_row, more_at, rows_at, value_at}
+use Rattle.sf_spelling.specs.Scan.{bad, fault, Scanned, ◌>>=◌, byte_at, scanned_key, new_key_at, scanned_row, put_row, scanned_more, scanned_rows, scanned_value}
 use Rattle.sf_spelling.specs.Spelling.{key_spelling, spelling, more_spelling}
 use Rattle.sf_spelling.specs.Reading.{HasKeyShape, HasShape, table_shape, HasRowShapes, no_rows_shape, row_shape, Cause, wide, again, HasFault, HasRowFault, IsWrongAfter, EndsBefore}
 use Rattle.sf_decimal.proofs.Numbers.{natural_small}
@@ -85,7 +85,7 @@ module _ (t : KeyKind) (seen : List KeyData) (s : List ℕ) where
   new_key_reads : ReadsAt (keys t seen) s (new_key_at t (map key_spelling seen) s)
   new_key_reads =
       let r = key_reads t s in
-      let o = key_at t s in
+      let o = scanned_key t s in
       record {
         sound = checked_sound o r.ends r.reads.sound;
         complete = λ more v f b e. checked_completes v more (omega (arith, ap length e, length-append (key_spelling v) more)) o (r.reads.complete more v f b e);
@@ -179,19 +179,19 @@ module _ (t : KeyKind) (u : Kind) where
     pair_reads seen s = then_reader (keys t seen) (λ _. after 58 (kinds u)) (λ _. colon_at) (λ _ _ _. refl) s (new_key_at t (map key_spelling seen) s) (new_key_reads t seen s)
         (λ _ a _. after_reader 58 (kinds u) inner a (λ b _. r b))
 
-    pair_is : (seen : List KeyData) (s : List ℕ) → pair_at seen s ≡ row_at t inner (map key_spelling seen) s
+    pair_is : (seen : List KeyData) (s : List ℕ) → pair_at seen s ≡ scanned_row t inner (map key_spelling seen) s
     pair_is seen s = ap (λ g. new_key_at t (map key_spelling seen) s >>= g) (λ i l. with_is l i)
       where
         with_is : (l : KeyData × List ℕ) → with_first l.0 (colon_at l.1) ≡ (byte_at 58 l.1 >>= (λ e. inner e >>= (λ x. Ok ((l.0, x.0), x.1))))
         with_is l = mapped_bind (λ (b : Data). (l.0, b)) (byte_at 58 l.1) inner ∙ ap (λ g. byte_at 58 l.1 >>= g) (λ i e. mapped_is (λ (b : Data). (l.0, b)) (inner e) i)
 
     -- what is left behind a row is no more than was there
-    pub row_left : (seen : List KeyData) (s : List ℕ) (q : KeyData × Data) (rest : List ℕ) → row_at t inner (map key_spelling seen) s ≡ Ok (q, rest) → length rest ≤ length s
+    pub row_left : (seen : List KeyData) (s : List ℕ) (q : KeyData × Data) (rest : List ℕ) → scanned_row t inner (map key_spelling seen) s ≡ Ok (q, rest) → length rest ≤ length s
     row_left seen s q rest e = subst (λ o. Within s o) (pair_is seen s ∙ e) (never_grows (row_language seen) s (pair_at seen s) (pair_reads seen s).sound)
 
     -- what stands behind a row, at most n rows of it
     abbrev rest_at : ℕ → List KeyData → List ℕ → Scanned Rows
-    rest_at n seen s = more_at n t inner (map key_spelling seen) s
+    rest_at n seen s = scanned_more n t inner (map key_spelling seen) s
 
     abbrev both_at : ℕ → List KeyData → List ℕ → Scanned ((KeyData × Data) × Rows)
     both_at n seen s = then_at (λ q. rest_at n (q.0 ∷ seen)) (pair_at seen s)
@@ -201,7 +201,7 @@ module _ (t : KeyKind) (u : Kind) where
     put_is q (Err e) = refl
 
     abbrev row_then : ℕ → List KeyData → List ℕ → Scanned Rows
-    row_then n seen s = row_at t inner (map key_spelling seen) s >>= (λ q. put_row q.0 (rest_at n (q.0.0 ∷ seen) q.1))
+    row_then n seen s = scanned_row t inner (map key_spelling seen) s >>= (λ q. put_row q.0 (rest_at n (q.0.0 ∷ seen) q.1))
 
     both_by : (n : ℕ) (seen : List KeyData) (o : Scanned (KeyData × Data)) → mapped (λ (p : (KeyData × Data) × Rows). row p.0.0 p.0.1 p.1) (then_at (λ q. rest_at n (q.0 ∷ seen)) o) ≡ (o >>= (λ q. put_row q.0 (rest_at n (q.0.0 ∷ seen) q.1)))
     both_by n seen (Ok q) = mapped_twice (λ (p : (KeyData × Data) × Rows). row p.0.0 p.0.1 p.1) (λ (rs : Rows). (q.0, rs)) (rest_at n (q.0.0 ∷ seen) q.1) ∙ put_is q.0 (rest_at n (q.0.0 ∷ seen) q.1)
@@ -294,10 +294,10 @@ module _ (t : KeyKind) (u : Kind) where
     abbrev inner_at : List ℕ → Scanned (Unit {0} ⊎ ((KeyData × Data) × Rows))
     inner_at s = either_at 125 nothing (row_more []) end_at (λ b. both_at (length b) [] b) (λ q _. row_begins q) s
 
-    inner_is : (s : List ℕ) → mapped to_rows (inner_at s) ≡ rows_at t inner s
+    inner_is : (s : List ℕ) → mapped to_rows (inner_at s) ≡ scanned_rows t inner s
     inner_is [] = mapped_twice to_rows inr (both_at 0 [] []) ∙ both_is 0 [] [] ∙ nothing_there t
       where
-        nothing_there : (t : KeyKind) → (row_at t inner [] [] >>= (λ q. put_row q.0 (more_at 0 t inner (key_spelling q.0.0 ∷ []) q.1))) ≡ Err (bad [])
+        nothing_there : (t : KeyKind) → (scanned_row t inner [] [] >>= (λ q. put_row q.0 (scanned_more 0 t inner (key_spelling q.0.0 ∷ []) q.1))) ≡ Err (bad [])
         nothing_there int_keys = refl
         nothing_there text_keys = refl
     inner_is (c ∷ s) = each (c == 125)
@@ -310,16 +310,16 @@ module _ (t : KeyKind) (u : Kind) where
     inner_reads s = either_reader 125 nothing (row_more []) end_at (λ b. both_at (length b) [] b) (λ q _. row_begins q) s (after_reader 125 nothing nothing_at s (λ a _. nothing_reader a))
         (then_reader (row_language []) (λ q. tails (q.0 ∷ [])) (λ q. rest_at (length s) (q.0 ∷ [])) (λ _ rs _. tails_mark rs) s (pair_at [] s) (pair_reads [] s) (λ q a m. rest_reads (length s) (q.0 ∷ []) a m))
 
-    table_is : (s : List ℕ) → mapped to_table (byte_at 123 s >>= inner_at) ≡ (byte_at 123 s >>= (λ e. rows_at t inner e >>= (λ rs. Ok (table rs.0, rs.1))))
+    table_is : (s : List ℕ) → mapped to_table (byte_at 123 s >>= inner_at) ≡ (byte_at 123 s >>= (λ e. scanned_rows t inner e >>= (λ rs. Ok (table rs.0, rs.1))))
     table_is s = mapped_bind to_table (byte_at 123 s) inner_at ∙ ap (λ g. byte_at 123 s >>= g) (λ i e. each e i)
       where
-        each : (e : List ℕ) → mapped to_table (inner_at e) ≡ (rows_at t inner e >>= (λ rs. Ok (table rs.0, rs.1)))
-        each e = sym (mapped_twice table to_rows (inner_at e)) ∙ ap (mapped table) (inner_is e) ∙ mapped_is table (rows_at t inner e)
+        each : (e : List ℕ) → mapped to_table (inner_at e) ≡ (scanned_rows t inner e >>= (λ rs. Ok (table rs.0, rs.1)))
+        each e = sym (mapped_twice table to_rows (inner_at e)) ∙ ap (mapped table) (inner_is e) ∙ mapped_is table (scanned_rows t inner e)
 
-    pub table_reads : (s : List ℕ) → ReadsAt (kinds (table_kind t u)) s (byte_at 123 s >>= (λ e. rows_at t inner e >>= (λ rs. Ok (table rs.0, rs.1))))
+    pub table_reads : (s : List ℕ) → ReadsAt (kinds (table_kind t u)) s (byte_at 123 s >>= (λ e. scanned_rows t inner e >>= (λ rs. Ok (table rs.0, rs.1))))
     table_reads s = same_reader (kinds (table_kind t u)) s _ _ (table_is s)
         (map_reader (after 123 inner_rows) (kinds (table_kind t u)) to_table table_fit table_text table_down table_back table_up s (byte_at 123 s >>= inner_at) (after_reader 123 inner_rows inner_at s (λ e _. inner_reads e)))
 
-pub table_reader : (t : KeyKind) (u : Kind) → IsReader (kinds u) (value_at u) → IsReader (kinds (table_kind t u)) (value_at (table_kind t u))
-unfolding value_at
-table_reader t u r s = table_reads t u (value_at u) r s
+pub table_reader : (t : KeyKind) (u : Kind) → IsReader (kinds u) (scanned_value u) → IsReader (kinds (table_kind t u)) (scanned_value (table_kind t u))
+unfolding scanned_value
+table_reader t u r s = table_reads t u (scanned_value u) r s

@@ -2,9 +2,9 @@
 use Rattle.std.proofs.Common.{◌≡◌, ◌⊎◌, inl, inr, ⊎_elim, ℕ, ◌-◌, ◌≤◌, ◌<◌, List, [], ◌∷◌, ◌++◌, length, Result, Ok, Err, refl, sym, ap, subst, ◌∙◌, arith, append_assoc, length-append}
 use Rattle.std.specs.Prelude.{codes}
 use Rattle.sf_value.specs.Values.{Kind, KeyData, number_key, text_key, Data, unit, truth, number, text, pair, no_event, event, table, Rows, no_rows, row, IsOneOf, HasKind}
-use Rattle.sf_spelling.specs.Scan.{bad, fault, Scanned, value_at}
+use Rattle.sf_spelling.specs.Scan.{bad, fault, Scanned, scanned_value}
 use Rattle.sf_spelling.specs.Spelling.{spelling, key_spelling}
-use Rattle.sf_spelling.specs.Reading.{Cause, wide, again, IsWide, HasFault, HasRowFault, EndsBefore, IsLongestGood, IsFaultAt, Refusal, bad_value, out_of_range, duplicate_key, place, IsRefused, Reads}
+use Rattle.sf_spelling.specs.Reading.{Cause, wide, again, IsWide, HasFault, HasRowFault, EndsBefore, IsLongestGood, IsFaultAt, Refusal, bad_value, out_of_range, duplicate_key, refused_place, IsRefused, Reads}
 use Rattle.sf_spelling.proofs.Readers.{NoneBefore}
 use Rattle.sf_spelling.proofs.Sequences.{key_some}
 use Rattle.sf_spelling.proofs.Unmixed.{whole_at, whole_read, one_answer}
@@ -127,8 +127,8 @@ module _ (t : Kind) (bytes : List ℕ) where
   -- the spelling of a value is not refused
   not_refused : (v : Data) → HasKind v t → bytes ≡ spelling v → (r : Refusal) → IsRefused t bytes r → ⊥
   not_refused v h e (bad_value n) g = g.1 v (shaped t v h) (sym e)
-  not_refused v h e (out_of_range n) g = not_answered (length bytes - n) (length bytes) v (value_at t bytes) (none_sooner t bytes wide n g) (only t bytes v h e)
-  not_refused v h e (duplicate_key n) g = not_answered (length bytes - n) (length bytes) v (value_at t bytes) (none_sooner t bytes again n g) (only t bytes v h e)
+  not_refused v h e (out_of_range n) g = not_answered (length bytes - n) (length bytes) v (scanned_value t bytes) (none_sooner t bytes wide n g) (only t bytes v h e)
+  not_refused v h e (duplicate_key n) g = not_answered (length bytes - n) (length bytes) v (scanned_value t bytes) (none_sooner t bytes again n g) (only t bytes v h e)
 
   -- a number or key with a fault is within the longest good front
   fault_within : (c : Cause) (n k : ℕ) → IsLongestGood t bytes n → IsFaultAt t bytes c k → k < n
@@ -158,14 +158,14 @@ module _ (t : Kind) (bytes : List ℕ) where
       ends_colon (text_key s) m = tt
 
   abbrev IsLeast : Refusal → Type 0
-  IsLeast r = (other : Refusal) → IsRefused t bytes other → place r ≤ place other
+  IsLeast r = (other : Refusal) → IsRefused t bytes other → refused_place r ≤ refused_place other
 
   not_both : (n m : ℕ) → IsFaultAt t bytes wide n → IsFaultAt t bytes again m → IsLeast (out_of_range n) → n ≡ m → ⊥
   not_both n m f g least e =
       let s = wide_sooner n f (subst (λ x. IsFaultAt t bytes again x) (sym e) g) in
       let l = least (out_of_range s.0) s.2 in omega (arith, l, s.1)
 
-  one_refusal : (r s : Refusal) → IsRefused t bytes r → IsRefused t bytes s → IsLeast r → IsLeast s → place r ≡ place s → r ≡ s
+  one_refusal : (r s : Refusal) → IsRefused t bytes r → IsRefused t bytes s → IsLeast r → IsLeast s → refused_place r ≡ refused_place s → r ≡ s
   one_refusal (bad_value n) (bad_value m) g h l k e = ap bad_value e
   one_refusal (bad_value n) (out_of_range m) g h l k e = absurd (let q = fault_within wide n m g.0 h in omega arith)
   one_refusal (bad_value n) (duplicate_key m) g h l k e = absurd (let q = fault_within again n m g.0 h in omega arith)

@@ -2,7 +2,7 @@
 use Rattle.std.proofs.Common.{◌≡◌, ◌⊎◌, inl, inr, Bool, true, false, cond, List, [], ◌∷◌, Result, Ok, Err, refl, sym, ap, subst, ◌∙◌, ℕ}
 use Rattle.std.specs.Prelude.{◌==◌, codes, ⊤}
 use Rattle.sf_value.specs.Values.{Kind, unit_kind, bool_kind, event_kind, KeyData, Data, unit, truth, no_event, event}
-use Rattle.sf_spelling.specs.Scan.{Stop, Scanned, ◌>>=◌, word_at, value_at}
+use Rattle.sf_spelling.specs.Scan.{Stop, Scanned, ◌>>=◌, word_at, scanned_value}
 use Rattle.sf_spelling.specs.Spelling.{spelling}
 use Rattle.sf_spelling.specs.Reading.{HasShape, unit_shape, bool_shape, no_event_shape, event_shape, Cause, HasFault}
 use Rattle.sf_spelling.proofs.Readers.{Language, IsReader, mapped, map_reader, same_reader}
@@ -29,8 +29,8 @@ word_end f cs s = ap (mapped f) (after_word_is cs nothing_at s) ∙ mapped_bind 
 unit_up : (b : Data) → HasShape b unit_kind → (a : Unit {0}) × (b ≡ unit) × ⊤
 unit_up b unit_shape = (tt, refl, tt)
 
-pub unit_reader : IsReader (kinds unit_kind) (value_at unit_kind)
-unfolding value_at
+pub unit_reader : IsReader (kinds unit_kind) (scanned_value unit_kind)
+unfolding scanned_value
 unit_reader s = same_reader (kinds unit_kind) s _ _ (word_end (λ _. unit) (codes "()") s)
     (map_reader (word (codes "()") nothing) (kinds unit_kind) (λ _. unit) (λ _ _. unit_shape) (λ _ _. refl)
     (λ a before c i f. absurd (word_down (codes "()") nothing tt before c i f).2) (λ a before c i f. absurd f) unit_up
@@ -66,8 +66,8 @@ truth_back (inr _) before c i f = absurd f
 abbrev truth_parts : List ℕ → Scanned (Unit {0} ⊎ Unit {0})
 truth_parts s = either_at 116 (word (codes "rue") nothing) (word (codes "false") nothing) (after_word (codes "true") nothing_at) (after_word (codes "false") nothing_at) (λ _ _. refl) s
 
-truth_same : (s : List ℕ) → mapped to_truth (truth_parts s) ≡ value_at bool_kind s
-unfolding value_at
+truth_same : (s : List ℕ) → mapped to_truth (truth_parts s) ≡ scanned_value bool_kind s
+unfolding scanned_value
 truth_same [] = refl
 truth_same (c ∷ s) = each (c == 116)
   where
@@ -76,7 +76,7 @@ truth_same (c ∷ s) = each (c == 116)
     each true = mapped_twice to_truth inl (after_word (codes "true") nothing_at (c ∷ s)) ∙ word_end (λ _. truth true) (codes "true") (c ∷ s)
     each false = mapped_twice to_truth inr (after_word (codes "false") nothing_at (c ∷ s)) ∙ word_end (λ _. truth false) (codes "false") (c ∷ s)
 
-pub truth_reader : IsReader (kinds bool_kind) (value_at bool_kind)
+pub truth_reader : IsReader (kinds bool_kind) (scanned_value bool_kind)
 truth_reader s = same_reader (kinds bool_kind) s _ _ (truth_same s)
     (map_reader truths (kinds bool_kind) to_truth truth_fit truth_text truth_down truth_back truth_up s (truth_parts s)
     (either_reader 116 (word (codes "rue") nothing) (word (codes "false") nothing) (after_word (codes "true") nothing_at) (after_word (codes "false") nothing_at) (λ _ _. refl) s
@@ -111,21 +111,21 @@ module _ (t : Kind) where
   event_back (inr x) before c i f = subst (λ b. events.Fault (inr x) b c i) (sym f.1) (word_back (codes "event ") (kinds t) x f.0 c i f.2)
 
   abbrev event_parts : List ℕ → Scanned (Unit {0} ⊎ Data)
-  event_parts s = either_at 110 (word (codes "one") nothing) (word (codes "event ") (kinds t)) (after_word (codes "none") nothing_at) (after_word (codes "event ") (value_at t)) (λ _ _. refl) s
+  event_parts s = either_at 110 (word (codes "one") nothing) (word (codes "event ") (kinds t)) (after_word (codes "none") nothing_at) (after_word (codes "event ") (scanned_value t)) (λ _ _. refl) s
 
-  event_same : (s : List ℕ) → mapped to_event (event_parts s) ≡ value_at (event_kind t) s
-  unfolding value_at
+  event_same : (s : List ℕ) → mapped to_event (event_parts s) ≡ scanned_value (event_kind t) s
+  unfolding scanned_value
   event_same [] = refl
   event_same (c ∷ s) = each (c == 110)
     where
-      each : (b : Bool) → mapped to_event (cond b (mapped inl (after_word (codes "none") nothing_at (c ∷ s))) (mapped inr (after_word (codes "event ") (value_at t) (c ∷ s))))
-          ≡ cond b (word_at (codes "none") (c ∷ s) >>= (λ e. Ok (no_event, e))) (word_at (codes "event ") (c ∷ s) >>= (λ e. value_at t e >>= (λ x. Ok (event x.0, x.1))))
+      each : (b : Bool) → mapped to_event (cond b (mapped inl (after_word (codes "none") nothing_at (c ∷ s))) (mapped inr (after_word (codes "event ") (scanned_value t) (c ∷ s))))
+          ≡ cond b (word_at (codes "none") (c ∷ s) >>= (λ e. Ok (no_event, e))) (word_at (codes "event ") (c ∷ s) >>= (λ e. scanned_value t e >>= (λ x. Ok (event x.0, x.1))))
       each true = mapped_twice to_event inl (after_word (codes "none") nothing_at (c ∷ s)) ∙ word_end (λ _. no_event) (codes "none") (c ∷ s)
-      each false = mapped_twice to_event inr (after_word (codes "event ") (value_at t) (c ∷ s)) ∙ ap (mapped event) (after_word_is (codes "event ") (value_at t) (c ∷ s))
-          ∙ mapped_bind event (word_at (codes "event ") (c ∷ s)) (value_at t) ∙ ap (λ g. word_at (codes "event ") (c ∷ s) >>= g) (λ i e. mapped_is event (value_at t e) i)
+      each false = mapped_twice to_event inr (after_word (codes "event ") (scanned_value t) (c ∷ s)) ∙ ap (mapped event) (after_word_is (codes "event ") (scanned_value t) (c ∷ s))
+          ∙ mapped_bind event (word_at (codes "event ") (c ∷ s)) (scanned_value t) ∙ ap (λ g. word_at (codes "event ") (c ∷ s) >>= g) (λ i e. mapped_is event (scanned_value t e) i)
 
-  pub event_reader : IsReader (kinds t) (value_at t) → IsReader (kinds (event_kind t)) (value_at (event_kind t))
+  pub event_reader : IsReader (kinds t) (scanned_value t) → IsReader (kinds (event_kind t)) (scanned_value (event_kind t))
   event_reader r s = same_reader (kinds (event_kind t)) s _ _ (event_same s)
       (map_reader events (kinds (event_kind t)) to_event event_fit event_text event_down event_back event_up s (event_parts s)
-      (either_reader 110 (word (codes "one") nothing) (word (codes "event ") (kinds t)) (after_word (codes "none") nothing_at) (after_word (codes "event ") (value_at t)) (λ _ _. refl) s
-      (word_reader (codes "none") nothing nothing_at s (λ u _. nothing_reader u)) (word_reader (codes "event ") (kinds t) (value_at t) s (λ u _. r u))))
+      (either_reader 110 (word (codes "one") nothing) (word (codes "event ") (kinds t)) (after_word (codes "none") nothing_at) (after_word (codes "event ") (scanned_value t)) (λ _ _. refl) s
+      (word_reader (codes "none") nothing nothing_at s (λ u _. nothing_reader u)) (word_reader (codes "event ") (kinds t) (scanned_value t) s (λ u _. r u))))

@@ -97,10 +97,10 @@ pub data Refusal : Type 0 where
   out_of_range : ℕ → Refusal
   duplicate_key : ℕ → Refusal
 
-abbrev pub place : Refusal → ℕ
-place (bad_value n) = n
-place (out_of_range n) = n
-place (duplicate_key n) = n
+abbrev pub refused_place : Refusal → ℕ
+refused_place (bad_value n) = n
+refused_place (out_of_range n) = n
+refused_place (duplicate_key n) = n
 
 -- the bytes are refused for this
 abbrev pub IsRefused : Kind → List ℕ → Refusal → Type 0
@@ -111,4 +111,4 @@ IsRefused t bytes (duplicate_key n) = IsFaultAt t bytes again n
 -- the value whose spelling the bytes are, or the refusal with the least place
 abbrev pub Reads : Kind → List ℕ → Result Data Refusal → Type 0
 Reads t bytes (Ok v) = HasKind v t × (bytes ≡ spelling v)
-Reads t bytes (Err r) = IsRefused t bytes r × ((other : Refusal) → IsRefused t bytes other → place r ≤ place other)
+Reads t bytes (Err r) = IsRefused t bytes r × ((other : Refusal) → IsRefused t bytes other → refused_place r ≤ refused_place other)

@@ -47,9 +47,9 @@ abbrev pub narrow : List ℕ → ℤ → List ℕ → Scanned ℤ
 narrow from z rest = if is_narrow z then Ok (z, rest) else Err (fault wide from)
 
 -- a minus and a positive number, a zero, or a positive number
-abbrev pub integer_at : List ℕ → Scanned ℤ
-integer_at [] = Err (bad [])
-integer_at (c ∷ s) = if c == 45 then (positive_at s >>= λ n. narrow (c ∷ s) (signed true n.0) n.1)
+abbrev pub scanned_integer : List ℕ → Scanned ℤ
+scanned_integer [] = Err (bad [])
+scanned_integer (c ∷ s) = if c == 45 then (positive_at s >>= λ n. narrow (c ∷ s) (signed true n.0) n.1)
     else (if c == 48 then Ok (pos 0, s) else (positive_at (c ∷ s) >>= λ n. narrow (c ∷ s) (signed false n.0) n.1))
 
 -- so many more bytes of a character
@@ -100,18 +100,18 @@ unfoldable pub chars_at : Point → List ℕ → Scanned (List ℕ)
 chars_at p [] = Err (bad [])
 chars_at p (b ∷ s) = by_move (moved p b) (Err (bad (b ∷ s))) (Ok ([], s)) (λ q. chars_at q s) (λ c q. put_byte c (chars_at q s))
 
-abbrev pub text_at : List ℕ → Scanned (List ℕ)
-text_at s = byte_at 34 s >>= chars_at between
+abbrev pub scanned_text : List ℕ → Scanned (List ℕ)
+scanned_text s = byte_at 34 s >>= chars_at between
 
 -- `true` or `false`
-abbrev pub truth_at : List ℕ → Scanned Data
-truth_at [] = Err (bad [])
-truth_at (c ∷ s) = if c == 116 then (word_at (codes "true") (c ∷ s) >>= λ e. Ok (truth true, e)) else (word_at (codes "false") (c ∷ s) >>= λ e. Ok (truth false, e))
+abbrev pub scanned_truth : List ℕ → Scanned Data
+scanned_truth [] = Err (bad [])
+scanned_truth (c ∷ s) = if c == 116 then (word_at (codes "true") (c ∷ s) >>= λ e. Ok (truth true, e)) else (word_at (codes "false") (c ∷ s) >>= λ e. Ok (truth false, e))
 
 -- `none`, or `event `, a space and a value
-abbrev pub event_at : (List ℕ → Scanned Data) → List ℕ → Scanned Data
-event_at inner [] = Err (bad [])
-event_at inner (c ∷ s) = if c == 110 then (word_at (codes "none") (c ∷ s) >>= λ e. Ok (no_event, e))
+abbrev pub scanned_event : (List ℕ → Scanned Data) → List ℕ → Scanned Data
+scanned_event inner [] = Err (bad [])
+scanned_event inner (c ∷ s) = if c == 110 then (word_at (codes "none") (c ∷ s) >>= λ e. Ok (no_event, e))
     else (word_at (codes "event ") (c ∷ s) >>= λ e. inner e >>= λ x. Ok (event x.0, x.1))
 
 abbrev pub begins_digit : List ℕ → Bool
@@ -119,17 +119,17 @@ begins_digit [] = false
 begins_digit (c ∷ s) = is_ascii_digit c
 
 -- a number, where no digit follows it, or a text
-abbrev pub key_at : KeyKind → List ℕ → Scanned KeyData
-key_at int_keys s = integer_at s >>= λ n. (if begins_digit n.1 then Err (bad n.1) else Ok (number_key n.0, n.1))
-key_at text_keys s = text_at s >>= λ t. Ok (text_key t.0, t.1)
+abbrev pub scanned_key : KeyKind → List ℕ → Scanned KeyData
+scanned_key int_keys s = scanned_integer s >>= λ n. (if begins_digit n.1 then Err (bad n.1) else Ok (number_key n.0, n.1))
+scanned_key text_keys s = scanned_text s >>= λ t. Ok (text_key t.0, t.1)
 
 -- a key whose spelling is none of those seen
 abbrev pub new_key_at : KeyKind → List (List ℕ) → List ℕ → Scanned KeyData
-new_key_at k seen s = key_at k s >>= λ l. (if list_any (bytes_eq (key_spelling l.0)) seen then Err (fault again s) else Ok l)
+new_key_at k seen s = scanned_key k s >>= λ l. (if list_any (bytes_eq (key_spelling l.0)) seen then Err (fault again s) else Ok l)
 
 -- a key, a colon and a value
-abbrev pub row_at : KeyKind → (List ℕ → Scanned Data) → List (List ℕ) → List ℕ → Scanned (KeyData × Data)
-row_at k inner seen s = do
+abbrev pub scanned_row : KeyKind → (List ℕ → Scanned Data) → List (List ℕ) → List ℕ → Scanned (KeyData × Data)
+scanned_row k inner seen s = do
   l ← new_key_at k seen s
   e ← byte_at 58 l.1
   x ← inner e
@@ -141,38 +141,38 @@ put_row r (Ok rs) = Ok (row r.0 r.1 rs.0, rs.1)
 put_row r (Err e) = Err e
 
 -- the closing brace, or a comma, a row and more; so many rows at most
-abbrev pub more_at : ℕ → KeyKind → (List ℕ → Scanned Data) → List (List ℕ) → List ℕ → Scanned Rows
-more_at zero k inner seen s = Err (bad s)
-more_at (suc n) k inner seen [] = Err (bad [])
-more_at (suc n) k inner seen (c ∷ s) = if c == 125 then Ok (no_rows, s)
-    else (byte_at 44 (c ∷ s) >>= λ e. row_at k inner seen e >>= λ r. put_row r.0 (more_at n k inner (key_spelling r.0.0 ∷ seen) r.1))
+abbrev pub scanned_more : ℕ → KeyKind → (List ℕ → Scanned Data) → List (List ℕ) → List ℕ → Scanned Rows
+scanned_more zero k inner seen s = Err (bad s)
+scanned_more (suc n) k inner seen [] = Err (bad [])
+scanned_more (suc n) k inner seen (c ∷ s) = if c == 125 then Ok (no_rows, s)
+    else (byte_at 44 (c ∷ s) >>= λ e. scanned_row k inner seen e >>= λ r. put_row r.0 (scanned_more n k inner (key_spelling r.0.0 ∷ seen) r.1))
 
 -- the closing brace, or a row and more
-abbrev pub rows_at : KeyKind → (List ℕ → Scanned Data) → List ℕ → Scanned Rows
-rows_at k inner [] = Err (bad [])
-rows_at k inner (c ∷ s) = if c == 125 then Ok (no_rows, s)
-    else (row_at k inner [] (c ∷ s) >>= λ r. put_row r.0 (more_at (length (c ∷ s)) k inner (key_spelling r.0.0 ∷ []) r.1))
+abbrev pub scanned_rows : KeyKind → (List ℕ → Scanned Data) → List ℕ → Scanned Rows
+scanned_rows k inner [] = Err (bad [])
+scanned_rows k inner (c ∷ s) = if c == 125 then Ok (no_rows, s)
+    else (scanned_row k inner [] (c ∷ s) >>= λ r. put_row r.0 (scanned_more (length (c ∷ s)) k inner (key_spelling r.0.0 ∷ []) r.1))
 
-unfoldable pub value_at : Kind → List ℕ → Scanned Data
-value_at unit_kind s = do
+unfoldable pub scanned_value : Kind → List ℕ → Scanned Data
+scanned_value unit_kind s = do
   e ← word_at (codes "()") s
   Ok (unit, e)
-value_at bool_kind s = truth_at s
-value_at int_kind s = do
-  n ← integer_at s
+scanned_value bool_kind s = scanned_truth s
+scanned_value int_kind s = do
+  n ← scanned_integer s
   Ok (number n.0, n.1)
-value_at text_kind s = do
-  t ← text_at s
+scanned_value text_kind s = do
+  t ← scanned_text s
   Ok (text t.0, t.1)
-value_at (pair_kind t u) s = do
+scanned_value (pair_kind t u) s = do
   inside ← byte_at 40 s
-  x ← value_at t inside
+  x ← scanned_value t inside
   after ← byte_at 44 x.1
-  y ← value_at u after
+  y ← scanned_value u after
   end ← byte_at 41 y.1
   Ok (pair x.0 y.0, end)
-value_at (event_kind t) s = event_at (value_at t) s
-value_at (table_kind k t) s = do
+scanned_value (event_kind t) s = scanned_event (scanned_value t) s
+scanned_value (table_kind k t) s = do
   inside ← byte_at 123 s
-  rs ← rows_at k (value_at t) inside
+  rs ← scanned_rows k (scanned_value t) inside
   Ok (table rs.0, rs.1)

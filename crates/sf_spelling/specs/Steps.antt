@@ -2,11 +2,11 @@
 use Rattle.std.specs.Prelude.{ℕ, List, map, Ok, codes}
 use Rattle.sf_value.specs.Values.{KeyData, Kind, Data, pair, no_event, event, Rows, table}
 use Rattle.sf_spelling.specs.Spelling.{key_spelling}
-use Rattle.sf_spelling.specs.Scan.{Scanned, ◌>>=◌, byte_at, word_at, value_at}
+use Rattle.sf_spelling.specs.Scan.{Scanned, ◌>>=◌, byte_at, word_at, scanned_value}
 
 -- a byte and a value
 abbrev pub value_behind : ℕ → Kind → List ℕ → Scanned Data
-value_behind c t s = byte_at c s >>= value_at t
+value_behind c t s = byte_at c s >>= scanned_value t
 
 -- the closing bracket of a pair whose values were read
 abbrev pub pair_closed : Data → Data → List ℕ → Scanned Data

@@ -2,10 +2,10 @@
 ghost use Rattle.std.specs.Prelude.{◌≡◌, ◌<◌, ℕ, IfOk, IfErr, MatchResult, OnOk, length, min, codes, ◌++◌, ◌∷◌, []};
 ghost use Rattle.sf_value.specs.Values.{KeyData, Data, unit_kind, bool_kind, int_kind, text_kind, pair_kind, event_kind, table_kind, HasKind};
 ghost use Rattle.sf_value.specs.KindView.{key_kind_of};
-ghost use Rattle.sf_value.specs.View.{key_of, rows_under};
+ghost use Rattle.sf_value.specs.View.{key_of, keyed_rows};
 ghost use Rattle.sf_spelling.specs.Spelling.{spelling};
 ghost use Rattle.sf_decimal.specs.Decimals.{signed};
-ghost use Rattle.sf_spelling.specs.Scan.{byte_at, word_at, positive_at, integer_at, value_at, narrow, begins_digit, key_at, new_key_at, row_at, rows_at};
+ghost use Rattle.sf_spelling.specs.Scan.{byte_at, word_at, positive_at, scanned_integer, scanned_value, narrow, begins_digit, scanned_key, new_key_at, scanned_row, scanned_rows};
 ghost use Rattle.sf_spelling.specs.Steps.{value_behind, pair_closed, none_at, event_before, table_before, spellings};
 ghost use Rattle.sf_spelling.specs.Reading.{Reads};
 ghost use Rattle.sf_spelling.specs.Refuses.{Refuses, IsMemory};
@@ -112,7 +112,7 @@ fn positive_of(bytes: &[u8]) -> Result<(u64, &[u8]), Failure>
 
 /// A whole number at the front, and what is after it.
 fn integer_of(bytes: &[u8]) -> Result<(i64, &[u8]), Failure>
-    ensures { GivesRead (λ x. (x.0, x.1.now)) result (integer_at bytes.now) }
+    ensures { GivesRead (λ x. (x.0, x.1.now)) result (scanned_integer bytes.now) }
 {
     match bytes {
         [] => Err(Failure::Bad(0)),
@@ -149,7 +149,7 @@ fn narrow<'a>(
 /// A value of the type at the front, and what is after it.
 #[cycle(value_of)]
 fn value_of<'a>(alloc: Global, ty: &Ty, bytes: &'a [u8]) -> Result<(Value, &'a [u8]), Failure>
-    ensures { GivesRead (λ x. (x.0, x.1.now)) result (value_at ty.now bytes.now) }
+    ensures { GivesRead (λ x. (x.0, x.1.now)) result (scanned_value ty.now bytes.now) }
 {
     match ty.form() {
         TyForm::Unit => unit_of(bytes),
@@ -162,18 +162,18 @@ fn value_of<'a>(alloc: Global, ty: &Ty, bytes: &'a [u8]) -> Result<(Value, &'a [
     }
 }
 
-#[tactic(auto, using(crate::proofs::Failing::fails_then), unfolding(crate::specs::Scan::value_at))]
+#[tactic(auto, using(crate::proofs::Failing::fails_then), unfolding(crate::specs::Scan::scanned_value))]
 fn unit_of(bytes: &[u8]) -> Result<(Value, &[u8]), Failure>
-    ensures { GivesRead (λ x. (x.0, x.1.now)) result (value_at unit_kind bytes.now) }
+    ensures { GivesRead (λ x. (x.0, x.1.now)) result (scanned_value unit_kind bytes.now) }
 {
     let rest = byte_of(b'(', bytes)?;
     let rest = byte_of(b')', rest)?;
     Ok((Value::unit(), rest))
 }
 
-#[tactic(auto, using(crate::proofs::Failing::fails_then), unfolding(crate::specs::Scan::value_at))]
+#[tactic(auto, using(crate::proofs::Failing::fails_then), unfolding(crate::specs::Scan::scanned_value))]
 fn bool_of(bytes: &[u8]) -> Result<(Value, &[u8]), Failure>
-    ensures { GivesRead (λ x. (x.0, x.1.now)) result (value_at bool_kind bytes.now) }
+    ensures { GivesRead (λ x. (x.0, x.1.now)) result (scanned_value bool_kind bytes.now) }
 {
     match bytes {
         [] => Err(Failure::Bad(0)),
@@ -189,17 +189,17 @@ fn bool_of(bytes: &[u8]) -> Result<(Value, &[u8]), Failure>
     }
 }
 
-#[tactic(auto, using(crate::proofs::Failing::fails_then), unfolding(crate::specs::Scan::value_at))]
+#[tactic(auto, using(crate::proofs::Failing::fails_then), unfolding(crate::specs::Scan::scanned_value))]
 fn int_of(bytes: &[u8]) -> Result<(Value, &[u8]), Failure>
-    ensures { GivesRead (λ x. (x.0, x.1.now)) result (value_at int_kind bytes.now) }
+    ensures { GivesRead (λ x. (x.0, x.1.now)) result (scanned_value int_kind bytes.now) }
 {
     let (n, rest) = integer_of(bytes)?;
     Ok((Value::int(n), rest))
 }
 
-#[tactic(auto, using(crate::proofs::Failing::fails_then), unfolding(crate::specs::Scan::value_at))]
+#[tactic(auto, using(crate::proofs::Failing::fails_then), unfolding(crate::specs::Scan::scanned_value))]
 fn string_of(alloc: Global, bytes: &[u8]) -> Result<(Value, &[u8]), Failure>
-    ensures { GivesRead (λ x. (x.0, x.1.now)) result (value_at text_kind bytes.now) }
+    ensures { GivesRead (λ x. (x.0, x.1.now)) result (scanned_value text_kind bytes.now) }
 {
     let (text, rest) = text_of(alloc, bytes)?;
     let Ok(value) = Value::text(alloc, text) else {
@@ -230,7 +230,7 @@ fn pair_of<'a>(
     second: &Ty,
     bytes: &'a [u8],
 ) -> Result<(Value, &'a [u8]), Failure>
-    ensures { GivesRead (λ x. (x.0, x.1.now)) result (value_at (pair_kind first.now second.now) bytes.now) }
+    ensures { GivesRead (λ x. (x.0, x.1.now)) result (scanned_value (pair_kind first.now second.now) bytes.now) }
 {
     let (x, rest) = value_behind(alloc, b'(', first, bytes)?;
     let (y, rest) = value_behind(alloc, b',', second, rest)?;
@@ -259,9 +259,9 @@ fn no_event_of(bytes: &[u8]) -> Result<(Value, &[u8]), Failure>
 }
 
 #[cycle(value_of)]
-#[tactic(auto, using(crate::proofs::Failing::fails_then), unfolding(crate::specs::Scan::value_at))]
+#[tactic(auto, using(crate::proofs::Failing::fails_then), unfolding(crate::specs::Scan::scanned_value))]
 fn event_of<'a>(alloc: Global, payload: &Ty, bytes: &'a [u8]) -> Result<(Value, &'a [u8]), Failure>
-    ensures { GivesRead (λ x. (x.0, x.1.now)) result (value_at (event_kind payload.now) bytes.now) }
+    ensures { GivesRead (λ x. (x.0, x.1.now)) result (scanned_value (event_kind payload.now) bytes.now) }
 {
     match bytes {
         [] => Err(Failure::Bad(0)),
@@ -287,7 +287,7 @@ fn event_in(alloc: Global, payload: Value, bytes: &[u8]) -> Result<(Value, &[u8]
 /// A key of a type at the front, which no digit follows where it is a number, and what is after it.
 #[tactic(auto, using(crate::proofs::Failing::fails_then))]
 fn key_in(alloc: Global, keys: KeyType, bytes: &[u8]) -> Result<(Key, &[u8]), Failure>
-    ensures { GivesRead (λ x. (key_of x.0, x.1.now)) result (key_at (key_kind_of keys) bytes.now) }
+    ensures { GivesRead (λ x. (key_of x.0, x.1.now)) result (scanned_key (key_kind_of keys) bytes.now) }
 {
     match keys {
         KeyType::Int => {
@@ -337,14 +337,14 @@ fn new_key_in<'a>(
 
 /// A table of a type at the front, and what is after it. Each key is looked up among those before it.
 #[cycle(value_of)]
-#[tactic(auto, unfolding(crate::specs::Scan::value_at))]
+#[tactic(auto, unfolding(crate::specs::Scan::scanned_value))]
 fn table_of<'a>(
     alloc: Global,
     keys: KeyType,
     values: &Ty,
     bytes: &'a [u8],
 ) -> Result<(Value, &'a [u8]), Failure>
-    ensures { GivesRead (λ x. (x.0, x.1.now)) result (value_at (table_kind (key_kind_of keys) values.now) bytes.now) }
+    ensures { GivesRead (λ x. (x.0, x.1.now)) result (scanned_value (table_kind (key_kind_of keys) values.now) bytes.now) }
 {
     let rest = byte_of(b'{', bytes)?;
     let (table, rest) = rows_in(alloc, keys, values, rest)?;
@@ -354,7 +354,7 @@ fn table_of<'a>(
 /// The table, which ends before these bytes, as a value.
 fn table_in(alloc: Global, table: Rows, bytes: &[u8]) -> Result<(Value, &[u8]), Failure>
     requires { length table.keys ≡ length table.values.items }
-    ensures { GivesRead (λ x. (x.0, x.1.now)) result (table_before (rows_under table.keys table.values.items) bytes.now) }
+    ensures { GivesRead (λ x. (x.0, x.1.now)) result (table_before (keyed_rows table.keys table.values.items) bytes.now) }
 {
     let Rows { keys, values } = table;
     let Ok(shared) = Rc::new(alloc, keys) else {
@@ -374,7 +374,7 @@ fn rows_in<'a>(
     values: &Ty,
     bytes: &'a [u8],
 ) -> Result<(Rows, &'a [u8]), Failure>
-    ensures rows { GivesRead (λ x. (rows_under x.0.keys x.0.values.items, x.1.now)) result (rows_at (key_kind_of keys) (value_at values.now) bytes.now) }
+    ensures rows { GivesRead (λ x. (keyed_rows x.0.keys x.0.values.items, x.1.now)) result (scanned_rows (key_kind_of keys) (scanned_value values.now) bytes.now) }
     ensures as_many { IfOk result (λ x. length x.0.keys ≡ length x.0.values.items) }
 {
     let mut table = Rows {
@@ -414,8 +414,8 @@ fn row_in<'a>(
     bytes: &'a [u8],
 ) -> Result<&'a [u8], Failure>
     ensures row { IfOk result (λ rest. (added : KeyData × Data) × (rows.new.keys ≡ rows.old.keys ++ added.0 ∷ []) × (rows.new.values.items ≡ rows.old.values.items ++ added.1 ∷ []) ×
-        (row_at (key_kind_of keys) (value_at values.now) (spellings rows.old.keys) bytes.now ≡ Ok (added, rest.now))) }
-    ensures fails { IfErr result (λ e. Fails e (row_at (key_kind_of keys) (value_at values.now) (spellings rows.old.keys) bytes.now)) }
+        (scanned_row (key_kind_of keys) (scanned_value values.now) (spellings rows.old.keys) bytes.now ≡ Ok (added, rest.now))) }
+    ensures fails { IfErr result (λ e. Fails e (scanned_row (key_kind_of keys) (scanned_value values.now) (spellings rows.old.keys) bytes.now)) }
 {
     let rest = new_key_in(alloc, keys, &mut rows.keys, bytes)?;
     let (value, rest) = value_behind(alloc, b':', values, rest)?;
@@ -437,7 +437,7 @@ fn put_value(values: &mut Vec<Value>, value: Value) -> Result<(), Failure>
 /// A value of the type at the front, and what is after it. A number takes no call into the cycle of values with parts.
 #[inline]
 fn front_of<'a>(alloc: Global, ty: &Ty, bytes: &'a [u8]) -> Result<(Value, &'a [u8]), Failure>
-    ensures { GivesRead (λ x. (x.0, x.1.now)) result (value_at ty.now bytes.now) }
+    ensures { GivesRead (λ x. (x.0, x.1.now)) result (scanned_value ty.now bytes.now) }
 {
     match ty.form() {
         TyForm::Int => int_of(bytes),

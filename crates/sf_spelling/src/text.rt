@@ -1,7 +1,7 @@
 //! Texts from their spellings.
 ghost use Rattle.std.specs.Prelude.{◌≡◌, IfOk, string_bytes};
 ghost use Rattle.std.specs.Str.{IsUtf8};
-ghost use Rattle.sf_spelling.specs.Scan.{between, moved, lead, chars_at, text_at};
+ghost use Rattle.sf_spelling.specs.Scan.{between, moved, lead, chars_at, scanned_text};
 ghost use Rattle.sf_spelling.specs.Gives.{GivesRead};
 
 use crate::read::{Failure, byte_of};
@@ -133,7 +133,7 @@ fn body_of(alloc: Global, bytes: &[u8]) -> Result<(Vec<u8>, &[u8]), Failure>
 /// A text at the front, and what is after it.
 #[tactic(auto, using(crate::proofs::Failing::fails_then))]
 pub(crate) fn text_of(alloc: Global, bytes: &[u8]) -> Result<(String, &[u8]), Failure>
-    ensures { GivesRead (λ x. (string_bytes x.0, x.1.now)) result (text_at bytes.now) }
+    ensures { GivesRead (λ x. (string_bytes x.0, x.1.now)) result (scanned_text bytes.now) }
 {
     let rest = byte_of(b'"', bytes)?;
     let (chars, rest) = body_of(alloc, rest)?;

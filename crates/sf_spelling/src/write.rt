@@ -2,7 +2,7 @@
 ghost use Rattle.std.specs.Prelude.{◌≡◌, ◌++◌, ◌∷◌, [], OnOk, OnErr, length, map, take};
 ghost use Rattle.std.specs.List.{flat_map};
 ghost use Rattle.sf_spelling.specs.Spelling.{escaped, quoted, key_spelling, spelling, rows_spelling, more_spelling};
-ghost use Rattle.sf_value.specs.View.{key_of, rows_under};
+ghost use Rattle.sf_value.specs.View.{key_of, keyed_rows};
 ghost use Rattle.sf_value.specs.Values.{pair, table};
 
 use sf_decimal::write_integer;
@@ -59,7 +59,7 @@ fn append_pair(first: &Value, second: &Value, out: &mut Vec<u8>) -> Result<(), A
 
 #[cycle(append)]
 fn append_table(rows: Rows, out: &mut Vec<u8>) -> Result<(), AllocError>
-    ensures ok { OnOk result (out.new.items ≡ out.old.items ++ spelling (table (rows_under (map key_of rows.entry.keys.now) rows.entry.values.now))) }
+    ensures ok { OnOk result (out.new.items ≡ out.old.items ++ spelling (table (keyed_rows (map key_of rows.entry.keys.now) rows.entry.values.now))) }
     ensures err { OnErr result (take (length out.old.items) out.new.items ≡ out.old.items) }
 {
     out.push(b'{')?;
@@ -70,7 +70,7 @@ fn append_table(rows: Rows, out: &mut Vec<u8>) -> Result<(), AllocError>
 
 #[cycle(append)]
 fn append_rows(rows: Rows, out: &mut Vec<u8>) -> Result<(), AllocError>
-    ensures ok { OnOk result (out.new.items ≡ out.old.items ++ rows_spelling (rows_under (map key_of rows.entry.keys.now) rows.entry.values.now)) }
+    ensures ok { OnOk result (out.new.items ≡ out.old.items ++ rows_spelling (keyed_rows (map key_of rows.entry.keys.now) rows.entry.values.now)) }
     ensures err { OnErr result (take (length out.old.items) out.new.items ≡ out.old.items) }
 {
     match rows.keys {
@@ -88,7 +88,7 @@ fn append_rows(rows: Rows, out: &mut Vec<u8>) -> Result<(), AllocError>
 
 #[cycle(append)]
 fn append_more(rows: Rows, out: &mut Vec<u8>) -> Result<(), AllocError>
-    ensures ok { OnOk result (out.new.items ≡ out.old.items ++ more_spelling (rows_under (map key_of rows.entry.keys.now) rows.entry.values.now)) }
+    ensures ok { OnOk result (out.new.items ≡ out.old.items ++ more_spelling (keyed_rows (map key_of rows.entry.keys.now) rows.entry.values.now)) }
     ensures err { OnErr result (take (length out.old.items) out.new.items ≡ out.old.items) }
 {
     match rows.keys {

@@ -13,34 +13,34 @@ use Rattle.sf_law.specs.Entries.{IsCodedCollection}
 use Rattle.sf_law.specs.Arena.{plan_collection, plan_expressions, network_of_plan}
 use Rattle.sf_expr.specs.Expressions.{Pattern}
 use Rattle.sf_expr.specs.Patterns.{pattern_of}
-use Rattle.sf_expr.specs.Arena.{placed_at, name_at}
+use Rattle.sf_expr.specs.Arena.{stored_pattern, name_at}
 use Rattle.sf_term.specs.Trees.{whole, rest, Term, Primitive, primitive, probe, staged, gathered, editing, Collection}
 use Rattle.sf_expr.specs.Evaluation.{Scope, answer}
 use Rattle.sf_value.specs.Values.{KeyData, Name, Data}
 use Rattle.sf_mean.specs.Lives.{Step, Life, Process, closure, resumed, Environment, after, frozen, Members, no_members, member, each_frozen}
-use Rattle.sf_mean.specs.Meaning.{Network, Made, members_made, Tables, edit_of, which_run, Outputs, Watched, Takeover, fired, stands_after, Since, watched as was_watched, had_fired}
+use Rattle.sf_mean.specs.Meaning.{Network, Made, members_made, Tables, edit_of, which_run, Outputs, Watched, Takeover, fired, stands_after, Since, had_fired, watched}
 use Rattle.sf_prim.specs.declared.prim_state.PrimState.{PrimState}
-use Rattle.sf_prim.specs.Keeping.{Remembers}
+use Rattle.sf_prim.specs.Remembering.{Remembers}
 use Rattle.sf_state.specs.declared.state.State.{State}
-use Rattle.sf_state.specs.declared.state.State.TheVariants.{Unborn, Primitive as SPrimitive, Live' as Alive', Switch' as Watching', Keeping', Gathering', Frozen'}
+use Rattle.sf_state.specs.declared.state.State.TheVariants.{Unborn, Primitive as SPrimitive, Live' as Alive', Switch' as Watching', Continuation', Gathering', Frozen'}
 use Rattle.sf_state.specs.declared.state.Live.{Live}
 use Rattle.sf_state.specs.declared.state.Live.{items_hidden-the_row-State-0 as states_are}
 use Rattle.sf_state.specs.declared.state.Gathered.{Gathered}
 use Rattle.sf_state.specs.declared.state.Live.TheVariants.{Probe as LProbe, Join as LJoin, Pipeline as LPipeline, Wrap as LWrap, Gathered as LGathered}
 use Rattle.sf_state.specs.declared.state.Wrap.{Wrap}
-use Rattle.sf_state.specs.declared.state.Process.{Process as SProcess}
+use Rattle.sf_state.specs.declared.state.Process as process_states
 use Rattle.sf_state.specs.declared.state.Switch.{Switch}
-use Rattle.sf_state.specs.declared.state.Keeping.{Keeping}
+use Rattle.sf_state.specs.declared.state.Continuation.{Continuation}
 use Rattle.sf_state.specs.declared.state.Gathering.{Gathering}
 use Rattle.sf_state.specs.declared.state.Gathering.TheVariants.{Releasing as GReleasing, Editing as GEditing}
 use Rattle.sf_state.specs.declared.state.Releasing.{Releasing}
 use Rattle.sf_state.specs.declared.state.Editing.{Editing}
 use Rattle.sf_state.specs.declared.state.Frozen.{Frozen}
-use Rattle.sf_state.specs.declared.state.Kept.{Kept}
-use Rattle.sf_state.specs.declared.state.Kept.TheVariants.{Primitive as KPrimitive, Live' as KLive', Switch' as KSwitch', Keeping' as KKeeping', Gathering' as KGathering'}
+use Rattle.sf_state.specs.declared.state.FrozenNode.{FrozenNode}
+use Rattle.sf_state.specs.declared.state.FrozenNode.TheVariants.{Primitive as KPrimitive, Live' as KLive', Switch' as KSwitch', Continuation' as KContinuation', Gathering' as KGathering'}
 use Rattle.sf_state.specs.declared.env.Env.{Env}
-use Rattle.sf_state.specs.Held.{Holding, held_as, held_in}
-use Rattle.sf_state.specs.Standing.{Wraps, kept_state, Turned, fired_to, kept_to, released_to, ran, went_on, was_alike, Stands, itself, took_over, StandsItself, unborn, recalling, recalls, alive, watching, keeping_on, gathering_on, was_frozen, Waits, waits_so, recurs_so, WaitsKeeping, keeps_so, WaitsGathered, releases_so, edits_so, Settles, settles, Ready, ready, Lives, lives_probe, lives_join, lives_pipeline, lives_wrap, lives_gathered, keys_in, Gathers, gathers, EachStands, none_stands, one_stands, StandsAmong, as_it_stands, as_it_stood, StagesStand, last_stands, stage_stands, IsProcess, is_closure, IsNames, AllFollow, none_follow, more_follow}
+use Rattle.sf_state.specs.Held.{Holding, held_as, gathered_holding}
+use Rattle.sf_state.specs.Standing.{Wraps, frozen_state, Turned, fired_to, continued_to, released_to, ran, went_on, was_alike, Stands, itself, took_over, StandsItself, unborn, recalling, recalls, alive, watching, continuing_on, gathering_on, was_frozen, Waits, waits_so, recurs_so, WaitsContinuation, continues_so, WaitsGathered, releases_so, edits_so, Settles, settles, Ready, ready, Lives, lives_probe, lives_join, lives_pipeline, lives_wrap, lives_gathered, keys_in, Gathers, gathers, EachStands, none_stands, one_stands, StandsAmong, as_it_stands, as_it_stood, StagesStand, last_stands, stage_stands, IsProcess, is_closure, IsNames, AllFollow, none_follow, more_follow}
 
 -- whether a life has a step
 abbrev pub has_step : Life → Bool
@@ -53,7 +53,7 @@ begun_at B s L None e = absurd cc
 begun_at B s L {M} (Some v) e = let one : s ∷ [] ≡ M = cc in sym (ap has_step one)
 
 since_begun : {n : Network} {W : Watched} {B : Takeover} {L M : Life} {Q : Process} → Since n W B L (fired Q M) → has_step L ≡ has_step M
-since_begun (was_watched {B = B} {s = s} {L = L} S A e) = sym (begun_at B s L _ e)
+since_begun (watched {B = B} {s = s} {L = L} S A e) = sym (begun_at B s L _ e)
 since_begun (had_fired S) = refl
 
 after_begun : (h : Life) (d : ℕ) (s : Step) (L : Life) → has_step (after h d (s ∷ L)) ≡ true
@@ -63,7 +63,7 @@ after_begun h d s (r ∷ L) = refl
 -- one gives way to another where both have lived a step, or neither
 turned_begun : {n : Network} {P Q : Process} {L M : Life} → Turned n P L Q M → has_step L ≡ has_step M
 turned_begun (fired_to S O) = since_begun S
-turned_begun (kept_to S O) = since_begun S
+turned_begun (continued_to S O) = since_begun S
 turned_begun (released_to h S O) = since_begun S
 turned_begun (ran h O) = refl
 turned_begun (went_on {h = h} {d = d} {s = s} {L = L} O) = sym (after_begun h d s L)
@@ -75,7 +75,7 @@ module _ (φ : AnswersByName) (p : Plan) where
   NamesFollow names around = (e : Environment) → IsNames φ p names e → IsNames φ p around e
 
   -- a process with the same names, shared
-  pub process_follows : (q : SProcess) (names : Env) → NamesFollow q.names names → (P : Process) → IsProcess φ p q P → IsProcess φ p (record { term = q.term; names = names }) P
+  pub process_follows : (q : process_states.Process) (names : Env) → NamesFollow q.names names → (P : Process) → IsProcess φ p q P → IsProcess φ p (record { term = q.term; names = names }) P
   process_follows q names f P (is_closure A N) = is_closure A (f _ N)
 
   -- b stands for all that a stands for
@@ -97,7 +97,7 @@ module _ (φ : AnswersByName) (p : Plan) where
   pub same_follows : (l m : Live) → m ≡ l → NodeFollows l m
   same_follows l m e P x L R = subst (λ (l : Live). Ready φ p l P x L) (sym e) R
 
-  pub unborn_follows : (q r : SProcess) → ((P : Process) → IsProcess φ p q P → IsProcess φ p r P) → Follows (Unborn q) (Unborn r)
+  pub unborn_follows : (q r : process_states.Process) → ((P : Process) → IsProcess φ p q P → IsProcess φ p r P) → Follows (Unborn q) (Unborn r)
   unborn_follows q r h = itself_follows (Unborn q) (Unborn r) step
     where
       step : (P : Process) (L : Life) → StandsItself φ p (Unborn q) P L → StandsItself φ p (Unborn r) P L
@@ -123,17 +123,17 @@ module _ (φ : AnswersByName) (p : Plan) where
       step P L (watching N W) = watching (h _ N) (f _ _ W)
 
   -- the same of switches that keep their sources
-  abbrev pub KeepingFollows : Keeping → Keeping → Type 0
-  KeepingFollows s r = (P : Process) (L : Life) → WaitsKeeping φ p s P L → WaitsKeeping φ p r P L
+  abbrev pub ContinuationFollows : Continuation → Continuation → Type 0
+  ContinuationFollows s r = (P : Process) (L : Life) → WaitsContinuation φ p s P L → WaitsContinuation φ p r P L
 
-  pub same_keeps : (s r : Keeping) → r ≡ s → KeepingFollows s r
-  same_keeps s r e P L S = subst (λ (s : Keeping). WaitsKeeping φ p s P L) (sym e) S
+  pub same_keeps : (s r : Continuation) → r ≡ s → ContinuationFollows s r
+  same_keeps s r e P L S = subst (λ (s : Continuation). WaitsContinuation φ p s P L) (sym e) S
 
-  pub keeping_follows : {at at' : _} (names around : Env) (s r : Keeping) → NamesFollow names around → KeepingFollows s r → Follows (Keeping' names at s.shown s.first s.source s.before s.observer s.name s.pattern s.body) (Keeping' around at' r.shown r.first r.source r.before r.observer r.name r.pattern r.body)
-  keeping_follows {at} {at'} names around s r h f = itself_follows (Keeping' names at s.shown s.first s.source s.before s.observer s.name s.pattern s.body) (Keeping' around at' r.shown r.first r.source r.before r.observer r.name r.pattern r.body) step
+  pub continuing_follows : {at at' : _} (names around : Env) (s r : Continuation) → NamesFollow names around → ContinuationFollows s r → Follows (Continuation' names at s.shown s.first s.source s.before s.observer s.name s.pattern s.body) (Continuation' around at' r.shown r.first r.source r.before r.observer r.name r.pattern r.body)
+  continuing_follows {at} {at'} names around s r h f = itself_follows (Continuation' names at s.shown s.first s.source s.before s.observer s.name s.pattern s.body) (Continuation' around at' r.shown r.first r.source r.before r.observer r.name r.pattern r.body) step
     where
-      step : (P : Process) (L : Life) → StandsItself φ p (Keeping' names at s.shown s.first s.source s.before s.observer s.name s.pattern s.body) P L → StandsItself φ p (Keeping' around at' r.shown r.first r.source r.before r.observer r.name r.pattern r.body) P L
-      step P L (keeping_on N K) = keeping_on (h _ N) (f _ _ K)
+      step : (P : Process) (L : Life) → StandsItself φ p (Continuation' names at s.shown s.first s.source s.before s.observer s.name s.pattern s.body) P L → StandsItself φ p (Continuation' around at' r.shown r.first r.source r.before r.observer r.name r.pattern r.body) P L
+      step P L (continuing_on N K) = continuing_on (h _ N) (f _ _ K)
 
   -- the same of members that wait
   abbrev pub GatheringFollows : Gathering → Gathering → Type 0
@@ -153,23 +153,23 @@ module _ (φ : AnswersByName) (p : Plan) where
   MembersFollow g h = (ms : Members) (L : Life) → Gathers φ p g ms L → Gathers φ p h ms L
 
   -- the states of a node's members, as they are matched and as a list
-  pub held_shown : (g : Gathered) {bs : List State} → bs ≡ g.states.value.items → {ms : Members} {L : Life} → Gathers φ p (held_as g.keys bs g.wait) ms L → Gathers φ p (held_in g) ms L
+  pub held_shown : (g : Gathered) {bs : List State} → bs ≡ g.states.value.items → {ms : Members} {L : Life} → Gathers φ p (held_as g.keys bs g.wait) ms L → Gathers φ p (gathered_holding g) ms L
   held_shown g e {ms} {L} G = subst (λ (bs : List State). Gathers φ p (held_as g.keys bs g.wait) ms L) e G
 
-  pub held_hidden : (g : Gathered) {bs : List State} → bs ≡ g.states.value.items → {ms : Members} {L : Life} → Gathers φ p (held_in g) ms L → Gathers φ p (held_as g.keys bs g.wait) ms L
+  pub held_hidden : (g : Gathered) {bs : List State} → bs ≡ g.states.value.items → {ms : Members} {L : Life} → Gathers φ p (gathered_holding g) ms L → Gathers φ p (held_as g.keys bs g.wait) ms L
   held_hidden g e {ms} {L} G = subst (λ (bs : List State). Gathers φ p (held_as g.keys bs g.wait) ms L) (sym e) G
 
-  pub releasing_follows : (s : Releasing) (l x : Gathered) (o : State) → MembersFollow (held_in s.members) (held_in l) → Follows s.observer o
+  pub releasing_follows : (s : Releasing) (l x : Gathered) (o : State) → MembersFollow (gathered_holding s.members) (gathered_holding l) → Follows s.observer o
       → GatheringFollows (GReleasing s) (GReleasing (record { shown = s.shown; members = l; before = x; observer = o; name = s.name; pattern = s.pattern; body = s.body }))
   releasing_follows s l x o f g P L (releases_so h S Z Y G A) =
       releases_so h S Z Y (held_hidden l (states_are l.states.value) (f _ _ (held_shown s.members (states_are s.members.states.value) G))) (g _ _ A)
 
   -- the edit may stand under another pointer
-  pub editing_follows : (s : Editing) (l : Gathered) (c : Rc PlanCollection Global) → c.value ≡ s.edit.value → MembersFollow (held_in s.members) (held_in l)
+  pub editing_follows : (s : Editing) (l : Gathered) (c : Rc PlanCollection Global) → c.value ≡ s.edit.value → MembersFollow (gathered_holding s.members) (gathered_holding l)
       → GatheringFollows (GEditing s) (GEditing (record { shown = s.shown; members = l; name = s.name; pattern = s.pattern; edit = c }))
   editing_follows s l c same f P L (edits_so {i = i} {e = e} {ms = ms} {qs = qs} {L = K} {zs = zs} C h R Z Y G) =
       let k : Name = name_at (plan_expressions p) s.name in
-      let q : Pattern = pattern_of (placed_at (plan_expressions p) s.pattern) in
+      let q : Pattern = pattern_of (stored_pattern (plan_expressions p) s.pattern) in
       let edited : PlanCollection → Process = λ v. closure (editing s.shown i k q (plan_collection p v)) e in
       let waits : PlanCollection → Type 0 = λ v. IsCodedCollection (plan_expressions p) v → which_run (edit_of φ k q (plan_collection p v) e) ms K ≡ answer qs → Outputs (network_of_plan φ p) (edited v) K zs
       → WaitsGathered φ p (GEditing (record { shown = s.shown; members = l; name = s.name; pattern = s.pattern; edit = c })) (edited v) K in
@@ -184,8 +184,8 @@ module _ (φ : AnswersByName) (p : Plan) where
       step : (P : Process) (L : Life) → StandsItself φ p (Frozen' at f.wait f.names f.node) P L → StandsItself φ p (Frozen' at' f.wait f.names f.node) P L
       step P L (was_frozen A) = was_frozen A
 
-  pub keep_follows : (s : Keeping) (a x o : State) → Follows s.source a → Follows s.observer o → KeepingFollows s (record { shown = s.shown; first = s.first; source = a; before = x; observer = o; name = s.name; pattern = s.pattern; body = s.body })
-  keep_follows s a x o f g P L (keeps_so S Z Y A B) = keeps_so S Z Y (f _ _ A) (g _ _ B)
+  pub keep_follows : (s : Continuation) (a x o : State) → Follows s.source a → Follows s.observer o → ContinuationFollows s (record { shown = s.shown; first = s.first; source = a; before = x; observer = o; name = s.name; pattern = s.pattern; body = s.body })
+  keep_follows s a x o f g P L (continues_so S Z Y A B) = continues_so S Z Y (f _ _ A) (g _ _ B)
 
   pub switch_follows : (s : Switch) (a : State) → Follows s.running a → SwitchFollows s (record { form = s.form; running = a; pattern = s.pattern; body = s.body })
   switch_follows s a f P L (waits_so k S O A) = waits_so k S O (f _ _ A)
@@ -233,7 +233,7 @@ module _ (φ : AnswersByName) (p : Plan) where
   each_follows (more_follow f fs) (one_stands A S) = one_stands (among_follows f A) (each_follows fs S)
 
   -- members of which each follows have the same keys
-  pub held_follow : (g h : Gathered) → h.keys.value ≡ g.keys.value → AllFollow φ p g.states.value.items h.states.value.items → h.wait ≡ g.wait → MembersFollow (held_in g) (held_in h)
+  pub held_follow : (g h : Gathered) → h.keys.value ≡ g.keys.value → AllFollow φ p g.states.value.items h.states.value.items → h.wait ≡ g.wait → MembersFollow (gathered_holding g) (gathered_holding h)
   held_follow g h same fs wait ms L (gathers K S) = gathers (same ∙ K) (subst (λ w. EachStands φ p w h.states.value.items ms L) (sym wait) (each_follows fs S))
 
   -- members that are held as others are these
@@ -241,14 +241,14 @@ module _ (φ : AnswersByName) (p : Plan) where
   same_held g h e ms L G = subst (λ (h : Holding). Gathers φ p h ms L) (sym e) G
 
   -- no keys and no states
-  pub none_held : (g : Gathered) {L : Life} → g.keys.value ≡ [] → g.states.value.items ≡ [] → Gathers φ p (held_in g) no_members L
+  pub none_held : (g : Gathered) {L : Life} → g.keys.value ≡ [] → g.states.value.items ≡ [] → Gathers φ p (gathered_holding g) no_members L
   none_held g {L} no_key no_state = gathers no_key (subst (λ (bs : List State). EachStands φ p g.wait bs no_members L) (sym no_state) none_stands)
 
   -- a node with the same members is the same part
-  pub members_live : (g : Gathered) {i : Collection} {e : Environment} {ms : Members} {L : Life} {ys : List Data} → Tables (network_of_plan φ p) ms L ys → Gathers φ p (held_in g) ms L → Lives φ p (LGathered g) (gathered i) e (members_made ms) L
+  pub members_live : (g : Gathered) {i : Collection} {e : Environment} {ms : Members} {L : Life} {ys : List Data} → Tables (network_of_plan φ p) ms L ys → Gathers φ p (gathered_holding g) ms L → Lives φ p (LGathered g) (gathered i) e (members_made ms) L
   members_live g Y G = lives_gathered Y (held_hidden g (states_are g.states.value) G)
 
-  pub gathered_follows : (g h : Gathered) → MembersFollow (held_in g) (held_in h) → NodeFollows (LGathered g) (LGathered h)
+  pub gathered_follows : (g h : Gathered) → MembersFollow (gathered_holding g) (gathered_holding h) → NodeFollows (LGathered g) (LGathered h)
   gathered_follows g h f P x L (ready m O (lives_gathered Y G)) = ready m O (members_live h Y (f _ _ (held_shown g (states_are g.states.value) G)))
 
   frozen_keys : (ms : Members) (L : Life) (d : ℕ) → keys_in (each_frozen ms L d) ≡ keys_in ms
@@ -267,7 +267,7 @@ module _ (φ : AnswersByName) (p : Plan) where
   each_freezes None d (one_stands A S) = one_stands (among_freezes d A) (each_freezes None d S)
   each_freezes (Some c) d (one_stands A S) = one_stands (among_stays d A) (each_freezes (Some c) d S)
 
-  pub held_freeze : (d : ℕ) (g h : Gathered) → h.keys.value ≡ g.keys.value → h.states.value ≡ g.states.value → h.wait ≡ Some (unwrap_or g.wait d) → (ms : Members) (L : Life) → Gathers φ p (held_in g) ms L → Gathers φ p (held_in h) (each_frozen ms L d) []
+  pub held_freeze : (d : ℕ) (g h : Gathered) → h.keys.value ≡ g.keys.value → h.states.value ≡ g.states.value → h.wait ≡ Some (unwrap_or g.wait d) → (ms : Members) (L : Life) → Gathers φ p (gathered_holding g) ms L → Gathers φ p (gathered_holding h) (each_frozen ms L d) []
   held_freeze d g h same list wait ms L (gathers K S) =
       let all : EachStands φ p (Some (unwrap_or g.wait d)) h.states.value.items (each_frozen ms L d) [] = subst (λ (v : Vec State Global). EachStands φ p (Some (unwrap_or g.wait d)) v.items (each_frozen ms L d) []) (sym list) (each_freezes g.wait d S) in
       gathers (same ∙ K ∙ sym (frozen_keys ms L d)) (subst (λ w. EachStands φ p w h.states.value.items (each_frozen ms L d) []) (sym wait) all)
@@ -315,13 +315,13 @@ module _ (φ : AnswersByName) (p : Plan) where
   itself_lived a f P L (itself A) = f P L A
   itself_lived a f P L (took_over T A) = turned_begun T ∙ itself_lived a f _ _ A
 
-  pub unborn_fresh : (q : SProcess) → IsFresh (Unborn q)
+  pub unborn_fresh : (q : process_states.Process) → IsFresh (Unborn q)
   unborn_fresh q = itself_fresh (Unborn q) step
     where
       step : (P : Process) (L : Life) → StandsItself φ p (Unborn q) P L → has_step L ≡ false
       step P L (unborn Q) = refl
 
-  pub frozen_fresh : {at : _} (d : ℕ) (names : Env) (k : Kept) → IsFresh (Frozen' at d names k)
+  pub frozen_fresh : {at : _} (d : ℕ) (names : Env) (k : FrozenNode) → IsFresh (Frozen' at d names k)
   frozen_fresh {at} d names k = itself_fresh (Frozen' at d names k) step
     where
       step : (P : Process) (L : Life) → StandsItself φ p (Frozen' at d names k) P L → has_step L ≡ false
@@ -345,11 +345,11 @@ module _ (φ : AnswersByName) (p : Plan) where
       step : (P : Process) (L : Life) → StandsItself φ p (Watching' names at s.form s.running s.pattern s.body) P L → has_step L ≡ true
       step P L (watching N W) = refl
 
-  pub keeping_lived : {at : _} (names : Env) (s : Keeping) → HasLived (Keeping' names at s.shown s.first s.source s.before s.observer s.name s.pattern s.body)
-  keeping_lived {at} names s = itself_lived (Keeping' names at s.shown s.first s.source s.before s.observer s.name s.pattern s.body) step
+  pub continuing_lived : {at : _} (names : Env) (s : Continuation) → HasLived (Continuation' names at s.shown s.first s.source s.before s.observer s.name s.pattern s.body)
+  continuing_lived {at} names s = itself_lived (Continuation' names at s.shown s.first s.source s.before s.observer s.name s.pattern s.body) step
     where
-      step : (P : Process) (L : Life) → StandsItself φ p (Keeping' names at s.shown s.first s.source s.before s.observer s.name s.pattern s.body) P L → has_step L ≡ true
-      step P L (keeping_on N K) = refl
+      step : (P : Process) (L : Life) → StandsItself φ p (Continuation' names at s.shown s.first s.source s.before s.observer s.name s.pattern s.body) P L → has_step L ≡ true
+      step P L (continuing_on N K) = refl
 
   pub gathering_lived : {at : _} (names : Env) (g : Gathering) → HasLived (Gathering' names at g)
   gathering_lived {at} names g = itself_lived (Gathering' names at g) step
@@ -372,16 +372,16 @@ module _ (φ : AnswersByName) (p : Plan) where
   lived_freezes a b f d g P (s ∷ L) A = g P s L A
 
   -- what was kept, with the same names around it
-  pub kept_around : (names around : Env) (k : Kept) → NamesFollow names around → Follows (kept_state names k) (kept_state around k)
+  pub kept_around : (names around : Env) (k : FrozenNode) → NamesFollow names around → Follows (frozen_state names k) (frozen_state around k)
   kept_around names around (KPrimitive i) N = λ P L A. A
   kept_around names around (KLive' at l) N = alive_follows names around l l N (λ P x L R. R)
   kept_around names around (KSwitch' at w a q b) N = let s : Switch = record { form = w; running = a; pattern = q; body = b } in watching_follows names around s s N (λ P L S. S)
-  kept_around names around (KKeeping' at w f a x o i q b) N = let s : Keeping = record { shown = w; first = f; source = a; before = x; observer = o; name = i; pattern = q; body = b } in keeping_follows names around s s N (λ P L S. S)
+  kept_around names around (KContinuation' at w f a x o i q b) N = let s : Continuation = record { shown = w; first = f; source = a; before = x; observer = o; name = i; pattern = q; body = b } in continuing_follows names around s s N (λ P L S. S)
   kept_around names around (KGathering' at g) N = gathering_follows names around g g N (λ P L S. S)
 
   -- a frozen node with the same names
-  pub node_freezes : {at : _} (d : ℕ) (names around : Env) (k : Kept) (f : Frozen) → NamesFollow names around → f ≡ record { wait = d; names = around; node = k }
-      → (P : Process) (s : Step) (h : Life) → Stands φ p (kept_state names k) P (s ∷ h) → Stands φ p (Frozen' at f.wait f.names f.node) (resumed P (s ∷ h) d) []
+  pub node_freezes : {at : _} (d : ℕ) (names around : Env) (k : FrozenNode) (f : Frozen) → NamesFollow names around → f ≡ record { wait = d; names = around; node = k }
+      → (P : Process) (s : Step) (h : Life) → Stands φ p (frozen_state names k) P (s ∷ h) → Stands φ p (Frozen' at f.wait f.names f.node) (resumed P (s ∷ h) d) []
   node_freezes {at} d names around k f N same P s h A = subst (λ (f : Frozen). Stands φ p (Frozen' at f.wait f.names f.node) (resumed P (s ∷ h) d) []) (sym same) (itself (was_frozen (kept_around names around k N P (s ∷ h) A)))
 
 -- a state that lived, frozen through one that follows it
@@ -397,7 +397,7 @@ fresh_frozen a d (Ok c) l f = λ φ p. same_freezes φ p a c (l φ p) (f φ p) d
 fresh_frozen a d (Err e) l f = tt
 
 -- members that share all are held the same
-pub held_same : (g h : Gathered) → h.keys.value ≡ g.keys.value → h.states.value ≡ g.states.value → h.wait ≡ g.wait → held_in h ≡ held_in g
+pub held_same : (g h : Gathered) → h.keys.value ≡ g.keys.value → h.states.value ≡ g.states.value → h.wait ≡ g.wait → gathered_holding h ≡ gathered_holding g
 held_same g h keys list wait =
     let holding : List KeyData → List State → Option ℕ → Holding = λ ks bs w. record { keys = ks; states = bs; wait = w } in
     ap (λ ks. holding ks h.states.value.items h.wait) keys ∙ ap (λ (v : Vec State Global). holding g.keys.value v.items h.wait) list ∙ ap (λ w. holding g.keys.value g.states.value.items w) wait

@@ -6,7 +6,7 @@ use Rattle.sf_func.specs.Registries.{AnswersByName}
 use Rattle.sf_expr.specs.Expressions.{Pattern, unnamed, named, both}
 use Rattle.sf_mean.specs.Lives.{Process, closure, Environment, bind, running, collected, Members}
 use Rattle.sf_coincidence.specs.Mentions.{BindsOthers}
-use Rattle.sf_coincidence.specs.Alike.{AlikeAt, of_closures}
+use Rattle.sf_coincidence.specs.Alike.{AlikeName, of_closures}
 use Rattle.sf_coincidence.proofs.Same.{alike_itself, members_themselves, alike_back, at_itself, at_bound, at_running, at_collected, at_other_value, at_other_process, at_other_members}
 use Rattle.sf_law.specs.declared.node.PlanId.{PlanId}
 use Rattle.sf_law.specs.declared.plan.Plan.{Plan}
@@ -14,7 +14,7 @@ use Rattle.sf_law.specs.declared.mentioned.Mentioned.{Mentioned}
 use Rattle.sf_law.specs.Arena.{plan_tree, plan_expressions}
 use Rattle.sf_law.specs.Mentioned.{is_mentioned, Covers}
 use Rattle.sf_law.proofs.Naming.{not_bound, others}
-use Rattle.sf_expr.specs.Arena.{placed_at, name_at}
+use Rattle.sf_expr.specs.Arena.{stored_pattern, name_at}
 use Rattle.sf_expr.specs.Patterns.{pattern_of}
 use Rattle.sf_state.specs.declared.env.Env.{Env}
 use Rattle.sf_state.specs.declared.env.Binding.{Binding}
@@ -23,12 +23,12 @@ use Rattle.sf_state.specs.declared.env.Collected.{Collected}
 use Rattle.std.specs.declared.alloc.Global.{Global}
 use Rattle.std.specs.declared.rc.Rc.{Rc}
 use Rattle.sf_state.specs.declared.env.Env.TheVariants.{Empty as SEmpty, Bound', Running', Collected as ECollected}
-use Rattle.sf_state.specs.Held.{held_in}
+use Rattle.sf_state.specs.Held.{gathered_holding}
 use Rattle.sf_state.proofs.Scopes.{collected_is, collected_holds}
 use Rattle.sf_state.specs.Standing.{closed_over, HasMentioned, has_mentioned, IsNames, is_empty, is_bound, is_running, Gathers, IsHanded, IsProcess, is_closure}
 
 -- a name that a pattern doesn't bind stands for alike inside it and around it
-outside : {x : Name} {d e : Environment} (q : Pattern) (v : Data) → BindsOthers q x → AlikeAt x d e → AlikeAt x d (bind q v e)
+outside : {x : Name} {d e : Environment} (q : Pattern) (v : Data) → BindsOthers q x → AlikeName x d e → AlikeName x d (bind q v e)
 outside unnamed v h A = A
 outside {x} (named y) v h A = at_other_value x y v (not_bound (named y) x h) A
 outside (both p q) v h A = outside q (second_of v) h.1 (outside p (first_of v) h.0 A)
@@ -59,7 +59,7 @@ module _ (φ : AnswersByName) (p : Plan) where
   term_closed a C (has_mentioned N A) = is_closure (alike_back (of_closures (λ x h. A x (C x h)))) N
 
   -- what follows inside a pattern
-  pub inside_pattern : {at : _} (b : Binding) (C : Environment → Type 0) → ((e : Environment) → IsNames φ p b.around e → C (bind (pattern_of (placed_at (plan_expressions p) b.pattern)) b.value.value e))
+  pub inside_pattern : {at : _} (b : Binding) (C : Environment → Type 0) → ((e : Environment) → IsNames φ p b.around e → C (bind (pattern_of (stored_pattern (plan_expressions p) b.pattern)) b.value.value e))
       → (e : Environment) → IsNames φ p (Bound' at b.pattern b.value b.around) e → C e
   inside_pattern b C h e (is_bound {e = around} N) = h around N
 
@@ -69,9 +69,9 @@ module _ (φ : AnswersByName) (p : Plan) where
   inside_process r C h e (is_running {P = P} {e = around} A B N) = h around P (A, B) N
 
   -- a pattern over fewer names
-  pub over_fewer : {at : _} {m l : Mentioned} {e : Environment} (b : Binding) → ((x : Name) → IsTrue (is_mentioned (plan_expressions p) m x) → BindsOthers (pattern_of (placed_at (plan_expressions p) b.pattern)) x → IsTrue (is_mentioned (plan_expressions p) l x))
-      → HasMentioned φ p l b.around e → HasMentioned φ p m (Bound' at b.pattern b.value b.around) (bind (pattern_of (placed_at (plan_expressions p) b.pattern)) b.value.value e)
-  over_fewer b h (has_mentioned N A) = has_mentioned (is_bound N) (λ x k. at_bound (pattern_of (placed_at (plan_expressions p) b.pattern)) b.value.value (λ free. A x (h x k free)))
+  pub over_fewer : {at : _} {m l : Mentioned} {e : Environment} (b : Binding) → ((x : Name) → IsTrue (is_mentioned (plan_expressions p) m x) → BindsOthers (pattern_of (stored_pattern (plan_expressions p) b.pattern)) x → IsTrue (is_mentioned (plan_expressions p) l x))
+      → HasMentioned φ p l b.around e → HasMentioned φ p m (Bound' at b.pattern b.value b.around) (bind (pattern_of (stored_pattern (plan_expressions p) b.pattern)) b.value.value e)
+  over_fewer b h (has_mentioned N A) = has_mentioned (is_bound N) (λ x k. at_bound (pattern_of (stored_pattern (plan_expressions p) b.pattern)) b.value.value (λ free. A x (h x k free)))
 
   -- a process over fewer names
   pub process_over_fewer : {at : _} {m l : Mentioned} {e : Environment} {P : Process} (r : Running) → ((x : Name) → IsTrue (is_mentioned (plan_expressions p) m x) → BindsOthers (named (name_at (plan_expressions p) r.name)) x → IsTrue (is_mentioned (plan_expressions p) l x))
@@ -83,17 +83,17 @@ module _ (φ : AnswersByName) (p : Plan) where
 
   -- members over fewer names
   pub members_over_fewer : {m l : Mentioned} {e : Environment} {ms : Members} (r : Rc Collected Global) → ((x : Name) → IsTrue (is_mentioned (plan_expressions p) m x) → BindsOthers (named (name_at (plan_expressions p) r.value.name)) x → IsTrue (is_mentioned (plan_expressions p) l x))
-      → Gathers φ p (held_in r.value.members) ms [] → HasMentioned φ p l r.value.around e → HasMentioned φ p m (ECollected r) (collected (name_at (plan_expressions p) r.value.name) ms e)
+      → Gathers φ p (gathered_holding r.value.members) ms [] → HasMentioned φ p l r.value.around e → HasMentioned φ p m (ECollected r) (collected (name_at (plan_expressions p) r.value.name) ms e)
   members_over_fewer {ms = ms} r h G (has_mentioned N A) =
       let k = name_at (plan_expressions p) r.value.name in
       has_mentioned (collected_is φ p r G N) (λ x w. at_collected k (members_themselves ms) (λ free. A x (h x w (others (named k) x free))))
 
   -- a binding that was made over fewer names
   pub over_made : {at : _} {m l : Mentioned} {e : Environment} (b c : Binding) → c ≡ b → (d : Data) → b.value.value ≡ d
-      → ((x : Name) → IsTrue (is_mentioned (plan_expressions p) m x) → BindsOthers (pattern_of (placed_at (plan_expressions p) b.pattern)) x → IsTrue (is_mentioned (plan_expressions p) l x))
-      → HasMentioned φ p l b.around e → HasMentioned φ p m (Bound' at c.pattern c.value c.around) (bind (pattern_of (placed_at (plan_expressions p) b.pattern)) d e)
+      → ((x : Name) → IsTrue (is_mentioned (plan_expressions p) m x) → BindsOthers (pattern_of (stored_pattern (plan_expressions p) b.pattern)) x → IsTrue (is_mentioned (plan_expressions p) l x))
+      → HasMentioned φ p l b.around e → HasMentioned φ p m (Bound' at c.pattern c.value c.around) (bind (pattern_of (stored_pattern (plan_expressions p) b.pattern)) d e)
   over_made {at} {m} {e = e} b c same d value h H =
-      let q = pattern_of (placed_at (plan_expressions p) b.pattern) in
+      let q = pattern_of (stored_pattern (plan_expressions p) b.pattern) in
       subst (λ (v : Data). HasMentioned φ p m (Bound' at c.pattern c.value c.around) (bind q v e)) value
       (subst (λ (c : Binding). HasMentioned φ p m (Bound' at c.pattern c.value c.around) (bind q b.value.value e)) (sym same) (over_fewer b h H))
 
@@ -106,10 +106,10 @@ module _ (φ : AnswersByName) (p : Plan) where
 
   -- and of members under theirs
   pub members_made : {m l : Mentioned} {e : Environment} {ms : Members} (b : Collected) (r : Rc Collected Global) → r.value ≡ b
-      → ((x : Name) → IsTrue (is_mentioned (plan_expressions p) m x) → BindsOthers (named (name_at (plan_expressions p) b.name)) x → IsTrue (is_mentioned (plan_expressions p) l x)) → Gathers φ p (held_in b.members) ms [] → HasMentioned φ p l b.around e
+      → ((x : Name) → IsTrue (is_mentioned (plan_expressions p) m x) → BindsOthers (named (name_at (plan_expressions p) b.name)) x → IsTrue (is_mentioned (plan_expressions p) l x)) → Gathers φ p (gathered_holding b.members) ms [] → HasMentioned φ p l b.around e
       → HasMentioned φ p m (ECollected r) (collected (name_at (plan_expressions p) b.name) ms e)
   members_made {m} {l} {e} {ms} b r same =
-      let C : Collected → Type 0 = λ c. ((x : Name) → IsTrue (is_mentioned (plan_expressions p) m x) → BindsOthers (named (name_at (plan_expressions p) c.name)) x → IsTrue (is_mentioned (plan_expressions p) l x)) → Gathers φ p (held_in c.members) ms [] → HasMentioned φ p l c.around e
+      let C : Collected → Type 0 = λ c. ((x : Name) → IsTrue (is_mentioned (plan_expressions p) m x) → BindsOthers (named (name_at (plan_expressions p) c.name)) x → IsTrue (is_mentioned (plan_expressions p) l x)) → Gathers φ p (gathered_holding c.members) ms [] → HasMentioned φ p l c.around e
       → HasMentioned φ p m (ECollected r) (collected (name_at (plan_expressions p) c.name) ms e) in
       subst C same (members_over_fewer r)
 

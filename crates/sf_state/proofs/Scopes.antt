@@ -9,12 +9,12 @@ use Rattle.sf_value.specs.declared.value.Value.{Value}
 use Rattle.sf_value.specs.Values.{Name, Data, first_of, second_of}
 use Rattle.sf_func.specs.Registries.{AnswersByName}
 use Rattle.sf_expr.specs.Expressions.{Pattern, unnamed, named, both}
-use Rattle.sf_expr.specs.Evaluation.{functions_in, value_name, other_name, bound_in}
+use Rattle.sf_expr.specs.Evaluation.{scope_functions, value_name, other_name, bound_in}
 use Rattle.sf_expr.specs.Meanings.{place_behind}
 use Rattle.sf_expr.specs.Patterns.{pattern_of}
 use Rattle.sf_expr.specs.declared.exprs.NameId.{NameId}
 use Rattle.sf_expr.specs.declared.exprs.PatternId.{PatternId}
-use Rattle.sf_expr.specs.Arena.{name_at, placed_at}
+use Rattle.sf_expr.specs.Arena.{name_at, stored_pattern}
 use Rattle.sf_code.specs.Names.{ValuesByName, value_named, scope_with}
 use Rattle.sf_mean.specs.Lives.{Process, base, Environment, empty, known, running, collected, Members, no_members, bind, passing, process_of, members_of, scope_around}
 use Rattle.sf_law.specs.declared.node.PlanId.{PlanId}
@@ -25,7 +25,7 @@ use Rattle.sf_state.specs.declared.state.State.{State}
 use Rattle.sf_state.specs.declared.state.Live.{items-the_row-State, items_hidden-the_row-State-0 as states_are}
 use Rattle.sf_state.specs.declared.state.Gathered.{Gathered}
 use Rattle.sf_value.specs.declared.keys.Keys.{Keys}
-use Rattle.sf_state.specs.Held.{Holding, held_as, held_in}
+use Rattle.sf_state.specs.Held.{Holding, held_as, gathered_holding}
 use Rattle.sf_state.proofs.Copies.{held_shown, held_hidden}
 use Rattle.sf_state.specs.declared.env.Env.{Env}
 use Rattle.sf_state.specs.declared.env.Env.TheVariants.{Bound', Running', Collected as ECollected, Called as ECalled}
@@ -36,11 +36,11 @@ use Rattle.sf_state.specs.declared.env.Given.TheVariants.{Value as GValue, Proce
 use Rattle.sf_state.specs.declared.env.Binding.{Binding}
 use Rattle.sf_state.specs.declared.env.Running.{Running}
 use Rattle.sf_state.specs.declared.env.Collected.{Collected}
-use Rattle.sf_state.specs.declared.state.Process.{Process as SProcess}
+use Rattle.sf_state.specs.declared.state.Process as process_states
 use Rattle.sf_state.specs.Names.{given_value, handed_of, given_members, given_at, values_given, values_inside, values_around}
 use Rattle.sf_state.specs.Standing.{IsNames, is_empty, is_bound, is_running, is_collected, is_called, closed_over, IsProcess, Stands, AreGiven, nothing_given, value_is_given, process_is_given, members_are_given, Gathers, AreFound, IsHanded, IsFound}
 
-pub functions_around : (φ : AnswersByName) (e : Environment) → functions_in (scope_around φ e) ≡ φ
+pub functions_around : (φ : AnswersByName) (e : Environment) → scope_functions (scope_around φ e) ≡ φ
 functions_around φ empty = refl
 functions_around φ (known x d e) = functions_around φ e
 functions_around φ (running x P e) = functions_around φ e
@@ -68,7 +68,7 @@ scope_given φ p xs gs d e (members_are_given {x = x} {xs = ys} {gs = hs} {ms = 
 pub scope_is : (φ : AnswersByName) (p : Plan) (names : Env) (e : Environment) → IsNames φ p names e → scope_with (values_around p names) φ ≡ scope_around φ e
 scope_is φ p names e is_empty = refl
 scope_is φ p names e (is_bound {q = i} {v = v} {names = outer} {e = around} N) =
-    let q = pattern_of (placed_at (plan_expressions p) i) in
+    let q = pattern_of (stored_pattern (plan_expressions p) i) in
     values_bound φ q v.value (values_around p outer)
     ∙ ap (bound_in q v.value) (scope_is φ p outer around N)
     ∙ sym (environment_bound φ q v.value around)
@@ -100,22 +100,22 @@ module _ {A : Type 0} (none : A) (x : Name) (under : Environment → A) (hides :
 
   module _ (φ : AnswersByName) (p : Plan) where
     -- none stands under a name of a pattern
-    under_value : {at : _} (i : PatternId) (v : Rc Value Global) (names : Env) (d : Data) (e : Environment) → value_named (values_inside (pattern_of (placed_at (plan_expressions p) i)) v.value []) x ≡ Some d
+    under_value : {at : _} (i : PatternId) (v : Rc Value Global) (names : Env) (d : Data) (e : Environment) → value_named (values_inside (pattern_of (stored_pattern (plan_expressions p) i)) v.value []) x ≡ Some d
         → IsNames φ p (Bound' at i v names) e → under e ≡ none
     unfolding hidden_by
-    under_value i v names d e h (is_bound {e = around} N) = under_inside (pattern_of (placed_at (plan_expressions p) i)) v.value around ∙ ap (λ o. hidden_by none o (under around)) h
+    under_value i v names d e h (is_bound {e = around} N) = under_inside (pattern_of (stored_pattern (plan_expressions p) i)) v.value around ∙ ap (λ o. hidden_by none o (under around)) h
 
     -- behind a pattern without the name stands what stands around it
-    under_pattern : {at : _} (C : A → Type 0) (i : PatternId) (v : Rc Value Global) (names : Env) (e : Environment) → value_named (values_inside (pattern_of (placed_at (plan_expressions p) i)) v.value []) x ≡ None
+    under_pattern : {at : _} (C : A → Type 0) (i : PatternId) (v : Rc Value Global) (names : Env) (e : Environment) → value_named (values_inside (pattern_of (stored_pattern (plan_expressions p) i)) v.value []) x ≡ None
         → ((e : Environment) → IsNames φ p names e → C (under e)) → IsNames φ p (Bound' at i v names) e → C (under e)
     unfolding hidden_by
     under_pattern C i v names e h outside (is_bound {e = around} N) =
-        subst C (sym (under_inside (pattern_of (placed_at (plan_expressions p) i)) v.value around ∙ ap (λ o. hidden_by none o (under around)) h)) (outside around N)
+        subst C (sym (under_inside (pattern_of (stored_pattern (plan_expressions p) i)) v.value around ∙ ap (λ o. hidden_by none o (under around)) h)) (outside around N)
 
 module _ (φ : AnswersByName) (p : Plan) where
   -- the part of a value under a name of a pattern, if there is one
   abbrev pub part_of : PatternId → Data → Name → Option Data
-  part_of i d x = value_named (values_inside (pattern_of (placed_at (plan_expressions p) i)) d []) x
+  part_of i d x = value_named (values_inside (pattern_of (stored_pattern (plan_expressions p) i)) d []) x
 
   -- no process and no members stand under a name of a pattern
   pub found_value : {at : _} (x : Name) (i : PatternId) (v : Rc Value Global) (names : Env) (d : Data) (e : Environment) → part_of i v.value x ≡ Some d → IsNames φ p (Bound' at i v names) e → process_of x e ≡ passing
@@ -141,17 +141,17 @@ module _ (φ : AnswersByName) (p : Plan) where
       subst (λ c. IsFound φ p x (Some r.handed) (cond c P (process_of x around))) (sym h) (A, λ asked. B (subst (λ y. IsTrue (plan_asks p y)) same asked))
 
   -- behind a process of another name
-  pub found_further : {at : _} (x : Name) (k : NameId) (a : State) (b : SProcess) (names : Env) (found : Option Handed) (e : Environment) → bytes_eq x (name_at (plan_expressions p) k) ≡ false
+  pub found_further : {at : _} (x : Name) (k : NameId) (a : State) (b : process_states.Process) (names : Env) (found : Option Handed) (e : Environment) → bytes_eq x (name_at (plan_expressions p) k) ≡ false
       → ((e : Environment) → IsNames φ p names e → IsFound φ p x found (process_of x e)) → IsNames φ p (Running' at k a b.term b.names names) e → IsFound φ p x found (process_of x e)
   found_further x k a b names found e h outside (is_running {P = P} {e = around} A B N) = subst (λ c. IsFound φ p x found (cond c P (process_of x around))) (sym h) (outside around N)
 
   -- ## Under the name of members
 
-  pub collected_is : (r : Rc Collected Global) {ms : Members} {e : Environment} → Gathers φ p (held_in r.value.members) ms [] → IsNames φ p r.value.around e → IsNames φ p (ECollected r) (collected (name_at (plan_expressions p) r.value.name) ms e)
+  pub collected_is : (r : Rc Collected Global) {ms : Members} {e : Environment} → Gathers φ p (gathered_holding r.value.members) ms [] → IsNames φ p r.value.around e → IsNames φ p (ECollected r) (collected (name_at (plan_expressions p) r.value.name) ms e)
   collected_is r G N = is_collected (held_hidden φ p r.value.members (states_are r.value.members.states.value) G) N
 
   -- what holds of all environments with such members holds of theirs
-  pub collected_holds : (r : Rc Collected Global) (C : Environment → Type 0) → ((e : Environment) (ms : Members) → Gathers φ p (held_in r.value.members) ms [] → IsNames φ p r.value.around e → C (collected (name_at (plan_expressions p) r.value.name) ms e))
+  pub collected_holds : (r : Rc Collected Global) (C : Environment → Type 0) → ((e : Environment) (ms : Members) → Gathers φ p (gathered_holding r.value.members) ms [] → IsNames φ p r.value.around e → C (collected (name_at (plan_expressions p) r.value.name) ms e))
       → (e : Environment) → IsNames φ p (ECollected r) e → C e
   collected_holds r C h e (is_collected {ms = ms} {e = around} G N) = h around ms (held_shown φ p r.value.members (states_are r.value.members.states.value) G) N
 
@@ -167,9 +167,9 @@ module _ (φ : AnswersByName) (p : Plan) where
 
   -- under their name stand members
   pub members_there : (x : Name) (r : Rc Collected Global) (e : Environment) → bytes_eq x (name_at (plan_expressions p) r.value.name) ≡ true
-      → IsNames φ p (ECollected r) e → AreFound φ p (Some (held_in r.value.members)) (members_of x e)
+      → IsNames φ p (ECollected r) e → AreFound φ p (Some (gathered_holding r.value.members)) (members_of x e)
   members_there x r e h N =
-      let found : Option Holding = Some (held_in r.value.members) in
+      let found : Option Holding = Some (gathered_holding r.value.members) in
       collected_holds r (λ e. AreFound φ p found (members_of x e)) (λ d ms G M. subst (λ b. AreFound φ p found (cond b ms (members_of x d))) (sym h) G) e N
 
   -- behind members of another name
@@ -179,11 +179,11 @@ module _ (φ : AnswersByName) (p : Plan) where
       collected_holds r (λ e. AreFound φ p found (members_of x e)) (λ d ms G M. subst (λ c. AreFound φ p found (cond c ms (members_of x d))) (sym h) (outside d M)) e N
 
   -- under the name of a process stand no members
-  pub members_process : {at : _} (x : Name) (k : NameId) (a : State) (b : SProcess) (names : Env) (e : Environment) → bytes_eq x (name_at (plan_expressions p) k) ≡ true → IsNames φ p (Running' at k a b.term b.names names) e → members_of x e ≡ no_members
+  pub members_process : {at : _} (x : Name) (k : NameId) (a : State) (b : process_states.Process) (names : Env) (e : Environment) → bytes_eq x (name_at (plan_expressions p) k) ≡ true → IsNames φ p (Running' at k a b.term b.names names) e → members_of x e ≡ no_members
   members_process x k a b names e h (is_running {e = around} A B N) = ap (λ c. cond c no_members (members_of x around)) h
 
   -- behind a process of another name
-  pub members_behind : {at : _} (x : Name) (k : NameId) (a : State) (b : SProcess) (names : Env) (found : Option Holding) (e : Environment) → bytes_eq x (name_at (plan_expressions p) k) ≡ false
+  pub members_behind : {at : _} (x : Name) (k : NameId) (a : State) (b : process_states.Process) (names : Env) (found : Option Holding) (e : Environment) → bytes_eq x (name_at (plan_expressions p) k) ≡ false
       → ((e : Environment) → IsNames φ p names e → AreFound φ p found (members_of x e)) → IsNames φ p (Running' at k a b.term b.names names) e → AreFound φ p found (members_of x e)
   members_behind x k a b names found e h outside (is_running {e = around} A B N) = subst (λ c. AreFound φ p found (cond c no_members (members_of x around))) (sym h) (outside around N)
 
@@ -201,17 +201,17 @@ module _ (φ : AnswersByName) (p : Plan) where
   running_follows {at' = at'} b c same e N = subst (λ (c : Running). IsNames φ p (Running' at' c.name c.handed.process c.handed.base.term c.handed.base.names c.around) e) (sym same) (running_moved N)
 
   -- and of members
-  pub names_collected_inside : (b : Collected) (c : Rc Collected Global) → c.value ≡ b → (e : Environment) (ms : Members) → IsNames φ p b.around e → Gathers φ p (held_in b.members) ms [] → IsNames φ p (ECollected c) (collected (name_at (plan_expressions p) b.name) ms e)
+  pub names_collected_inside : (b : Collected) (c : Rc Collected Global) → c.value ≡ b → (e : Environment) (ms : Members) → IsNames φ p b.around e → Gathers φ p (gathered_holding b.members) ms [] → IsNames φ p (ECollected c) (collected (name_at (plan_expressions p) b.name) ms e)
   names_collected_inside b c same e ms =
-      let C : Collected → Type 0 = λ b. IsNames φ p b.around e → Gathers φ p (held_in b.members) ms [] → IsNames φ p (ECollected c) (collected (name_at (plan_expressions p) b.name) ms e) in
+      let C : Collected → Type 0 = λ b. IsNames φ p b.around e → Gathers φ p (gathered_holding b.members) ms [] → IsNames φ p (ECollected c) (collected (name_at (plan_expressions p) b.name) ms e) in
       subst C same (λ N G. collected_is c G N)
 
   pub collected_follows : (b c : Rc Collected Global) → c.value ≡ b.value → (e : Environment) → IsNames φ p (ECollected b) e → IsNames φ p (ECollected c) e
   collected_follows b c same e N = collected_holds b (λ e. IsNames φ p (ECollected c) e) (λ d ms G M. names_collected_inside b.value c same d ms M G) e N
 
   -- a pattern's names around a part, once they are bound
-  pub names_bound_inside : {at : _} (b c : Binding) → c ≡ b → (e : Environment) → IsNames φ p b.around e → IsNames φ p (Bound' at c.pattern c.value c.around) (bind (pattern_of (placed_at (plan_expressions p) b.pattern)) b.value.value e)
-  names_bound_inside {at} b c same e N = subst (λ (c : Binding). IsNames φ p (Bound' at c.pattern c.value c.around) (bind (pattern_of (placed_at (plan_expressions p) b.pattern)) b.value.value e)) (sym same) (is_bound N)
+  pub names_bound_inside : {at : _} (b c : Binding) → c ≡ b → (e : Environment) → IsNames φ p b.around e → IsNames φ p (Bound' at c.pattern c.value c.around) (bind (pattern_of (stored_pattern (plan_expressions p) b.pattern)) b.value.value e)
+  names_bound_inside {at} b c same e N = subst (λ (c : Binding). IsNames φ p (Bound' at c.pattern c.value c.around) (bind (pattern_of (stored_pattern (plan_expressions p) b.pattern)) b.value.value e)) (sym same) (is_bound N)
 
   -- the same of a process under its name
   pub names_running_inside : {at : _} (b c : Running) → c ≡ b → (e : Environment) (P : Process) → IsNames φ p b.around e → IsHanded φ p (name_at (plan_expressions p) b.name) b.handed P → IsNames φ p (Running' at c.name c.handed.process c.handed.base.term c.handed.base.names c.around) (running (name_at (plan_expressions p) b.name) P e)
@@ -343,5 +343,5 @@ pub value_called : (p : Plan) (x : Name) (r : Rc Call Global) → given_value (g
 value_called p x r = ap (λ (gs : List Given). given_value (given_at (last_parameter x (names_called p r.value)) gs)) (sym (items_hidden-the_row-Given-1 r.value.arguments)) ∙ value_of_place x (names_called p r.value) _
 
 -- what is given as members is found as they are held
-pub members_given : (g : Gathered) → given_members (Some (GMembers g)) ≡ Some (held_in g)
+pub members_given : (g : Gathered) → given_members (Some (GMembers g)) ≡ Some (gathered_holding g)
 members_given g = ap (λ (bs : List State). Some (held_as g.keys bs g.wait)) (states_are g.states.value)

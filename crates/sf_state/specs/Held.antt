@@ -16,5 +16,5 @@ pub record Holding : Type 0 where
 abbrev pub held_as : Rc Keys Global → List State → Option ℕ → Holding
 held_as keys bs w = record { keys = keys.value; states = bs; wait = w }
 
-abbrev pub held_in : Gathered → Holding
-held_in g = held_as g.keys g.states.value.items g.wait
+abbrev pub gathered_holding : Gathered → Holding
+gathered_holding g = held_as g.keys g.states.value.items g.wait

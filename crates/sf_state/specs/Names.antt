@@ -7,7 +7,7 @@ use Rattle.sf_law.specs.Arena.{plan_expressions, header_at}
 use Rattle.sf_law.specs.Places.{names_of_parameters}
 use Rattle.sf_expr.specs.Expressions.{Pattern, unnamed, named, both}
 use Rattle.sf_expr.specs.Patterns.{pattern_of}
-use Rattle.sf_expr.specs.Arena.{placed_at, name_at}
+use Rattle.sf_expr.specs.Arena.{stored_pattern, name_at}
 use Rattle.sf_code.specs.Names.{ValuesByName}
 use Rattle.sf_state.specs.declared.env.Env.{Env}
 use Rattle.sf_state.specs.declared.env.Call.{items-the_row-Given}
@@ -64,7 +64,7 @@ values_given (x ∷ xs) (g ∷ gs) vs = values_given xs gs ((x, given_value (Som
 -- the names around a part, with their values where they stand for any, where they are those of a plan
 abbrev pub values_around : Plan → Env → ValuesByName
 values_around p SEmpty = []
-values_around p (Bound' at q v names) = values_inside (pattern_of (placed_at (plan_expressions p) q)) v.value (values_around p names)
+values_around p (Bound' at q v names) = values_inside (pattern_of (stored_pattern (plan_expressions p) q)) v.value (values_around p names)
 values_around p (Running' at k a b inner names) = (name_at (plan_expressions p) k, None) ∷ values_around p names
 values_around p (Collected' at k keys list shape row w names) = (name_at (plan_expressions p) k, None) ∷ values_around p names
 values_around p (Called' at g shape row) = values_given (names_of_parameters (plan_expressions p) (header_at p g).parameters) (items-the_row-Given _ row) []

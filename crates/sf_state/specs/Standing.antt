@@ -10,7 +10,7 @@ use Rattle.sf_expr.specs.Expressions.{Pattern, Expression, Function}
 use Rattle.sf_expr.specs.Patterns.{pattern_of}
 use Rattle.sf_expr.specs.declared.exprs.NameId.{NameId}
 use Rattle.sf_expr.specs.declared.exprs.PatternId.{PatternId}
-use Rattle.sf_expr.specs.Arena.{placed_at, name_at}
+use Rattle.sf_expr.specs.Arena.{stored_pattern, name_at}
 use Rattle.sf_expr.specs.Evaluation.{Evaluated, answer, failed, eval}
 use Rattle.sf_term.specs.declared.form.Join.{Join}
 use Rattle.sf_term.specs.declared.form.Join.TheVariants.{InSequence}
@@ -19,12 +19,13 @@ use Rattle.sf_term.specs.declared.form.Heading.TheVariants.{LoopPre, Initialized
 use Rattle.sf_term.specs.declared.form.Observation.{Observation}
 use Rattle.sf_term.specs.declared.form.Switching.{Switching}
 use Rattle.sf_term.specs.declared.form.Switching.TheVariants.{Basic, Recurring}
-use Rattle.sf_term.specs.Trees.{Primitive, probe, whole, rest, Term, primitive, Reference, reference, joined, sided, headed, transformed, switching, keeping, gathered, releasing, editing, staged, Collection}
+use Rattle.sf_term.specs.Trees.{Primitive, probe, whole, rest, Term, primitive, Reference, reference, joined, sided, headed, transformed, switching, continuing, gathered, releasing, editing, staged, Collection}
 use Rattle.sf_mean.specs.Lives.{Step, Life, Process, closure, resumed, frozen, Environment, empty, known, running, collected, Members, no_members, member, base, bind, passing, scope_around, first_input, with_inputs, relay, observed_life, after, fed_back, older, fed}
-use Rattle.sf_mean.specs.Formulas.{at_first, with_first, side_of}
+use Rattle.sf_mean.specs.Formulas.{at_first, first_replaced, side_of}
 use Rattle.sf_mean.specs.Collections.{collect}
-use Rattle.sf_mean.specs.Meaning.{Network, Made, value_made, members_made, newest_or, referred, make, left_life, right_life, itself as watched_itself, observed, observed_members, waits, fired, body_of, body_with, body_with_members, whenever, last_event, since_event, since_edit, edit_of, what_runs, which_run, Outputs, Tables, Loops, Since}
-use Rattle.sf_coincidence.specs.Alike.{Alike, AlikeAt}
+use Rattle.sf_mean.specs.Meaning.{Network, Made, value_made, members_made, newest_or, referred, make, left_life, right_life, observed, observed_members, waits, fired, body_of, continuing_body, body_with_members, whenever, last_event, since_event, since_edit, edit_of, what_runs, which_run, Outputs, Tables, Loops, Since}
+use Rattle.sf_mean.specs.Meaning
+use Rattle.sf_coincidence.specs.Alike.{Alike, AlikeName}
 use Rattle.sf_law.specs.declared.node.PlanId.{PlanId}
 use Rattle.sf_law.specs.declared.node.PlanCollection.{PlanCollection}
 use Rattle.sf_law.specs.declared.node.TemplateId.{TemplateId}
@@ -35,21 +36,21 @@ use Rattle.sf_law.specs.declared.plan.Plan.{Plan}
 use Rattle.sf_law.specs.Entries.{IsCodedCollection}
 use Rattle.sf_law.specs.Arena.{plan_tree, plan_collection, plan_expressions, plan_asks, header_at, network_of_plan}
 use Rattle.sf_prim.specs.declared.prim_state.PrimState.{PrimState}
-use Rattle.sf_prim.specs.Keeping.{Remembers}
+use Rattle.sf_prim.specs.Remembering.{Remembers}
 use Rattle.sf_state.specs.declared.state.State.{State}
-use Rattle.sf_state.specs.declared.state.State.TheVariants.{Unborn, Unborn', Primitive as SPrimitive, Live' as Alive', Switch' as Watching', Keeping', Gathering', Frozen'}
+use Rattle.sf_state.specs.declared.state.State.TheVariants.{Unborn, Unborn', Primitive as SPrimitive, Live' as Alive', Switch' as Watching', Continuation', Gathering', Frozen'}
 use Rattle.sf_state.specs.declared.state.Live.{Live}
 use Rattle.sf_state.specs.declared.state.Live.TheVariants.{Probe as LProbe, Join as LJoin, Pipeline' as LPipeline', Wrap as LWrap, Gathered' as LGathered'}
 use Rattle.sf_state.specs.declared.state.Live.{items-the_row-State}
 use Rattle.sf_state.specs.declared.state.Wrap.{Wrap}
 use Rattle.sf_state.specs.declared.state.Wrap.TheVariants.{First, Second, Loop, Initialized, Replaced, Followed}
-use Rattle.sf_state.specs.declared.state.Process.{Process as SProcess}
+use Rattle.sf_state.specs.declared.state.Process as process_states
 use Rattle.sf_state.specs.declared.state.Switch.{Switch}
-use Rattle.sf_state.specs.declared.state.Keeping.{Keeping}
+use Rattle.sf_state.specs.declared.state.Continuation.{Continuation}
 use Rattle.sf_state.specs.declared.state.Gathering.{Gathering}
 use Rattle.sf_state.specs.declared.state.Gathering.TheVariants.{Releasing' as GReleasing', Editing' as GEditing'}
-use Rattle.sf_state.specs.declared.state.Kept.{Kept}
-use Rattle.sf_state.specs.declared.state.Kept.TheVariants.{Primitive as KPrimitive, Live' as KLive', Switch' as KSwitch', Keeping' as KKeeping', Gathering' as KGathering'}
+use Rattle.sf_state.specs.declared.state.FrozenNode.{FrozenNode}
+use Rattle.sf_state.specs.declared.state.FrozenNode.TheVariants.{Primitive as KPrimitive, Live' as KLive', Switch' as KSwitch', Continuation' as KContinuation', Gathering' as KGathering'}
 use Rattle.sf_state.specs.declared.env.Env.{Env}
 use Rattle.sf_state.specs.declared.env.Handed.{Handed}
 use Rattle.sf_state.specs.declared.env.Given.{Given}
@@ -78,9 +79,9 @@ pub data Wraps (n : Network) : Wrap → Term → Environment → Made → Life �
   wraps_initialized : {i : Expression} {t : Term} {e : Environment} {v : Data} {L : Life}
       → Wraps n (Initialized (at_first L (Some v) None)) (headed WithInitial i t) e (value_made v) L t L
   wraps_replaced : {i : Expression} {t : Term} {e : Environment} {v : Data} {L : Life}
-      → Wraps n (Replaced (at_first L (Some v) None)) (headed WithReplaced i t) e (value_made v) L t (with_first v L)
+      → Wraps n (Replaced (at_first L (Some v) None)) (headed WithReplaced i t) e (value_made v) L t (first_replaced v L)
   wraps_transformed : {f : Function} {t : Term} {e : Environment} {v : Data} {L : Life}
-      → Wraps n (Replaced (at_first L (Some v) None)) (transformed f t) e (value_made v) L t (with_first v L)
+      → Wraps n (Replaced (at_first L (Some v) None)) (transformed f t) e (value_made v) L t (first_replaced v L)
   -- it keeps what it gives next: the newest value of the part, or before the first step the constant or its fault
   wraps_followed : {i : Expression} {t : Term} {e : Environment} {m : Made} {L : Life} {ys : List Data} {last : Result Data ValueFault}
       → Outputs n (closure t e) L ys
@@ -93,16 +94,16 @@ pub data AreJoined : Join → (left right both : Term) → Type 0 where
   as_pipeline : {f g : Term} → AreJoined InSequence f g (staged whole f g)
 
 -- a term with the names around it
-abbrev pub closed_over : PlanId → Env → SProcess
+abbrev pub closed_over : PlanId → Env → process_states.Process
 closed_over t names = record { term = t; names = names }
 
 -- what was kept of a part, as a state
-abbrev pub kept_state : Env → Kept → State
-kept_state names (KPrimitive i) = SPrimitive i
-kept_state names (KLive' at l) = Alive' names at l
-kept_state names (KSwitch' at w a q b) = Watching' names at w a q b
-kept_state names (KKeeping' at w t a x o k q b) = Keeping' names at w t a x o k q b
-kept_state names (KGathering' at g) = Gathering' names at g
+abbrev pub frozen_state : Env → FrozenNode → State
+frozen_state names (KPrimitive i) = SPrimitive i
+frozen_state names (KLive' at l) = Alive' names at l
+frozen_state names (KSwitch' at w a q b) = Watching' names at w a q b
+frozen_state names (KContinuation' at w t a x o k q b) = Continuation' names at w t a x o k q b
+frozen_state names (KGathering' at g) = Gathering' names at g
 
 -- whether a state is a primitive
 abbrev pub is_primitive : State → Bool
@@ -110,7 +111,7 @@ is_primitive (Unborn' t names) = false
 is_primitive (SPrimitive i) = true
 is_primitive (Alive' names at l) = false
 is_primitive (Watching' names at w a q b) = false
-is_primitive (Keeping' names at w t a x o k q b) = false
+is_primitive (Continuation' names at w t a x o k q b) = false
 is_primitive (Gathering' names at g) = false
 is_primitive (Frozen' at d names k) = false
 
@@ -120,7 +121,7 @@ is_frozen (Unborn' t names) = false
 is_frozen (SPrimitive i) = false
 is_frozen (Alive' names at l) = false
 is_frozen (Watching' names at w a q b) = false
-is_frozen (Keeping' names at w t a x o k q b) = false
+is_frozen (Continuation' names at w t a x o k q b) = false
 is_frozen (Gathering' names at g) = false
 is_frozen (Frozen' at d names k) = true
 
@@ -133,12 +134,12 @@ pub data Recalls (φ : AnswersByName) (p : Plan) : PrimState → Process → Lif
 pub data Turned (n : Network) : Process → Life → Process → Life → Type 0 where
   -- a basic switch that has fired, and its body
   fired_to : {w : Observation} {t u : Term} {q : Pattern} {e : Environment} {B : Process} {L M : Life} {ys : List Data}
-      → Since n (watched_itself (closure t e)) (whenever (body_of q u e)) L (fired B M) → Outputs n (closure (switching (Basic w) t q u) e) L ys
+      → Since n (Meaning.itself (closure t e)) (whenever (body_of q u e)) L (fired B M) → Outputs n (closure (switching (Basic w) t q u) e) L ys
       → Turned n (closure (switching (Basic w) t q u) e) L B M
   -- a switch that keeps its source and has fired, and its body
-  kept_to : {w : Observation} {t r u : Term} {k : Name} {q : Pattern} {e : Environment} {B : Process} {L M : Life} {ys : List Data}
-      → Since n (observed (closure t e) r e) (body_with k (closure t e) q u e) L (fired B M) → Outputs n (closure (keeping w t r k q u) e) L ys
-      → Turned n (closure (keeping w t r k q u) e) L B M
+  continued_to : {w : Observation} {t r u : Term} {k : Name} {q : Pattern} {e : Environment} {B : Process} {L M : Life} {ys : List Data}
+      → Since n (observed (closure t e) r e) (continuing_body k (closure t e) q u e) L (fired B M) → Outputs n (closure (continuing w t r k q u) e) L ys
+      → Turned n (closure (continuing w t r k q u) e) L B M
   -- members that have given way, and the body
   released_to : {w : Observation} {i : Collection} {r u : Term} {k : Name} {q : Pattern} {e : Environment} {ms : Members} {B : Process} {L M : Life} {ys : List Data}
       → collect n.functions i e ≡ answer ms
@@ -163,7 +164,7 @@ mutual
   pub data IsNames (φ : AnswersByName) (p : Plan) : Env → Environment → Type 0 where
     is_empty : IsNames φ p SEmpty empty
     is_bound : {at : _} {q : PatternId} {v : Rc Value Global} {names : Env} {e : Environment}
-        → IsNames φ p names e → IsNames φ p (Bound' at q v names) (bind (pattern_of (placed_at (plan_expressions p) q)) v.value e)
+        → IsNames φ p names e → IsNames φ p (Bound' at q v names) (bind (pattern_of (stored_pattern (plan_expressions p) q)) v.value e)
     -- a process that has lived no step, beside what it began as, where that is asked of its name
     is_running : {at : _} {k : NameId} {a : State} {b : PlanId} {inner names : Env} {P : Process} {e : Environment}
         → Stands φ p a P [] → (IsTrue (plan_asks p (name_at (plan_expressions p) k)) → IsProcess φ p (closed_over b inner) (base P)) → IsNames φ p names e → IsNames φ p (Running' at k a b inner names) (running (name_at (plan_expressions p) k) P e)
@@ -185,8 +186,8 @@ mutual
         → Gathers φ p (held_as keys (items-the_row-State _ row) w) ms [] → AreGiven φ p xs gs (collected x ms d) e → AreGiven φ p (x ∷ xs) (GMembers' keys list shape row w ∷ gs) d e
 
   -- what can be run
-  pub data IsProcess (φ : AnswersByName) (p : Plan) : SProcess → Process → Type 0 where
-    is_closure : {q : SProcess} {P : Process} {e : Environment} → Alike P (closure (plan_tree p q.term) e) → IsNames φ p q.names e → IsProcess φ p q P
+  pub data IsProcess (φ : AnswersByName) (p : Plan) : process_states.Process → Process → Type 0 where
+    is_closure : {q : process_states.Process} {P : Process} {e : Environment} → Alike P (closure (plan_tree p q.term) e) → IsNames φ p q.names e → IsProcess φ p q P
 
   -- Where functions answer this, a part of a network stands for a process and the life that it has led. No state stores
   -- the life.
@@ -197,7 +198,7 @@ mutual
 
   -- a part stands for the process that it was made of
   pub data StandsItself (φ : AnswersByName) (p : Plan) : State → Process → Life → Type 0 where
-    unborn : {q : SProcess} {P : Process} → IsProcess φ p q P → StandsItself φ p (Unborn q) P []
+    unborn : {q : process_states.Process} {P : Process} → IsProcess φ p q P → StandsItself φ p (Unborn q) P []
     -- a primitive, which has what it needs of the names around it
     recalling : {i : PrimState} {P : Process} {s : Step} {L : Life} → Recalls φ p i P (s ∷ L) → StandsItself φ p (SPrimitive i) P (s ∷ L)
     -- with the names that are around its term
@@ -206,41 +207,41 @@ mutual
     watching : {at : _} {names : Env} {w : Switching} {a : State} {q : PatternId} {b : PlanId} {t : Term} {e : Environment} {s : Step} {L : Life}
         → IsNames φ p names e → Waits φ p (record { form = w; running = a; pattern = q; body = b }) (closure t e) (s ∷ L)
         → StandsItself φ p (Watching' names at w a q b) (closure t e) (s ∷ L)
-    keeping_on : {at : _} {names : Env} {w : Observation} {f : PlanId} {a x o : State} {k : NameId} {q : PatternId} {b : PlanId} {t : Term} {e : Environment} {s : Step} {L : Life}
-        → IsNames φ p names e → WaitsKeeping φ p (record { shown = w; first = f; source = a; before = x; observer = o; name = k; pattern = q; body = b }) (closure t e) (s ∷ L)
-        → StandsItself φ p (Keeping' names at w f a x o k q b) (closure t e) (s ∷ L)
+    continuing_on : {at : _} {names : Env} {w : Observation} {f : PlanId} {a x o : State} {k : NameId} {q : PatternId} {b : PlanId} {t : Term} {e : Environment} {s : Step} {L : Life}
+        → IsNames φ p names e → WaitsContinuation φ p (record { shown = w; first = f; source = a; before = x; observer = o; name = k; pattern = q; body = b }) (closure t e) (s ∷ L)
+        → StandsItself φ p (Continuation' names at w f a x o k q b) (closure t e) (s ∷ L)
     gathering_on : {at : _} {names : Env} {g : Gathering} {t : Term} {e : Environment} {s : Step} {L : Life}
         → IsNames φ p names e → WaitsGathered φ p g (closure t e) (s ∷ L) → StandsItself φ p (Gathering' names at g) (closure t e) (s ∷ L)
     -- frozen after a life, and not stepped since
-    was_frozen : {at : _} {d : ℕ} {names : Env} {k : Kept} {P : Process} {s : Step} {h : Life}
-        → Stands φ p (kept_state names k) P (s ∷ h) → StandsItself φ p (Frozen' at d names k) (resumed P (s ∷ h) d) []
+    was_frozen : {at : _} {d : ℕ} {names : Env} {k : FrozenNode} {P : Process} {s : Step} {h : Life}
+        → Stands φ p (frozen_state names k) P (s ∷ h) → StandsItself φ p (Frozen' at d names k) (resumed P (s ∷ h) d) []
 
   -- a switch waits for an event after a life
   pub data Waits (φ : AnswersByName) (p : Plan) : Switch → Process → Life → Type 0 where
     -- its first term has led the life
     waits_so : {s : Switch} {w : Observation} {t : Term} {e : Environment} {L : Life} {ys : List Data}
         → s.form ≡ Basic w
-        → Since (network_of_plan φ p) (watched_itself (closure t e)) (whenever (body_of (pattern_of (placed_at (plan_expressions p) s.pattern)) (plan_tree p s.body) e)) L waits
-        → Outputs (network_of_plan φ p) (closure (switching (Basic w) t (pattern_of (placed_at (plan_expressions p) s.pattern)) (plan_tree p s.body)) e) L ys
+        → Since (network_of_plan φ p) (Meaning.itself (closure t e)) (whenever (body_of (pattern_of (stored_pattern (plan_expressions p) s.pattern)) (plan_tree p s.body) e)) L waits
+        → Outputs (network_of_plan φ p) (closure (switching (Basic w) t (pattern_of (stored_pattern (plan_expressions p) s.pattern)) (plan_tree p s.body)) e) L ys
         → Stands φ p s.running (closure t e) L
-        → Waits φ p s (closure (switching (Basic w) t (pattern_of (placed_at (plan_expressions p) s.pattern)) (plan_tree p s.body)) e) L
+        → Waits φ p s (closure (switching (Basic w) t (pattern_of (stored_pattern (plan_expressions p) s.pattern)) (plan_tree p s.body)) e) L
     -- what runs has led the life since the last event
     recurs_so : {s : Switch} {w : Observation} {t : Term} {e : Environment} {L : Life} {ys : List Data}
         → s.form ≡ Recurring w
-        → Outputs (network_of_plan φ p) (closure (switching (Recurring w) t (pattern_of (placed_at (plan_expressions p) s.pattern)) (plan_tree p s.body)) e) L ys
-        → Stands φ p s.running (what_runs (closure t e) (body_of (pattern_of (placed_at (plan_expressions p) s.pattern)) (plan_tree p s.body) e) (last_event L)) (with_inputs first_of (since_event L))
-        → Waits φ p s (closure (switching (Recurring w) t (pattern_of (placed_at (plan_expressions p) s.pattern)) (plan_tree p s.body)) e) L
+        → Outputs (network_of_plan φ p) (closure (switching (Recurring w) t (pattern_of (stored_pattern (plan_expressions p) s.pattern)) (plan_tree p s.body)) e) L ys
+        → Stands φ p s.running (what_runs (closure t e) (body_of (pattern_of (stored_pattern (plan_expressions p) s.pattern)) (plan_tree p s.body) e) (last_event L)) (with_inputs first_of (since_event L))
+        → Waits φ p s (closure (switching (Recurring w) t (pattern_of (stored_pattern (plan_expressions p) s.pattern)) (plan_tree p s.body)) e) L
 
   -- A switch that keeps its source waits for an event after a life: the source has led that life, and the observer the
   -- same with the source's values beside the inputs.
-  pub data WaitsKeeping (φ : AnswersByName) (p : Plan) : Keeping → Process → Life → Type 0 where
-    keeps_so : {s : Keeping} {r : Term} {e : Environment} {L : Life} {ys zs : List Data}
-        → Since (network_of_plan φ p) (observed (closure (plan_tree p s.first) e) r e) (body_with (name_at (plan_expressions p) s.name) (closure (plan_tree p s.first) e) (pattern_of (placed_at (plan_expressions p) s.pattern)) (plan_tree p s.body) e) L waits
-        → Outputs (network_of_plan φ p) (closure (keeping s.shown (plan_tree p s.first) r (name_at (plan_expressions p) s.name) (pattern_of (placed_at (plan_expressions p) s.pattern)) (plan_tree p s.body)) e) L zs
+  pub data WaitsContinuation (φ : AnswersByName) (p : Plan) : Continuation → Process → Life → Type 0 where
+    continues_so : {s : Continuation} {r : Term} {e : Environment} {L : Life} {ys zs : List Data}
+        → Since (network_of_plan φ p) (observed (closure (plan_tree p s.first) e) r e) (continuing_body (name_at (plan_expressions p) s.name) (closure (plan_tree p s.first) e) (pattern_of (stored_pattern (plan_expressions p) s.pattern)) (plan_tree p s.body) e) L waits
+        → Outputs (network_of_plan φ p) (closure (continuing s.shown (plan_tree p s.first) r (name_at (plan_expressions p) s.name) (pattern_of (stored_pattern (plan_expressions p) s.pattern)) (plan_tree p s.body)) e) L zs
         → Outputs (network_of_plan φ p) (closure (plan_tree p s.first) e) L ys
         → Stands φ p s.source (closure (plan_tree p s.first) e) L
         → Stands φ p s.observer (closure r e) (observed_life L ys)
-        → WaitsKeeping φ p s (closure (keeping s.shown (plan_tree p s.first) r (name_at (plan_expressions p) s.name) (pattern_of (placed_at (plan_expressions p) s.pattern)) (plan_tree p s.body)) e) L
+        → WaitsContinuation φ p s (closure (continuing s.shown (plan_tree p s.first) r (name_at (plan_expressions p) s.name) (pattern_of (stored_pattern (plan_expressions p) s.pattern)) (plan_tree p s.body)) e) L
 
   -- Members wait for an event after a life.
   pub data WaitsGathered (φ : AnswersByName) (p : Plan) : Gathering → Process → Life → Type 0 where
@@ -248,22 +249,22 @@ mutual
     releases_so : {w : Observation} {keys keys_before : Rc Keys Global} {list shape row list_before shape_before row_before : _} {wait wait_before : Option ℕ} {o : State} {k : NameId} {q : PatternId} {b : PlanId}
         {i : Collection} {r : Term} {e : Environment} {ms : Members} {L : Life} {ys zs : List Data}
         → collect φ i e ≡ answer ms
-        → Since (network_of_plan φ p) (observed_members ms r e) (body_with_members (name_at (plan_expressions p) k) ms (pattern_of (placed_at (plan_expressions p) q)) (plan_tree p b) e) L waits
-        → Outputs (network_of_plan φ p) (closure (releasing w i r (name_at (plan_expressions p) k) (pattern_of (placed_at (plan_expressions p) q)) (plan_tree p b)) e) L zs
+        → Since (network_of_plan φ p) (observed_members ms r e) (body_with_members (name_at (plan_expressions p) k) ms (pattern_of (stored_pattern (plan_expressions p) q)) (plan_tree p b) e) L waits
+        → Outputs (network_of_plan φ p) (closure (releasing w i r (name_at (plan_expressions p) k) (pattern_of (stored_pattern (plan_expressions p) q)) (plan_tree p b)) e) L zs
         → Tables (network_of_plan φ p) ms L ys
         → Gathers φ p (held_as keys (items-the_row-State _ row) wait) ms L
         → Stands φ p o (closure r e) (observed_life L ys)
         → WaitsGathered φ p (GReleasing' w keys list shape row wait keys_before list_before shape_before row_before wait_before o k q b)
-        (closure (releasing w i r (name_at (plan_expressions p) k) (pattern_of (placed_at (plan_expressions p) q)) (plan_tree p b)) e) L
+        (closure (releasing w i r (name_at (plan_expressions p) k) (pattern_of (stored_pattern (plan_expressions p) q)) (plan_tree p b)) e) L
     -- those of the last edit have led the life since then
     edits_so : {w : Observation} {keys : Rc Keys Global} {list shape row : _} {wait : Option ℕ} {k : NameId} {q : PatternId} {c : Rc PlanCollection Global} {i : Collection} {e : Environment} {ms qs : Members} {L : Life} {ys zs : List Data}
         → IsCodedCollection (plan_expressions p) c.value
         → collect φ i e ≡ answer ms
-        → which_run (edit_of φ (name_at (plan_expressions p) k) (pattern_of (placed_at (plan_expressions p) q)) (plan_collection p c.value) e) ms L ≡ answer qs
-        → Outputs (network_of_plan φ p) (closure (editing w i (name_at (plan_expressions p) k) (pattern_of (placed_at (plan_expressions p) q)) (plan_collection p c.value)) e) L zs
+        → which_run (edit_of φ (name_at (plan_expressions p) k) (pattern_of (stored_pattern (plan_expressions p) q)) (plan_collection p c.value) e) ms L ≡ answer qs
+        → Outputs (network_of_plan φ p) (closure (editing w i (name_at (plan_expressions p) k) (pattern_of (stored_pattern (plan_expressions p) q)) (plan_collection p c.value)) e) L zs
         → Tables (network_of_plan φ p) qs (since_edit L) ys
         → Gathers φ p (held_as keys (items-the_row-State _ row) wait) qs (since_edit L)
-        → WaitsGathered φ p (GEditing' w keys list shape row wait k q c) (closure (editing w i (name_at (plan_expressions p) k) (pattern_of (placed_at (plan_expressions p) q)) (plan_collection p c.value)) e) L
+        → WaitsGathered φ p (GEditing' w keys list shape row wait k q c) (closure (editing w i (name_at (plan_expressions p) k) (pattern_of (stored_pattern (plan_expressions p) q)) (plan_collection p c.value)) e) L
 
   -- a live part stands for a process and a life that has begun
   pub data Settles (φ : AnswersByName) (p : Plan) : Live → Process → Life → Type 0 where
@@ -325,7 +326,7 @@ mutual
 
 -- names for an environment in which each name that is mentioned stands for alike
 pub data HasMentioned (φ : AnswersByName) (p : Plan) : Mentioned → Env → Environment → Type 0 where
-  has_mentioned : {m : Mentioned} {names : Env} {d e : Environment} → IsNames φ p names d → ((x : Name) → IsTrue (is_mentioned (plan_expressions p) m x) → AlikeAt x d e) → HasMentioned φ p m names e
+  has_mentioned : {m : Mentioned} {names : Env} {d e : Environment} → IsNames φ p names d → ((x : Name) → IsTrue (is_mentioned (plan_expressions p) m x) → AlikeName x d e) → HasMentioned φ p m names e
 
 -- what stands under a name for a process, beside what that began as, where that is asked of the name
 abbrev pub IsHanded : AnswersByName → Plan → Name → Handed → Process → Type 0

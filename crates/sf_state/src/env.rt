@@ -2,13 +2,14 @@
 ghost use Rattle.std.specs.Prelude.{◌≡◌, ◌<◌, ◌≤◌, [], bytes_eq, option_map, IsTrue, IfOk, IfSome};
 ghost use Rattle.std.specs.Map.{lookup};
 ghost use Rattle.sf_func.specs.Registries.{AnswersByName};
-ghost use Rattle.sf_expr.specs.Arena.{placed_at, name_at};
+ghost use Rattle.sf_expr.specs.Arena.{stored_pattern, name_at};
 ghost use Rattle.sf_expr.specs.Expressions.{Pattern, unnamed, named};
 ghost use Rattle.sf_expr.specs.Numbered.{TellsName};
 ghost use Rattle.sf_expr.specs.Patterns.{pattern_of};
 ghost use Rattle.sf_value.specs.Values.{Name, first_of, second_of};
-ghost use Rattle.sf_mean.specs.Lives.{Environment, closure, Process as ProcessOf, Members as MembersOf, empty, bind, running, collected, process_of, members_of, each_frozen, Life};
-ghost use Rattle.sf_law.specs.declared.plan.Plan.{Plan as PlanOf};
+ghost use Rattle.sf_mean.specs.Lives.{Environment, closure, empty, bind, running, collected, process_of, members_of, each_frozen, Life};
+ghost use Rattle.sf_mean.specs.Lives;
+ghost use Rattle.sf_law.specs.declared.plan.Plan as plans;
 ghost use Rattle.sf_law.specs.Arena.{plan_expressions, plan_tree, header_at};
 ghost use Rattle.sf_law.specs.Places.{last_parameter, names_of_parameters};
 ghost use Rattle.sf_code.specs.Names.{ValuesByName, value_named};
@@ -19,10 +20,10 @@ ghost use Rattle.sf_state.specs.declared.env.Handed.{size-Handed};
 ghost use Rattle.sf_state.specs.declared.env.Collected.{size-Collected};
 ghost use Rattle.sf_state.specs.declared.env.Call.{size-Call};
 ghost use Rattle.sf_state.specs.declared.env.Given.{size-Given};
-ghost use Rattle.sf_state.specs.Held.{held_in};
+ghost use Rattle.sf_state.specs.Held.{gathered_holding};
 ghost use Rattle.sf_state.specs.Names.{found_or, given_at, handed_of, given_value, given_members, values_inside, values_around};
 ghost use Rattle.sf_coincidence.specs.Mentions.{BindsOthers};
-ghost use Rattle.sf_law.specs.declared.mentioned.Mentioned.{Mentioned as MentionedOf};
+ghost use Rattle.sf_law.specs.declared.mentioned.Mentioned as mention_lists;
 ghost use Rattle.sf_law.specs.Mentioned.{is_mentioned};
 ghost use Rattle.sf_state.specs.Standing.{closed_over, HasMentioned, IsNames, AreGiven, AreFound, Gathers, IsHanded, IsFound, IsProcess};
 
@@ -136,9 +137,9 @@ impl Binding {
 impl Binding {
     // The same names of the pattern, with fewer around it, if there are fewer. The error is a want of memory, or too many owners.
     fn over(&self, alloc: Global, fewer: Option<Env>) -> Result<Option<Env>, AllocError>
-        ensures { IfOk result (λ names. (φ : AnswersByName) (p : PlanOf) (m l : MentionedOf) (e : Environment) →
-            ((x : Name) → IsTrue (is_mentioned (plan_expressions p) m x) → BindsOthers (pattern_of (placed_at (plan_expressions p) self.now.pattern)) x → IsTrue (is_mentioned (plan_expressions p) l x)) →
-            IfSome fewer (λ names. HasMentioned φ p l names e) → IfSome names (λ names. HasMentioned φ p m names (bind (pattern_of (placed_at (plan_expressions p) self.now.pattern)) self.now.value.value e))) }
+        ensures { IfOk result (λ names. (φ : AnswersByName) (p : plans.Plan) (m l : mention_lists.Mentioned) (e : Environment) →
+            ((x : Name) → IsTrue (is_mentioned (plan_expressions p) m x) → BindsOthers (pattern_of (stored_pattern (plan_expressions p) self.now.pattern)) x → IsTrue (is_mentioned (plan_expressions p) l x)) →
+            IfSome fewer (λ names. HasMentioned φ p l names e) → IfSome names (λ names. HasMentioned φ p m names (bind (pattern_of (stored_pattern (plan_expressions p) self.now.pattern)) self.now.value.value e))) }
     {
         let around = match fewer {
             Some(around) => around,
@@ -161,7 +162,7 @@ impl Running {
     // The same process under its name, with fewer names around it, if there are fewer. The error is a want of memory, or too many
     // owners.
     fn over(&self, alloc: Global, fewer: Option<Env>) -> Result<Option<Env>, AllocError>
-        ensures { IfOk result (λ names. (φ : AnswersByName) (p : PlanOf) (m l : MentionedOf) (e : Environment) (P : ProcessOf) →
+        ensures { IfOk result (λ names. (φ : AnswersByName) (p : plans.Plan) (m l : mention_lists.Mentioned) (e : Environment) (P : Lives.Process) →
             ((x : Name) → IsTrue (is_mentioned (plan_expressions p) m x) → BindsOthers (named (name_at (plan_expressions p) self.now.name)) x → IsTrue (is_mentioned (plan_expressions p) l x)) →
             IsHanded φ p (name_at (plan_expressions p) self.now.name) self.now.handed P → IfSome fewer (λ names. HasMentioned φ p l names e) → IfSome names (λ names. HasMentioned φ p m names (running (name_at (plan_expressions p) self.now.name) P e))) }
     {
@@ -185,7 +186,7 @@ impl Running {
 impl Handed {
     // The same process, shared. The error is a want of memory, or too many owners.
     fn share(&self, alloc: Global) -> Result<Handed, AllocError>
-        ensures { IfOk result (λ same. (φ : AnswersByName) (p : PlanOf) (x : Name) (P : ProcessOf) → IsHanded φ p x self.now P → IsHanded φ p x same P) }
+        ensures { IfOk result (λ same. (φ : AnswersByName) (p : plans.Plan) (x : Name) (P : Lives.Process) → IsHanded φ p x self.now P → IsHanded φ p x same P) }
     {
         let process = self.process.share(alloc)?;
         let base = self.base.share()?;
@@ -197,9 +198,9 @@ impl Collected {
     // The same members under their name, with fewer names around them, if there are fewer. The error is a want of memory, or too
     // many owners.
     fn over(&self, alloc: Global, fewer: Option<Env>) -> Result<Option<Env>, AllocError>
-        ensures { IfOk result (λ names. (φ : AnswersByName) (p : PlanOf) (m l : MentionedOf) (e : Environment) (ms : MembersOf) →
+        ensures { IfOk result (λ names. (φ : AnswersByName) (p : plans.Plan) (m l : mention_lists.Mentioned) (e : Environment) (ms : Lives.Members) →
             ((x : Name) → IsTrue (is_mentioned (plan_expressions p) m x) → BindsOthers (named (name_at (plan_expressions p) self.now.name)) x → IsTrue (is_mentioned (plan_expressions p) l x)) →
-            Gathers φ p (held_in self.now.members) ms [] → IfSome fewer (λ names. HasMentioned φ p l names e) → IfSome names (λ names. HasMentioned φ p m names (collected (name_at (plan_expressions p) self.now.name) ms e))) }
+            Gathers φ p (gathered_holding self.now.members) ms [] → IfSome fewer (λ names. HasMentioned φ p l names e) → IfSome names (λ names. HasMentioned φ p m names (collected (name_at (plan_expressions p) self.now.name) ms e))) }
     {
         let around = match fewer {
             Some(around) => around,
@@ -401,7 +402,7 @@ impl Call {
 
     // The same, if that are members.
     fn members<'r>(&'r self, plan: &Plan, name: NameId) -> Option<&'r Gathered>
-        ensures { option_map (λ l. held_in l.now) result ≡ given_members (given_at (last_parameter (name_at (plan_expressions plan.now) name) (names_of_parameters (plan_expressions plan.now) (header_at plan.now self.now.template).parameters)) self.now.arguments.items) }
+        ensures { option_map (λ l. gathered_holding l.now) result ≡ given_members (given_at (last_parameter (name_at (plan_expressions plan.now) name) (names_of_parameters (plan_expressions plan.now) (header_at plan.now self.now.template).parameters)) self.now.arguments.items) }
     {
         match self.given(plan, name) {
             Some(Given::Members(members)) => Some(members),
@@ -423,7 +424,7 @@ impl Call {
 impl Env {
     /// The same names, shared. The error is too many owners of one name.
     pub fn share(&self) -> Result<Env, AllocError>
-        ensures { IfOk result (λ names. (φ : AnswersByName) (p : PlanOf) (e : Environment) → IsNames φ p self.now e → IsNames φ p names e) }
+        ensures { IfOk result (λ names. (φ : AnswersByName) (p : plans.Plan) (e : Environment) → IsNames φ p self.now e → IsNames φ p names e) }
     {
         match self {
             Env::Empty => Ok(Env::Empty),
@@ -525,7 +526,7 @@ impl Env {
 
     // Fewer names, or these, shared. The error is too many owners of one name.
     fn or_shared(&self, fewer: Option<Env>) -> Result<Option<Env>, AllocError>
-        ensures { IfOk result (λ names. (φ : AnswersByName) (p : PlanOf) (m : MentionedOf) (e : Environment) → IsNames φ p self.now e → IfSome fewer (λ names. HasMentioned φ p m names e) →
+        ensures { IfOk result (λ names. (φ : AnswersByName) (p : plans.Plan) (m : mention_lists.Mentioned) (e : Environment) → IsNames φ p self.now e → IfSome fewer (λ names. HasMentioned φ p m names e) →
             IfSome names (λ names. HasMentioned φ p m names e)) }
     {
         match fewer {
@@ -544,8 +545,8 @@ impl Env {
         pattern: PatternId,
         value: Rc<Value>,
     ) -> Result<Env, AllocError>
-        ensures { IfOk result (λ names. (φ : AnswersByName) (p : PlanOf) → expressions.now ≡ plan_expressions p → (e : Environment) → IsNames φ p self.now e →
-            IsNames φ p names (bind (pattern_of (placed_at (plan_expressions p) pattern)) value.value e)) }
+        ensures { IfOk result (λ names. (φ : AnswersByName) (p : plans.Plan) → expressions.now ≡ plan_expressions p → (e : Environment) → IsNames φ p self.now e →
+            IsNames φ p names (bind (pattern_of (stored_pattern (plan_expressions p) pattern)) value.value e)) }
     {
         let around = self.share()?;
         if binds_nothing(expressions.placed(pattern)) {
@@ -571,7 +572,7 @@ impl Env {
         name: NameId,
         handed: Handed,
     ) -> Result<Env, AllocError>
-        ensures { IfOk result (λ names. (φ : AnswersByName) (p : PlanOf) (e : Environment) (P : ProcessOf) → IsNames φ p self.now e → IsHanded φ p (name_at (plan_expressions p) name) handed P →
+        ensures { IfOk result (λ names. (φ : AnswersByName) (p : plans.Plan) (e : Environment) (P : Lives.Process) → IsNames φ p self.now e → IsHanded φ p (name_at (plan_expressions p) name) handed P →
             IsNames φ p names (running (name_at (plan_expressions p) name) P e)) }
     {
         let around = self.share()?;
@@ -594,7 +595,7 @@ impl Env {
         name: NameId,
         members: Gathered,
     ) -> Result<Env, AllocError>
-        ensures { IfOk result (λ names. (φ : AnswersByName) (p : PlanOf) (e : Environment) (ms : MembersOf) → IsNames φ p self.now e → Gathers φ p (held_in members) ms [] →
+        ensures { IfOk result (λ names. (φ : AnswersByName) (p : plans.Plan) (e : Environment) (ms : Lives.Members) → IsNames φ p self.now e → Gathers φ p (gathered_holding members) ms [] →
             IsNames φ p names (collected (name_at (plan_expressions p) name) ms e)) }
     {
         let around = self.share()?;
@@ -617,7 +618,7 @@ impl Env {
         members: &Gathered,
         wait: u64,
     ) -> Result<Env, AllocError>
-        ensures { IfOk result (λ names. (φ : AnswersByName) (p : PlanOf) (e : Environment) (ms : MembersOf) (L : Life) → IsNames φ p self.now e → Gathers φ p (held_in members.now) ms L →
+        ensures { IfOk result (λ names. (φ : AnswersByName) (p : plans.Plan) (e : Environment) (ms : Lives.Members) (L : Life) → IsNames φ p self.now e → Gathers φ p (gathered_holding members.now) ms L →
             IsNames φ p names (collected (name_at (plan_expressions p) name) (each_frozen ms L wait) e)) }
     {
         let frozen = members.freeze(wait)?;
@@ -630,7 +631,7 @@ impl Env {
         template: TemplateId,
         arguments: Vec<Given>,
     ) -> Result<Env, AllocError>
-        ensures { IfOk result (λ names. (φ : AnswersByName) (p : PlanOf) (e : Environment) → AreGiven φ p (names_of_parameters (plan_expressions p) (header_at p template).parameters) arguments.items empty e → IsNames φ p names e) }
+        ensures { IfOk result (λ names. (φ : AnswersByName) (p : plans.Plan) (e : Environment) → AreGiven φ p (names_of_parameters (plan_expressions p) (header_at p template).parameters) arguments.items empty e → IsNames φ p names e) }
     {
         let call = Rc::new(
             alloc,
@@ -677,7 +678,7 @@ impl Env {
     /// the plan.
     pub fn members<'r>(&'r self, plan: &Plan, name: NameId) -> Option<&'r Gathered>
         ensures { (φ : AnswersByName) (e : Environment) → IsNames φ plan.now self.now e →
-            AreFound φ plan.now (option_map (λ l. held_in l.now) result) (members_of (name_at (plan_expressions plan.now) name) e) }
+            AreFound φ plan.now (option_map (λ l. gathered_holding l.now) result) (members_of (name_at (plan_expressions plan.now) name) e) }
     {
         match self {
             Env::Empty => None,
@@ -757,7 +758,7 @@ fn part_named<'r>(
     name: NameId,
 ) -> Option<&'r Value>
     ensures { let e = plan_expressions plan.now in (vs : ValuesByName) →
-        value_named (values_inside (pattern_of (placed_at e pattern)) value.now vs) (name_at e name) ≡ found_or (option_map (λ v. v.now) result) (value_named vs (name_at e name)) }
+        value_named (values_inside (pattern_of (stored_pattern e pattern)) value.now vs) (name_at e name) ≡ found_or (option_map (λ v. v.now) result) (value_named vs (name_at e name)) }
 {
     part_of_number(plan.numbered(pattern), value, plan.number(name))
 }

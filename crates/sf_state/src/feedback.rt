@@ -28,11 +28,11 @@ impl Model for Feedback {
     ghost use Rattle.std.specs.Prelude.{List};
     ghost use Rattle.std.specs.Coded.{code_by, codes};
     ghost use Rattle.sf_value.specs.Values.{Data};
-    ghost use Rattle.sf_value.specs.Codes.{Mark, marks_of, data_from, data_from-marks_of};
+    ghost use Rattle.sf_value.specs.Codes.{Mark, marks_of, decoded_data, decoded_data-marks_of};
 
     ghost Value = { Data };
 
-    ghost coded = { code_by (List Mark) (Prim.hlevel codes) marks_of data_from data_from-marks_of };
+    ghost coded = { code_by (List Mark) (Prim.hlevel codes) marks_of decoded_data decoded_data-marks_of };
 
     ghost view = { λ a. a.next };
 }

@@ -3,14 +3,15 @@ ghost use Rattle.std.specs.Prelude.{◌≡◌, [], ◌∷◌, length, false, IfO
 ghost use Rattle.sf_value.specs.Values.{Data};
 ghost use Rattle.sf_func.specs.Registries.{AnswersByName};
 ghost use Rattle.sf_law.specs.declared.plan.Plan.{Plan};
-ghost use Rattle.sf_expr.specs.Arena.{placed_at, name_at};
+ghost use Rattle.sf_expr.specs.Arena.{stored_pattern, name_at};
 ghost use Rattle.sf_expr.specs.Patterns.{pattern_of};
 ghost use Rattle.sf_law.specs.Arena.{plan_expressions, plan_tree, plan_asks};
-ghost use Rattle.sf_mean.specs.Lives.{base, bind, closure, resumed, empty, running, collected, frozen as frozen_process, each_frozen, Environment, Step, Life, Process as ProcessOf, Members as MembersOf};
+ghost use Rattle.sf_mean.specs.Lives.{base, bind, closure, resumed, empty, running, collected, each_frozen, Environment, Step, Life};
+ghost use Rattle.sf_mean.specs.Lives;
 ghost use Rattle.sf_mean.specs.Meaning.{body_of};
-ghost use Rattle.sf_state.specs.declared.env.Env.{Env as EnvOf};
-ghost use Rattle.sf_state.specs.Held.{held_in};
-ghost use Rattle.sf_state.specs.Standing.{IsNames, Stands, Ready, Waits, WaitsKeeping, WaitsGathered, Gathers, IsProcess, AllFollow, kept_state, is_primitive, is_frozen};
+ghost use Rattle.sf_state.specs.declared.env.Env as environments;
+ghost use Rattle.sf_state.specs.Held.{gathered_holding};
+ghost use Rattle.sf_state.specs.Standing.{IsNames, Stands, Ready, Waits, WaitsContinuation, WaitsGathered, Gathers, IsProcess, AllFollow, frozen_state, is_primitive, is_frozen};
 
 use crate::env::{Env, Handed};
 use crate::feedback::Feedback;
@@ -35,7 +36,7 @@ pub enum State {
     /// A switch that waits for an event, with these names around it. Its node may be shared.
     Switch(Env, Rc<Switch>),
     /// A switch that keeps its source and waits for an event, with these names around it. Its node may be shared.
-    Keeping(Env, Rc<Keeping>),
+    Continuation(Env, Rc<Continuation>),
     /// Members that wait for an event, with these names around them. Their node may be shared.
     Gathering(Env, Rc<Gathering>),
     /// It was frozen after some samples, and hasn't been stepped since. Its node may be shared.
@@ -57,7 +58,7 @@ impl Drop for State {
                 drop(names);
                 drop(node);
             }
-            State::Keeping(names, node) => {
+            State::Continuation(names, node) => {
                 drop(names);
                 drop(node);
             }
@@ -94,7 +95,7 @@ impl State {
                 drop(node);
                 names
             }
-            State::Keeping(names, node) => {
+            State::Continuation(names, node) => {
                 drop(node);
                 names
             }
@@ -146,7 +147,7 @@ impl Drop for Switch {
 
 /// A switch that waits for an event, and then hands its body what ran until then, frozen.
 #[cycle(state)]
-pub struct Keeping {
+pub struct Continuation {
     /// Whose value shows at the event.
     pub shown: Observation,
     /// Its first term.
@@ -165,10 +166,10 @@ pub struct Keeping {
     pub body: PlanId,
 }
 
-impl Drop for Keeping {
+impl Drop for Continuation {
     #[cycle(state)]
     fn drop(self) {
-        let Keeping {
+        let Continuation {
             shown: _,
             first: _,
             source,
@@ -239,13 +240,13 @@ pub struct Frozen {
     /// The names around it.
     pub names: Env,
     /// Its node.
-    pub node: Kept,
+    pub node: FrozenNode,
 }
 
 /// The node of a part that was frozen, which may be shared.
 #[derive(Drop)]
 #[cycle(state)]
-pub enum Kept {
+pub enum FrozenNode {
     /// Of a primitive, which is its own.
     Primitive(PrimState),
     /// Of a part that goes on as it is.
@@ -253,7 +254,7 @@ pub enum Kept {
     /// Of a switch that waits for an event.
     Switch(Rc<Switch>),
     /// Of a switch that keeps its source and waits for an event.
-    Keeping(Rc<Keeping>),
+    Continuation(Rc<Continuation>),
     /// Of members that wait for an event.
     Gathering(Rc<Gathering>),
 }
@@ -384,7 +385,7 @@ impl State {
     /// The error is a want of memory, or too many owners of one node.
     #[inline(always)]
     pub fn share(&self, alloc: Global) -> Result<State, AllocError>
-        ensures { IfOk result (λ shared. (φ : AnswersByName) (p : Plan) (P : ProcessOf) (L : Life) → Stands φ p self.now P L → Stands φ p shared P L) }
+        ensures { IfOk result (λ shared. (φ : AnswersByName) (p : Plan) (P : Lives.Process) (L : Life) → Stands φ p self.now P L → Stands φ p shared P L) }
     {
         match self {
             State::Primitive(primitive) => {
@@ -399,7 +400,7 @@ impl State {
     #[inline(never)]
     fn share_node(&self) -> Result<State, AllocError>
         requires { IsFalse (is_primitive self.now) }
-        ensures { IfOk result (λ shared. (φ : AnswersByName) (p : Plan) (P : ProcessOf) (L : Life) → Stands φ p self.now P L → Stands φ p shared P L) }
+        ensures { IfOk result (λ shared. (φ : AnswersByName) (p : Plan) (P : Lives.Process) (L : Life) → Stands φ p self.now P L → Stands φ p shared P L) }
     {
         match self {
             State::Unborn(process) => {
@@ -416,10 +417,10 @@ impl State {
                 let watching = node.clone()?;
                 Ok(State::Switch(kept, watching))
             }
-            State::Keeping(names, node) => {
+            State::Continuation(names, node) => {
                 let outer = names.share()?;
-                let keeping = node.clone()?;
-                Ok(State::Keeping(outer, keeping))
+                let continuing = node.clone()?;
+                Ok(State::Continuation(outer, continuing))
             }
             State::Gathering(names, node) => {
                 let beside = names.share()?;
@@ -438,31 +439,31 @@ impl State {
     /// nodes, so it takes memory for one node, whatever the size of the part, and no step of one of the two changes the
     /// other. A part that hasn't been stepped is as it was. The error is a want of memory, or too many owners of one node.
     pub fn freeze(&self, alloc: Global, wait: u64) -> Result<State, AllocError>
-        ensures { IfOk result (λ frozen. (φ : AnswersByName) (p : Plan) (P : ProcessOf) (L : Life) → Stands φ p self.now P L →
-            Stands φ p frozen (frozen_process P L wait) []) }
+        ensures { IfOk result (λ frozen. (φ : AnswersByName) (p : Plan) (P : Lives.Process) (L : Life) → Stands φ p self.now P L →
+            Stands φ p frozen (Lives.frozen P L wait) []) }
     {
         match self {
             State::Unborn(_) | State::Frozen(_) => self.share(alloc),
             State::Live(names, node) => {
                 let live = node.clone()?;
-                freeze_node(alloc, wait, names, Kept::Live(live))
+                freeze_node(alloc, wait, names, FrozenNode::Live(live))
             }
             State::Switch(names, node) => {
                 let switch = node.clone()?;
-                freeze_node(alloc, wait, names, Kept::Switch(switch))
+                freeze_node(alloc, wait, names, FrozenNode::Switch(switch))
             }
-            State::Keeping(names, node) => {
-                let keeping = node.clone()?;
-                freeze_node(alloc, wait, names, Kept::Keeping(keeping))
+            State::Continuation(names, node) => {
+                let continuing = node.clone()?;
+                freeze_node(alloc, wait, names, FrozenNode::Continuation(continuing))
             }
             State::Gathering(names, node) => {
                 let gathering = node.clone()?;
-                freeze_node(alloc, wait, names, Kept::Gathering(gathering))
+                freeze_node(alloc, wait, names, FrozenNode::Gathering(gathering))
             }
             State::Primitive(primitive) => {
                 let copy = primitive.clone_in(alloc)?;
                 let nothing = Env::Empty;
-                freeze_node(alloc, wait, &nothing, Kept::Primitive(copy))
+                freeze_node(alloc, wait, &nothing, FrozenNode::Primitive(copy))
             }
         }
     }
@@ -473,7 +474,7 @@ impl State {
     /// it stands for nothing.
     #[cycle(renew)]
     pub fn renew(&mut self, alloc: Global, other: &State) -> Result<(), AllocError>
-        ensures { OnOk result ((φ : AnswersByName) (p : Plan) (P : ProcessOf) (L : Life) → Stands φ p other.now P L → Stands φ p self.new P L) }
+        ensures { OnOk result ((φ : AnswersByName) (p : Plan) (P : Lives.Process) (L : Life) → Stands φ p other.now P L → Stands φ p self.new P L) }
     {
         if let State::Live(names, node) = other {
             if let State::Live(around, own) = self {
@@ -492,8 +493,8 @@ impl State {
 
 // A node with these names around it, frozen.
 #[inline(always)]
-fn freeze_node(alloc: Global, wait: u64, names: &Env, node: Kept) -> Result<State, AllocError>
-    ensures { IfOk result (λ frozen. (φ : AnswersByName) (p : Plan) (P : ProcessOf) (s : Step) (h : Life) → Stands φ p (kept_state names.now node) P (s ∷ h) →
+fn freeze_node(alloc: Global, wait: u64, names: &Env, node: FrozenNode) -> Result<State, AllocError>
+    ensures { IfOk result (λ frozen. (φ : AnswersByName) (p : Plan) (P : Lives.Process) (s : Step) (h : Life) → Stands φ p (frozen_state names.now node) P (s ∷ h) →
         Stands φ p frozen (resumed P (s ∷ h) wait) []) }
 {
     let around = names.share()?;
@@ -508,7 +509,7 @@ fn freeze_node(alloc: Global, wait: u64, names: &Env, node: Kept) -> Result<Stat
 impl Live {
     /// A copy of the node over the same parts, which are shared.
     pub fn clone_in(&self, alloc: Global) -> Result<Live, AllocError>
-        ensures { IfOk result (λ copy. (φ : AnswersByName) (p : Plan) (P : ProcessOf) (x : Data) (L : Life) → Ready φ p self.now P x L → Ready φ p copy P x L) }
+        ensures { IfOk result (λ copy. (φ : AnswersByName) (p : Plan) (P : Lives.Process) (x : Data) (L : Life) → Ready φ p self.now P x L → Ready φ p copy P x L) }
     {
         match self {
             Live::Join(join, left, right) => {
@@ -539,7 +540,7 @@ impl Live {
     // The same of a node.
     #[cycle(renew)]
     fn renew(&mut self, alloc: Global, other: &Live) -> Result<(), AllocError>
-        ensures { OnOk result ((φ : AnswersByName) (p : Plan) (P : ProcessOf) (x : Data) (L : Life) → Ready φ p other.now P x L → Ready φ p self.new P x L) }
+        ensures { OnOk result ((φ : AnswersByName) (p : Plan) (P : Lives.Process) (x : Data) (L : Life) → Ready φ p other.now P x L → Ready φ p self.new P x L) }
     {
         match other {
             Live::Join(join, left, right) => {
@@ -599,7 +600,7 @@ impl Gathered {
 
     /// No members.
     pub fn none(alloc: Global) -> Result<Gathered, AllocError>
-        ensures { IfOk result (λ none. (φ : AnswersByName) (p : Plan) (L : Life) → Gathers φ p (held_in none) no_members L) }
+        ensures { IfOk result (λ none. (φ : AnswersByName) (p : Plan) (L : Life) → Gathers φ p (gathered_holding none) no_members L) }
     {
         let keys = Rc::new(alloc, Keys::new(alloc))?;
         let states = Rc::new(alloc, Vec::new(alloc))?;
@@ -612,7 +613,7 @@ impl Gathered {
 
     /// The same members: they share all, so it takes no memory. The error is too many owners.
     pub fn share(&self) -> Result<Gathered, AllocError>
-        ensures { IfOk result (λ same. held_in same ≡ held_in self.now) }
+        ensures { IfOk result (λ same. gathered_holding same ≡ gathered_holding self.now) }
     {
         let keys = self.keys.clone()?;
         let states = self.states.clone()?;
@@ -626,8 +627,8 @@ impl Gathered {
     /// The members from here on, each to go on in another place `wait` milliseconds after its last sample. They share all, so
     /// it takes no memory, and no step of one of the two changes the other. The error is too many owners.
     pub fn freeze(&self, wait: u64) -> Result<Gathered, AllocError>
-        ensures { IfOk result (λ frozen. (φ : AnswersByName) (p : Plan) (ms : MembersOf) (L : Life) → Gathers φ p (held_in self.now) ms L →
-            Gathers φ p (held_in frozen) (each_frozen ms L wait) []) }
+        ensures { IfOk result (λ frozen. (φ : AnswersByName) (p : Plan) (ms : Lives.Members) (L : Life) → Gathers φ p (gathered_holding self.now) ms L →
+            Gathers φ p (gathered_holding frozen) (each_frozen ms L wait) []) }
     {
         let under = self.keys.clone()?;
         let all = self.states.clone()?;
@@ -641,7 +642,7 @@ impl Gathered {
     /// Makes these the members that others are, as `State::renew` does: each is copied into the nodes of the one at its place,
     /// where there are as many and nothing else has their list. Else the list is shared. After an error they stand for nothing.
     pub fn renew(&mut self, alloc: Global, other: &Gathered) -> Result<(), AllocError>
-        ensures { OnOk result ((φ : AnswersByName) (p : Plan) (ms : MembersOf) (L : Life) → Gathers φ p (held_in other.now) ms L → Gathers φ p (held_in self.new) ms L) }
+        ensures { OnOk result ((φ : AnswersByName) (p : Plan) (ms : Lives.Members) (L : Life) → Gathers φ p (gathered_holding other.now) ms L → Gathers φ p (gathered_holding self.new) ms L) }
     {
         let keys = other.keys.clone()?;
         renew_list(alloc, &mut self.states, &other.states)?;
@@ -654,7 +655,7 @@ impl Gathered {
 impl Switch {
     /// A copy of the node over the same state, which is shared.
     pub fn clone_in(&self, alloc: Global) -> Result<Switch, AllocError>
-        ensures { IfOk result (λ copy. (φ : AnswersByName) (p : Plan) (P : ProcessOf) (L : Life) → Waits φ p self.now P L → Waits φ p copy P L) }
+        ensures { IfOk result (λ copy. (φ : AnswersByName) (p : Plan) (P : Lives.Process) (L : Life) → Waits φ p self.now P L → Waits φ p copy P L) }
     {
         let running = self.running.share(alloc)?;
         Ok(Switch {
@@ -676,7 +677,7 @@ impl Switch {
     ) -> Result<State, AllocError>
         ensures { let p = plan.now in
             IfOk result (λ begun. (φ : AnswersByName) (e : Environment) → IsNames φ p names.now e →
-            Stands φ p begun (body_of (pattern_of (placed_at (plan_expressions p) self.now.pattern)) (plan_tree p self.now.body) e payload.value) []) }
+            Stands φ p begun (body_of (pattern_of (stored_pattern (plan_expressions p) self.now.pattern)) (plan_tree p self.now.body) e payload.value) []) }
     {
         let around = names.inside(alloc, plan.expressions(), self.pattern, payload)?;
         Ok(State::Unborn(Process {
@@ -686,14 +687,14 @@ impl Switch {
     }
 }
 
-impl Keeping {
+impl Continuation {
     /// A copy of the node over the same states, which are shared. What ran before the last sample is left out.
-    pub fn clone_in(&self, alloc: Global) -> Result<Keeping, AllocError>
-        ensures { IfOk result (λ copy. (φ : AnswersByName) (p : Plan) (P : ProcessOf) (L : Life) → WaitsKeeping φ p self.now P L → WaitsKeeping φ p copy P L) }
+    pub fn clone_in(&self, alloc: Global) -> Result<Continuation, AllocError>
+        ensures { IfOk result (λ copy. (φ : AnswersByName) (p : Plan) (P : Lives.Process) (L : Life) → WaitsContinuation φ p self.now P L → WaitsContinuation φ p copy P L) }
     {
         let source = self.source.share(alloc)?;
         let observer = self.observer.share(alloc)?;
-        Ok(Keeping {
+        Ok(Continuation {
             shown: self.shown,
             first: self.first,
             source,
@@ -718,9 +719,9 @@ impl Keeping {
         payload: Rc<Value>,
     ) -> Result<State, AllocError>
         ensures { let p = plan.now in
-            IfOk result (λ begun. (φ : AnswersByName) (e : Environment) (P : ProcessOf) (L : Life) → IsNames φ p names.now e → Stands φ p self.now.before P L →
+            IfOk result (λ begun. (φ : AnswersByName) (e : Environment) (P : Lives.Process) (L : Life) → IsNames φ p names.now e → Stands φ p self.now.before P L →
             base P ≡ closure (plan_tree p self.now.first) e → Stands φ p begun (closure (plan_tree p self.now.body)
-            (bind (pattern_of (placed_at (plan_expressions p) self.now.pattern)) payload.value (running (name_at (plan_expressions p) self.now.name) (frozen_process P L wait) e))) []) }
+            (bind (pattern_of (stored_pattern (plan_expressions p) self.now.pattern)) payload.value (running (name_at (plan_expressions p) self.now.name) (Lives.frozen P L wait) e))) []) }
     {
         let frozen = self.before.freeze(alloc, wait)?;
         let base = Process::where_asked(alloc, plan, self.name, self.first, names)?;
@@ -740,7 +741,7 @@ impl Keeping {
 impl Gathering {
     /// A copy of the node over the same states, which are shared. What ran before the last sample is left out.
     pub fn clone_in(&self, alloc: Global) -> Result<Gathering, AllocError>
-        ensures { IfOk result (λ copy. (φ : AnswersByName) (p : Plan) (P : ProcessOf) (L : Life) → WaitsGathered φ p self.now P L → WaitsGathered φ p copy P L) }
+        ensures { IfOk result (λ copy. (φ : AnswersByName) (p : Plan) (P : Lives.Process) (L : Life) → WaitsGathered φ p self.now P L → WaitsGathered φ p copy P L) }
     {
         match self {
             Gathering::Releasing(releasing) => {
@@ -785,9 +786,9 @@ impl Releasing {
         payload: Rc<Value>,
     ) -> Result<State, AllocError>
         ensures { let p = plan.now in
-            IfOk result (λ begun. (φ : AnswersByName) (e : Environment) (ms : MembersOf) (L : Life) → IsNames φ p names.now e → Gathers φ p (held_in self.now.before) ms L →
+            IfOk result (λ begun. (φ : AnswersByName) (e : Environment) (ms : Lives.Members) (L : Life) → IsNames φ p names.now e → Gathers φ p (gathered_holding self.now.before) ms L →
             Stands φ p begun (closure (plan_tree p self.now.body)
-            (bind (pattern_of (placed_at (plan_expressions p) self.now.pattern)) payload.value (collected (name_at (plan_expressions p) self.now.name) (each_frozen ms L wait) e))) []) }
+            (bind (pattern_of (stored_pattern (plan_expressions p) self.now.pattern)) payload.value (collected (name_at (plan_expressions p) self.now.name) (each_frozen ms L wait) e))) []) }
     {
         let known = names.with_frozen(alloc, self.name, &self.before, wait)?;
         let around = known.inside(alloc, plan.expressions(), self.pattern, payload)?;
@@ -811,8 +812,8 @@ impl Editing {
         payload: Rc<Value>,
     ) -> Result<Env, AllocError>
         ensures { let p = plan.now in
-            IfOk result (λ inside. (φ : AnswersByName) (e : Environment) (ms : MembersOf) (L : Life) → IsNames φ p names.now e → Gathers φ p (held_in self.now.members) ms L →
-            IsNames φ p inside (bind (pattern_of (placed_at (plan_expressions p) self.now.pattern)) payload.value (collected (name_at (plan_expressions p) self.now.name) (each_frozen ms L wait) e))) }
+            IfOk result (λ inside. (φ : AnswersByName) (e : Environment) (ms : Lives.Members) (L : Life) → IsNames φ p names.now e → Gathers φ p (gathered_holding self.now.members) ms L →
+            IsNames φ p inside (bind (pattern_of (stored_pattern (plan_expressions p) self.now.pattern)) payload.value (collected (name_at (plan_expressions p) self.now.name) (each_frozen ms L wait) e))) }
     {
         let known = names.with_frozen(alloc, self.name, &self.members, wait)?;
         let around = known.inside(alloc, plan.expressions(), self.pattern, payload)?;
@@ -820,32 +821,32 @@ impl Editing {
     }
 }
 
-impl Kept {
+impl FrozenNode {
     /// The same node, shared, or a copy of a primitive. The error is a want of memory, or too many owners.
-    pub fn share(&self, alloc: Global) -> Result<Kept, AllocError>
-        ensures { IfOk result (λ same. (φ : AnswersByName) (p : Plan) (names : EnvOf) (P : ProcessOf) (L : Life) →
-            Stands φ p (kept_state names self.now) P L → Stands φ p (kept_state names same) P L) }
+    pub fn share(&self, alloc: Global) -> Result<FrozenNode, AllocError>
+        ensures { IfOk result (λ same. (φ : AnswersByName) (p : Plan) (names : environments.Env) (P : Lives.Process) (L : Life) →
+            Stands φ p (frozen_state names self.now) P L → Stands φ p (frozen_state names same) P L) }
     {
         match self {
-            Kept::Primitive(primitive) => {
+            FrozenNode::Primitive(primitive) => {
                 let copy = primitive.clone_in(alloc)?;
-                Ok(Kept::Primitive(copy))
+                Ok(FrozenNode::Primitive(copy))
             }
-            Kept::Live(node) => {
+            FrozenNode::Live(node) => {
                 let live = node.clone()?;
-                Ok(Kept::Live(live))
+                Ok(FrozenNode::Live(live))
             }
-            Kept::Switch(node) => {
+            FrozenNode::Switch(node) => {
                 let switch = node.clone()?;
-                Ok(Kept::Switch(switch))
+                Ok(FrozenNode::Switch(switch))
             }
-            Kept::Keeping(node) => {
-                let keeping = node.clone()?;
-                Ok(Kept::Keeping(keeping))
+            FrozenNode::Continuation(node) => {
+                let continuing = node.clone()?;
+                Ok(FrozenNode::Continuation(continuing))
             }
-            Kept::Gathering(node) => {
+            FrozenNode::Gathering(node) => {
                 let gathering = node.clone()?;
-                Ok(Kept::Gathering(gathering))
+                Ok(FrozenNode::Gathering(gathering))
             }
         }
     }
@@ -854,17 +855,17 @@ impl Kept {
 impl Frozen {
     /// The part as it was when it was frozen, which shares its nodes. The error is a want of memory, or too many owners.
     pub fn wake(&self, alloc: Global) -> Result<State, AllocError>
-        ensures stands { IfOk result (λ state. (φ : AnswersByName) (p : Plan) (P : ProcessOf) (L : Life) →
-            Stands φ p (kept_state self.now.names self.now.node) P L → Stands φ p state P L) }
+        ensures stands { IfOk result (λ state. (φ : AnswersByName) (p : Plan) (P : Lives.Process) (L : Life) →
+            Stands φ p (frozen_state self.now.names self.now.node) P L → Stands φ p state P L) }
         ensures awake { IfOk result (λ state. is_frozen state ≡ false) }
     {
         let around = self.names.share()?;
         match self.node.share(alloc)? {
-            Kept::Live(node) => Ok(State::Live(around, node)),
-            Kept::Switch(node) => Ok(State::Switch(around, node)),
-            Kept::Keeping(node) => Ok(State::Keeping(around, node)),
-            Kept::Gathering(node) => Ok(State::Gathering(around, node)),
-            Kept::Primitive(primitive) => Ok(State::Primitive(primitive)),
+            FrozenNode::Live(node) => Ok(State::Live(around, node)),
+            FrozenNode::Switch(node) => Ok(State::Switch(around, node)),
+            FrozenNode::Continuation(node) => Ok(State::Continuation(around, node)),
+            FrozenNode::Gathering(node) => Ok(State::Gathering(around, node)),
+            FrozenNode::Primitive(primitive) => Ok(State::Primitive(primitive)),
         }
     }
 }
@@ -917,7 +918,7 @@ pub fn hold_back_members(
     before: &mut Gathered,
 ) -> Result<(), AllocError>
     ensures held { OnOk result (before.new ≡ members.old) }
-    ensures runs_on { OnOk result ((φ : AnswersByName) (p : Plan) (ms : MembersOf) (L : Life) → Gathers φ p (held_in members.old) ms L → Gathers φ p (held_in members.new) ms L) }
+    ensures runs_on { OnOk result ((φ : AnswersByName) (p : Plan) (ms : Lives.Members) (L : Life) → Gathers φ p (gathered_holding members.old) ms L → Gathers φ p (gathered_holding members.new) ms L) }
 {
     before.renew(alloc, members)?;
     mem::swap(members, before);
@@ -1009,7 +1010,7 @@ impl Process {
 
     /// The same process, which shares its names. The error is too many owners of one name.
     pub fn share(&self) -> Result<Process, AllocError>
-        ensures { IfOk result (λ same. (φ : AnswersByName) (p : Plan) (P : ProcessOf) → IsProcess φ p self.now P → IsProcess φ p same P) }
+        ensures { IfOk result (λ same. (φ : AnswersByName) (p : Plan) (P : Lives.Process) → IsProcess φ p self.now P → IsProcess φ p same P) }
     {
         let names = self.names.share()?;
         Ok(Process {

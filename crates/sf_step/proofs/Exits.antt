@@ -3,44 +3,43 @@ use Rattle.std.proofs.Common.{◌≡◌, ℕ, ◌+◌, ◌≤◌, List, [], ◌�
 use Rattle.sf_value.specs.Values.{Data}
 use Rattle.sf_value.specs.declared.fault.Fault.{Fault}
 use Rattle.sf_probe.specs.declared.reading.Readings as declared
-use Rattle.sf_probe.specs.Readings.{readings_of}
+use Rattle.sf_probe.specs.Readings.{probe_readings}
 use Rattle.sf_value.specs.declared.fault.Fault.TheVariants.{Value, Memory}
 use Rattle.sf_value.specs.declared.fault.ValueFault.{ValueFault}
-use Rattle.sf_expr.specs.Evaluation.{Evaluated, answer, failed as no_answer}
+use Rattle.sf_expr.specs.Evaluation.{Evaluated, answer}
+use Rattle.sf_expr.specs.Evaluation
 use Rattle.sf_term.specs.declared.form.Join.{Join}
 use Rattle.sf_law.specs.declared.node.PlanId.{PlanId}
 use Rattle.sf_func.specs.Registries.{AnswersByName}
 use Rattle.sf_law.specs.declared.plan.Plan.{Plan}
 use Rattle.sf_term.specs.Trees.{Term}
-use Rattle.sf_law.specs.Arena.{plan_tree}
+use Rattle.sf_law.specs.Arena.{plan_tree, network_of_plan}
 use Rattle.sf_mean.specs.Lives.{Step, step, Life, Process, closure, Environment, first_input}
 use Rattle.sf_mean.specs.Meaning.{Network, Readings, Outcome, gave, faulted, as_outcome, Cost, count, height, both_costs, over, left_life, right_life, join_value, Gives, gives, Outputs, not_begun, and_gave, of_form, Form}
-use Rattle.sf_law.specs.Arena.{network_of_plan}
 use Rattle.sf_prim.specs.declared.prim_state.PrimState.{PrimState}
 use Rattle.sf_state.specs.declared.state.State.{State}
-use Rattle.sf_state.specs.declared.state.State.TheVariants.{Unborn, Primitive as SPrimitive, Live' as Alive', Switch' as Watching', Keeping', Gathering'}
+use Rattle.sf_state.specs.declared.state.State.TheVariants.{Unborn, Primitive as SPrimitive, Live' as Alive', Switch' as Watching', Continuation', Gathering'}
 use Rattle.sf_state.specs.declared.state.Live.{Live}
 use Rattle.sf_state.specs.declared.state.Switch.{Switch}
-use Rattle.sf_state.specs.declared.state.Keeping.{Keeping}
+use Rattle.sf_state.specs.declared.state.Continuation.{Continuation}
 use Rattle.sf_state.specs.declared.state.Gathering.{Gathering}
 use Rattle.sf_state.specs.declared.state.Live.TheVariants.{Join as LJoin, Wrap as LWrap}
 use Rattle.sf_state.specs.declared.state.Wrap.{Wrap}
-use Rattle.sf_state.specs.Standing.{closed_over as SClosure, gathering_on}
+use Rattle.sf_state.specs.Standing.{gathering_on, closed_over, was_alike, Stands, itself, StandsItself, unborn, recalling, alive, watching, continuing_on, Settles, settles, Ready, ready, lives_join, lives_wrap, is_closure, IsNames}
 use Rattle.sf_state.specs.declared.env.Env.{Env}
-use Rattle.sf_state.specs.Standing.{was_alike, Stands, itself, StandsItself, unborn, recalling, alive, watching, keeping_on, Settles, settles, Ready, ready, lives_join, lives_wrap, is_closure, IsNames}
-use Rattle.sf_parts.specs.declared.opening.Begun.TheVariants as begun
-use Rattle.sf_parts.specs.declared.meter.Meter.{Meter}
-use Rattle.sf_parts.specs.Meters.{entered_of, height_of, readings}
-use Rattle.sf_parts.specs.Answering.{Rel, Ticks, Ticked, ticked, refused, Spent, Within, StopsFor, faults, large, memory, Answers, answers, fails, PrimSteps, LiveSteps, FirstSteps, left_or}
-use Rattle.sf_parts.specs.Beginning.{Prepared, primitive_prepared, live_prepared, switch_prepared, keeping_prepared, BeginsAs, begins_itself, gathering_prepared}
-use Rattle.sf_parts.proofs.Costs.{memory_exit, counts, begin_stops}
-use Rattle.sf_parts.proofs.First.{recalled}
+use Rattle.sf_begin.specs.declared.opening.Begun.TheVariants as begun
+use Rattle.sf_meter.specs.declared.meter.Meter.{Meter}
+use Rattle.sf_meter.specs.Meters.{entered_of, meter_height, readings, Ticks, Ticked, ticked, refused, left_or}
+use Rattle.sf_step.specs.Answering.{Rel, Spent, Within, StopsFor, faults, large, memory, Answers, answers, fails, PrimSteps, LiveSteps, FirstSteps}
+use Rattle.sf_begin.specs.Beginning.{Prepared, primitive_prepared, live_prepared, switch_prepared, continuing_prepared, BeginsAs, begins_itself, gathering_prepared}
+use Rattle.sf_step.proofs.Costs.{memory_exit, counts, begin_stops}
+use Rattle.sf_step.proofs.First.{recalled}
 use Rattle.sf_step.specs.Sampling.{PartSteps, StateSteps, CountedSteps, Waiting, WaitingSteps}
 use Rattle.sf_step.proofs.Parts.{counted, then_on, with_change, over_spent, both_spent, fails_alike, over_fails, change_fails, then_fails, rest_fails, spent_within, answered, failed}
 use Rattle.sf_step.proofs.Forms.{left_and, right_and, single_gives, gave_outputs, form_alike, join_alike, wrap_alike, wraps_on}
 use Rattle.sf_step.specs.Routing.{left_input, right_input, part_input, wrap_value, kept_after}
 use Rattle.sf_step.specs.Stepping.{EachCostsAtLeast, Steps, stepped, faulted_so, too_large, no_memory}
-use Rattle.sf_step.proofs.Turning.{lift_steps, took_answers, referred_begins}
+use Rattle.sf_step.proofs.SwitchTurns.{lift_steps, took_answers, referred_begins}
 
 -- a tick that went well
 pub ticked_by : {m n : Meter} {depth inside : ℕ} → Ticked m n depth (Ok inside) → Ticks m n depth inside
@@ -60,17 +59,17 @@ module _ (φ : AnswersByName) (p : Plan) where
       go o k G a b = let c = counts net G in omega (arith, c.0, c.1, h, a, b)
 
   -- memory runs out before a node is counted
-  pub first_memory : {a : State} {s : Step} {m n : Meter} {depth : ℕ} {f : Fault} → entered_of n ≡ entered_of m → height_of n ≡ height_of m → f ≡ Memory → StateSteps φ p a s (Err f) m n depth
+  pub first_memory : {a : State} {s : Step} {m n : Meter} {depth : ℕ} {f : Fault} → entered_of n ≡ entered_of m → meter_height n ≡ meter_height m → f ≡ Memory → StateSteps φ p a s (Err f) m n depth
   first_memory en hn e P L A = memory_exit e (record { most = λ o k G. record { entered = omega (arith, en); high = omega (arith, hn) } })
 
   -- memory runs out after the parts have been stepped
-  pub late_memory : {l l' : Live} {s : Step} {v : Data} {n n' n'' : Meter} {inside : ℕ} {f : Fault} → LiveSteps φ p l s (Ok (l', v)) n n' inside → entered_of n'' ≡ entered_of n' → height_of n'' ≡ height_of n' → f ≡ Memory
+  pub late_memory : {l l' : Live} {s : Step} {v : Data} {n n' n'' : Meter} {inside : ℕ} {f : Fault} → LiveSteps φ p l s (Ok (l', v)) n n' inside → entered_of n'' ≡ entered_of n' → meter_height n'' ≡ meter_height n' → f ≡ Memory
       → LiveSteps φ p l s (Err f) n n'' inside
   late_memory hs en hn e m depth t P L R = let w = answered (hs m depth t P L R) in memory_exit e (spent_within (single_gives net P _) w.given w.spent en hn)
 
   module _ {A : Type 0} (W : Waiting A) {names : Env} {k : A} {s : Step} {n n' : Meter} {inside : ℕ} where
     -- the same of a switch of some kind
-    pub late_waiting : {o : Option State} {k' : A} {v : Data} {n'' : Meter} {f : Fault} → WaitingSteps φ p W names k s (Ok ((o, k'), v)) n n' inside → entered_of n'' ≡ entered_of n' → height_of n'' ≡ height_of n' → f ≡ Memory
+    pub late_waiting : {o : Option State} {k' : A} {v : Data} {n'' : Meter} {f : Fault} → WaitingSteps φ p W names k s (Ok ((o, k'), v)) n n' inside → entered_of n'' ≡ entered_of n' → meter_height n'' ≡ meter_height n' → f ≡ Memory
         → WaitingSteps φ p W names k s (Err f) n n'' inside
     late_waiting hs en hn e m depth T t env L N S = let w = answered (hs m depth T t env L N S) in memory_exit e (spent_within (single_gives net (closure t env) _) w.given w.spent en hn)
 
@@ -149,8 +148,8 @@ module _ (φ : AnswersByName) (p : Plan) where
         answers (gives O (of_form h F')) (over_spent t one.spent) (settles (ready h (and_gave O (of_form h F')) (lives_wrap (rw ew (wraps_on net d x W G)) A')))
 
     -- a fault comes after the part's value
-    pub wrap_faults : (a' : State) (y : Data) (z : ValueFault) → no_answer z ≡ wrap_value w x y → StateSteps φ p a (step d u) (Ok (a', y)) n n' inside
-        → {n'' : Meter} {f : Fault} → entered_of n'' ≡ entered_of n' → height_of n'' ≡ height_of n' → f ≡ Value z → LiveSteps φ p (LWrap w a) (step d x) (Err f) n n'' inside
+    pub wrap_faults : (a' : State) (y : Data) (z : ValueFault) → Evaluation.failed z ≡ wrap_value w x y → StateSteps φ p a (step d u) (Ok (a', y)) n n' inside
+        → {n'' : Meter} {f : Fault} → entered_of n'' ≡ entered_of n' → meter_height n'' ≡ meter_height n' → f ≡ Value z → LiveSteps φ p (LWrap w a) (step d x) (Err f) n n'' inside
     wrap_faults a' y z ez hs {n''} {f} en hn ef m depth t P L (ready {m = made} h O (lives_wrap {t = form} {u = part} {e = e} {K = K} W A)) =
         let one = answered (hs _ _ A) in
         let G = subst (λ (K : Life). Gives net (closure part e) K (gave y one.r) one.k) (part_at K) one.given in
@@ -201,8 +200,8 @@ module _ (φ : AnswersByName) (p : Plan) where
   pub switch_is : {at : _} (names : Env) (k : Switch) → IsPrepared (Watching' names at k.form k.running k.pattern k.body)
   switch_is names k P s L (watching N W) = switch_prepared N W
 
-  pub keeping_is : {at : _} (names : Env) (k : Keeping) → IsPrepared (Keeping' names at k.shown k.first k.source k.before k.observer k.name k.pattern k.body)
-  keeping_is names k P s L (keeping_on N W) = keeping_prepared N W
+  pub continuing_is : {at : _} (names : Env) (k : Continuation) → IsPrepared (Continuation' names at k.shown k.first k.source k.before k.observer k.name k.pattern k.body)
+  continuing_is names k P s L (continuing_on N W) = continuing_prepared N W
 
   pub gathering_is : {at : _} (names : Env) (k : Gathering) → IsPrepared (Gathering' names at k)
   gathering_is names k P s L (gathering_on N W) = gathering_prepared N W
@@ -220,27 +219,27 @@ module _ (φ : AnswersByName) (p : Plan) where
     -- what a part that isn't born answers, from what its term answers on its first step
     starts : {n' : Meter} (r : Result (State × Data) Fault)
         → ((e : Environment) → IsNames φ p names e → PartSteps φ p (closure (plan_tree p term) e) [] (step d x) r m n' depth)
-        → StateSteps φ p (Unborn (SClosure term names)) (step d x) r m n' depth
-    starts {n' = n'} r h = lift_steps φ p (Unborn (SClosure term names)) (step d x) r m n' depth go
+        → StateSteps φ p (Unborn (closed_over term names)) (step d x) r m n' depth
+    starts {n' = n'} r h = lift_steps φ p (Unborn (closed_over term names)) (step d x) r m n' depth go
       where
-        go : (P : Process) (L : Life) → StandsItself φ p (Unborn (SClosure term names)) P L → PartSteps φ p P L (step d x) r m n' depth
+        go : (P : Process) (L : Life) → StandsItself φ p (Unborn (closed_over term names)) P L → PartSteps φ p P L (step d x) r m n' depth
         go P L (unborn (is_closure {e = e} A N)) = took_answers φ p (was_alike A not_begun) (h e N)
 
     -- it counts, and steps as what it has become
     pub begun_steps : {n' : Meter} (a : State) (r : Result (State × Data) Fault) → ((e : Environment) → IsNames φ p names e → BeginsAs φ p (plan_tree p term) e x a (Ok begun.Itself)) → CountedSteps φ p a (step d x) r n n' inside
-        → StateSteps φ p (Unborn (SClosure term names)) (step d x) r m n' depth
+        → StateSteps φ p (Unborn (closed_over term names)) (step d x) r m n' depth
     begun_steps a r ho hs = starts r (λ e N. hs m depth t _ [] (begun_prepared (ho e N)))
 
     -- a primitive steps as it begins
-    pub first_counted : {n' : Meter} (r : Result (State × Data) Fault) → FirstSteps φ p (plan_tree p term) names (step d x) r n n' → StateSteps φ p (Unborn (SClosure term names)) (step d x) r m n' depth
+    pub first_counted : {n' : Meter} (r : Result (State × Data) Fault) → FirstSteps φ p (plan_tree p term) names (step d x) r n n' → StateSteps φ p (Unborn (closed_over term names)) (step d x) r m n' depth
     first_counted r hs = starts r (λ e N. hs m depth inside t e N)
 
     pub begun_runs : {n' : Meter} (a : State) (r : Result (State × Data) Fault) → ((e : Environment) → IsNames φ p names e → BeginsAs φ p (plan_tree p term) e x a (Ok begun.Referred)) → StateSteps φ p a (step d x) r n n' inside
-        → StateSteps φ p (Unborn (SClosure term names)) (step d x) r m n' depth
+        → StateSteps φ p (Unborn (closed_over term names)) (step d x) r m n' depth
     begun_runs a r ho hs = starts r (λ e N. referred_begins φ p t (ho e N) hs)
 
-    module _ {n' : Meter} (en : entered_of n' ≡ entered_of n) (hn : height_of n' ≡ height_of n) where
-      pub begun_fails : (a : State) (f g : Fault) → g ≡ f → ((e : Environment) → IsNames φ p names e → BeginsAs φ p (plan_tree p term) e x a (Err f)) → StateSteps φ p (Unborn (SClosure term names)) (step d x) (Err g) m n' depth
+    module _ {n' : Meter} (en : entered_of n' ≡ entered_of n) (hn : meter_height n' ≡ meter_height n) where
+      pub begun_fails : (a : State) (f g : Fault) → g ≡ f → ((e : Environment) → IsNames φ p names e → BeginsAs φ p (plan_tree p term) e x a (Err f)) → StateSteps φ p (Unborn (closed_over term names)) (step d x) (Err g) m n' depth
       begun_fails a f g eg ho = starts (Err g) (λ e N. fails (subst (λ (g : Fault). StopsFor (Gives net (closure (plan_tree p term) e) (step d x ∷ [])) g m n' depth) (sym eg) (begin_stops φ p t en hn _ (ho e N))))
 
   -- ## A sample
@@ -249,22 +248,22 @@ module _ (φ : AnswersByName) (p : Plan) where
   all_recorded {r = r} h s = sym (s.recorded ∙ ap (λ l. l ++ r) h)
 
   -- a value, with what the meter had recorded
-  pub sample_steps : {m n n' : Meter} (a a' : State) (s : Step) (v : Data) (q : declared.Readings) → entered_of m ≡ 0 → height_of m ≡ 0 → readings m ≡ [] → StateSteps φ p a s (Ok (a', v)) m n 0
-      → readings_of q ≡ readings n → entered_of n' ≡ entered_of n → height_of n' ≡ height_of n
+  pub sample_steps : {m n n' : Meter} (a a' : State) (s : Step) (v : Data) (q : declared.Readings) → entered_of m ≡ 0 → meter_height m ≡ 0 → readings m ≡ [] → StateSteps φ p a s (Ok (a', v)) m n 0
+      → probe_readings q ≡ readings n → entered_of n' ≡ entered_of n → meter_height n' ≡ meter_height n
       → (P : Process) (L : Life) → Stands φ p a P L → Steps φ p P (s ∷ L) (Ok (v, q)) a' n'
   sample_steps {n' = n'} a a' s v q em hm rm hs taken en hn P L A =
       let w = answered (hs P L A) in
       let G = subst (λ (r : Readings). Gives net P (s ∷ L) (gave v r) w.k) (all_recorded rm w.spent ∙ sym taken) w.given in
       stepped {m = n'} G (let c = w.spent.entered in omega arith) (let c = w.spent.high in omega arith) w.holds
 
-  each_costs : {m n : Meter} {P : Process} {L : Life} → entered_of m ≡ 0 → height_of m ≡ 0 → Within (Gives net P L) m n 0 → EachCostsAtLeast φ p P L n
+  each_costs : {m n : Meter} {P : Process} {L : Life} → entered_of m ≡ 0 → meter_height m ≡ 0 → Within (Gives net P L) m n 0 → EachCostsAtLeast φ p P L n
   each_costs em hm w = record { few = λ o k G. let a = (w.most o k G).entered in omega arith; low = λ o k G. let a = (w.most o k G).high in omega arith }
 
-  fails_so : {m n : Meter} {P : Process} {L : Life} (a : State) (f : Fault) → entered_of m ≡ 0 → height_of m ≡ 0 → StopsFor (Gives net P L) f m n 0 → Steps φ p P L (Err f) a n
+  fails_so : {m n : Meter} {P : Process} {L : Life} (a : State) (f : Fault) → entered_of m ≡ 0 → meter_height m ≡ 0 → StopsFor (Gives net P L) f m n 0 → Steps φ p P L (Err f) a n
   fails_so a f em hm (faults G s) = faulted_so G (let a = s.entered in omega arith) (let a = s.high in omega arith)
   fails_so a f em hm (large h w) = too_large (λ o k G c d. h o k G (omega arith) (omega arith)) (each_costs em hm w)
   fails_so a f em hm (memory w) = no_memory (each_costs em hm w)
 
-  pub sample_fails : {m n : Meter} (a a' : State) (s : Step) (f g : Fault) → g ≡ f → entered_of m ≡ 0 → height_of m ≡ 0 → StateSteps φ p a s (Err f) m n 0
+  pub sample_fails : {m n : Meter} (a a' : State) (s : Step) (f g : Fault) → g ≡ f → entered_of m ≡ 0 → meter_height m ≡ 0 → StateSteps φ p a s (Err f) m n 0
       → (P : Process) (L : Life) → Stands φ p a P L → Steps φ p P (s ∷ L) (Err g) a' n
   sample_fails {n = n} a a' s f g e em hm hs P L A = subst (λ (f : Fault). Steps φ p P (s ∷ L) (Err f) a' n) (sym e) (fails_so a' f em hm (failed (hs P L A)))

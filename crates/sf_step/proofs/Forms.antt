@@ -1,19 +1,19 @@
 -- Each form is its parts, one after another.
 use Rattle.std.proofs.Common.{◌≡◌, ℕ, List, [], ◌∷◌, refl, sym, ap, ◌∙◌, subst}
 use Rattle.sf_value.specs.Values.{Data}
-use Rattle.sf_expr.specs.Evaluation.{Evaluated, answer, failed as no_answer, eval}
+use Rattle.sf_expr.specs.Evaluation.{Evaluated, answer, eval, failed}
 use Rattle.sf_term.specs.declared.form.Join.{Join}
 use Rattle.sf_term.specs.declared.form.Join.TheVariants.{InSequence, InParallel, FannedOut}
 use Rattle.sf_term.specs.declared.form.Heading.TheVariants.{Followed as WithFollowed}
 use Rattle.sf_term.specs.Trees.{Term, whole, joined, headed, staged}
 use Rattle.sf_mean.specs.Lives.{Step, step, Life, Process, closure, Environment, first_input, scope_around, relay, fed}
-use Rattle.sf_mean.specs.Meaning.{Network, Readings, Outcome, gave, faulted, answered_by, newest_or, combined, value_in, Cost, both_costs, over, text_cost, Made, make, left_life, right_life, join_value, Gives, gives, Outputs, and_gave, Sample, of_constants, of_form, Form, of_join, of_stages, of_side, of_loop, of_initialized, of_replaced, of_followed, of_transformed, Next, goes_on, stops, and_looped}
+use Rattle.sf_mean.specs.Meaning.{Network, Readings, Outcome, gave, faulted, answered_by, newest_or, combined, outcome_value, Cost, both_costs, over, text_cost, Made, make, left_life, right_life, join_value, Gives, gives, Outputs, and_gave, Sample, of_constants, of_form, Form, of_join, of_stages, of_side, of_loop, of_initialized, of_replaced, of_followed, of_transformed, Next, goes_on, stops, and_looped}
 use Rattle.sf_mean.proofs.Once.{once, onces, once_loops}
 use Rattle.sf_state.specs.declared.state.Wrap.{Wrap}
 use Rattle.sf_state.specs.declared.state.Wrap.TheVariants.{Followed}
 use Rattle.sf_state.specs.Standing.{AreJoined, as_join, as_pipeline, Wraps, wraps_first, wraps_second, wraps_loop, wraps_initialized, wraps_replaced, wraps_transformed, wraps_followed}
 use Rattle.sf_step.specs.Routing.{left_input, right_input, part_input, wrap_value, kept_after}
-use Rattle.sf_parts.specs.Answering.{Rel}
+use Rattle.sf_step.specs.Answering.{Rel}
 use Rattle.sf_step.proofs.Parts.{Single, single, Over, counted, Then, then_on, then_stop, Changed, with_change, Alike}
 
 -- ## Joins
@@ -32,7 +32,7 @@ right_and FannedOut d x y L ys = refl
 
 abbrev made_in : Made → Evaluated Made → Made
 made_in m (answer n) = n
-made_in m (no_answer x) = m
+made_in m (failed x) = m
 
 module _ (n : Network) where
   pub single_gives : (P : Process) (L : Life) → Single (Gives n P L)
@@ -59,19 +59,19 @@ module _ (n : Network) where
   JoinRel j f g e s L ys = Over (Then (Gives n (closure f e) (left_life j (s ∷ L))) (join_value j) (text_cost g) (λ y. Gives n (closure g e) (right_life j (s ∷ L) (y ∷ ys))))
 
   module _ (j : Join) (f g : Term) (e : Environment) (m : Made) (s : Step) (L : Life) (ys : List Data) (O : Outputs n (closure f e) (left_life j L) ys) where
-    next_then : (q : Outcome) {o : Outcome} {k l : Cost} → Gives n (closure f e) (left_life j (s ∷ L)) q k → Next n q g e (right_life j (s ∷ L) (value_in q ∷ ys)) o l
+    next_then : (q : Outcome) {o : Outcome} {k l : Cost} → Gives n (closure f e) (left_life j (s ∷ L)) q k → Next n q g e (right_life j (s ∷ L) (outcome_value q ∷ ys)) o l
         → Then (Gives n (closure f e) (left_life j (s ∷ L))) (join_value j) (text_cost g) (λ y. Gives n (closure g e) (right_life j (s ∷ L) (y ∷ ys))) (combined (join_value j) q o) (both_costs k l)
     next_then (gave y r) G (goes_on H) = then_on G H
     next_then (faulted x) G stops = then_stop G
 
     join_back : (o : Outcome) (k : Cost) → Form n (joined j f g) e m s L o k → JoinRel j f g e s L ys o k
     join_back o k (of_join {ys = zs} {o = q} {o' = q'} {c' = l} O' G N) =
-        counted (next_then q G (subst (λ (ys : List Data). Next n q g e (right_life j (s ∷ L) (value_in q ∷ ys)) q' l) (onces n O' O) N))
+        counted (next_then q G (subst (λ (ys : List Data). Next n q g e (right_life j (s ∷ L) (outcome_value q ∷ ys)) q' l) (onces n O' O) N))
 
   stages_back : (f g : Term) (e : Environment) (m : Made) (s : Step) (L : Life) (ys : List Data) → Outputs n (closure f e) L ys
       → (o : Outcome) (k : Cost) → Form n (staged whole f g) e m s L o k → JoinRel InSequence f g e s L ys o k
   stages_back f g e m s L ys O o k (of_stages {ys = zs} {o = q} {o' = q'} {c' = l} O' G N) =
-      counted (next_then InSequence f g e m s L ys O q G (subst (λ (ys : List Data). Next n q g e (relay (s ∷ L) (value_in q ∷ ys)) q' l) (onces n O' O) N))
+      counted (next_then InSequence f g e m s L ys O q G (subst (λ (ys : List Data). Next n q g e (relay (s ∷ L) (outcome_value q ∷ ys)) q' l) (onces n O' O) N))
 
   join_to : {j : Join} {f g t : Term} (e : Environment) (m : Made) (s : Step) (L : Life) (ys : List Data) → AreJoined j f g t → Outputs n (closure f e) (left_life j L) ys
       → (o : Outcome) (k : Cost) → JoinRel j f g e s L ys o k → Form n t e m s L o k

@@ -1,6 +1,10 @@
+pub mod Costs
+pub mod First
+pub mod Primitives
+pub mod Rows
 pub mod Parts
 pub mod Forms
-pub mod Turning
+pub mod SwitchTurns
 pub mod Exits
 pub mod Stages
 pub mod Members
@@ -9,4 +13,4 @@ pub mod Turns
 pub mod Editing
 pub mod Switches
 pub mod Recurring
-pub mod Keeping
+pub mod Continuation

@@ -7,47 +7,46 @@ use Rattle.std.specs.Prelude.{IsErr}
 use Rattle.std.specs.declared.alloc.Global.{Global}
 use Rattle.sf_value.specs.declared.value.Value.{Value}
 use Rattle.sf_value.specs.Values.{KeyData, Data, table}
-use Rattle.sf_value.specs.View.{rows_under}
+use Rattle.sf_value.specs.View.{keyed_rows}
 use Rattle.sf_value.specs.declared.fault.Fault.{Fault}
 use Rattle.sf_value.specs.declared.fault.Fault.TheVariants.{Memory}
 use Rattle.sf_func.specs.Registries.{AnswersByName}
 use Rattle.sf_term.specs.Trees.{Collection, gathered}
-use Rattle.sf_mean.specs.Collections.{with_row}
+use Rattle.sf_mean.specs.Collections.{leading_row}
 use Rattle.sf_mean.specs.Lives.{Step, step, Life, Process, frozen, Environment, Members, member, first_input}
 use Rattle.sf_mean.specs.Meaning.{Network, Outcome, gave, faulted, combined, Cost, no_cost, both_costs, members_made, Gives, gives, and_gave, of_form, Form, of_gathered, Each, no_more, one_more, Others, others_go_on, others_stop, Tables, and_table}
 use Rattle.sf_mean.proofs.Once.{once_each}
 use Rattle.sf_law.specs.declared.plan.Plan.{Plan}
 use Rattle.sf_law.specs.Arena.{network_of_plan}
 use Rattle.sf_state.specs.declared.state.State.{State}
-use Rattle.sf_state.specs.declared.state.State.TheVariants.{Unborn', Primitive as SPrimitive, Live' as Alive', Switch' as Watching', Keeping', Gathering', Frozen'}
-use Rattle.sf_parts.specs.Beginning.{is_awake}
+use Rattle.sf_state.specs.declared.state.State.TheVariants.{Unborn', Primitive as SPrimitive, Live' as Alive', Switch' as Watching', Continuation', Gathering', Frozen'}
+use Rattle.sf_begin.specs.Beginning.{is_awake}
 use Rattle.sf_state.specs.declared.state.Live.{Live, items_hidden-the_row-State-0 as states_are}
 use Rattle.sf_state.specs.declared.state.Live.TheVariants.{Gathered as LGathered}
 use Rattle.sf_state.specs.declared.state.Gathered.{Gathered}
-use Rattle.sf_state.specs.Held.{held_in}
-use Rattle.sf_state.specs.Standing.{Stands, Ready, ready, lives_gathered, gathers, settles, Gathers, EachStands, none_stands, one_stands, StandsAmong, as_it_stands, as_it_stood, AllFollow}
-use Rattle.sf_state.proofs.Copies.{each_follows, held_shown, members_live, IsFresh, HasLived, primitive_lived, alive_lived, watching_lived, keeping_lived, gathering_lived, unborn_fresh, frozen_fresh}
-use Rattle.sf_parts.specs.declared.meter.Meter.{Meter}
-use Rattle.sf_parts.specs.Meters.{entered_of, height_of}
-use Rattle.sf_parts.specs.Answering.{Rel, Ticks, StopsFor, memory, Answers, answers, fails, LiveSteps, left_or}
+use Rattle.sf_state.specs.Held.{gathered_holding}
+use Rattle.sf_state.specs.Standing.{Stands, Ready, ready, lives_gathered, gathers, settles, Gathers, EachStands, none_stands, one_stands, StandsAmong, as_it_stands, as_it_stood, AllFollow, keys_in}
+use Rattle.sf_state.proofs.Copies.{each_follows, held_shown, members_live, IsFresh, HasLived, primitive_lived, alive_lived, watching_lived, continuing_lived, gathering_lived, unborn_fresh, frozen_fresh}
+use Rattle.sf_meter.specs.declared.meter.Meter.{Meter}
+use Rattle.sf_meter.specs.Meters.{entered_of, meter_height, Ticks, left_or}
+use Rattle.sf_step.specs.Answering.{Rel, StopsFor, memory, Answers, answers, fails, LiveSteps}
 use Rattle.sf_step.specs.Sampling.{PartSteps, StateSteps, MemberSteps, EachSteps, MembersSteps, left_with}
-use Rattle.sf_step.proofs.Turning.{gone_on}
+use Rattle.sf_step.proofs.SwitchTurns.{gone_on}
 use Rattle.sf_step.proofs.Parts.{Over, counted, single, spent_within, Then, then_on, then_stop, Alike, over_spent, both_spent, fails_alike, over_fails, then_fails, rest_fails, answered, failed}
 use Rattle.sf_step.proofs.Forms.{single_gives, form_alike}
-use Rattle.sf_state.specs.Standing.{keys_in}
 
 module _ (n : Network) where
   -- ## Members are the first of them, and then the others
 
   abbrev MembersRel : KeyData → Process → Members → Step → Life → Rel
-  MembersRel k P ms s L = Then (Gives n P (s ∷ L)) (with_row k) no_cost (λ y. Each n ms s L)
+  MembersRel k P ms s L = Then (Gives n P (s ∷ L)) (leading_row k) no_cost (λ y. Each n ms s L)
 
   module _ (k : KeyData) (P : Process) (ms : Members) (s : Step) (L : Life) where
     members_to : (o : Outcome) (c : Cost) → MembersRel k P ms s L o c → Each n (member k P ms) s L o c
     members_to o c (then_on G H) = one_more G (others_go_on H)
     members_to o c (then_stop G) = one_more G others_stop
 
-    then_others : (q : Outcome) {o : Outcome} {c l : Cost} → Gives n P (s ∷ L) q c → Others n q ms s L o l → MembersRel k P ms s L (combined (with_row k) q o) (both_costs c l)
+    then_others : (q : Outcome) {o : Outcome} {c l : Cost} → Gives n P (s ∷ L) q c → Others n q ms s L o l → MembersRel k P ms s L (combined (leading_row k) q o) (both_costs c l)
     then_others (gave y r) G (others_go_on H) = then_on G H
     then_others (faulted x) G others_stop = then_stop G
 
@@ -84,7 +83,7 @@ module _ (φ : AnswersByName) (p : Plan) (w : Option ℕ) where
   nobody_steps d x n inside low ms L none_stands = answers no_more (record { entered = omega arith; high = omega (arith, low); recorded = sym (append-nil _) }) none_stands
 
   -- memory runs out before the next one
-  pub memory_now : (bs : List State) (d : ℕ) (x : Data) (n n2 : Meter) (inside : ℕ) → entered_of n2 ≡ entered_of n → height_of n2 ≡ height_of n → EachAt bs d x (Err Memory) n n2 inside
+  pub memory_now : (bs : List State) (d : ℕ) (x : Data) (n n2 : Meter) (inside : ℕ) → entered_of n2 ≡ entered_of n → meter_height n2 ≡ meter_height n → EachAt bs d x (Err Memory) n n2 inside
   memory_now bs d x n n2 inside en hn low ms L S = fails (memory (record { most = λ o k G. record { entered = omega (arith, en); high = omega (arith, hn) } }))
 
   -- a want of memory is the fault, in the list that was stepped
@@ -146,7 +145,7 @@ module _ (φ : AnswersByName) (p : Plan) (w : Option ℕ) where
 
   -- memory runs out between members, or after them
   pub each_memory : (all : List State) (d : ℕ) (x : Data) (m : Meter) (done : List State) (ys : List Data) (left : List State) (n n2 : Meter) (inside : ℕ) → Continues all d x m done ys left n inside
-      → entered_of n2 ≡ entered_of n → height_of n2 ≡ height_of n → EachAt all d x (Err Memory) m n2 inside
+      → entered_of n2 ≡ entered_of n → meter_height n2 ≡ meter_height n → EachAt all d x (Err Memory) m n2 inside
   each_memory all d x m done ys left n n2 inside c en hn = c (Err Memory) n2 (memory_now left d x n n2 inside en hn)
 
   -- all are done
@@ -171,7 +170,7 @@ module _ (φ : AnswersByName) (p : Plan) where
   list_alike fs h low ms L S = h low ms L (each_follows φ p fs S)
 
   -- memory runs out after they have been stepped
-  pub late_list : {w : Option ℕ} {bs cs : List State} {ys : List Data} {s : Step} {f : Fault} {m n n2 : Meter} {inside : ℕ} → EachSteps φ p w bs s (Ok (cs, ys)) m n inside → entered_of n2 ≡ entered_of n → height_of n2 ≡ height_of n → f ≡ Memory
+  pub late_list : {w : Option ℕ} {bs cs : List State} {ys : List Data} {s : Step} {f : Fault} {m n n2 : Meter} {inside : ℕ} → EachSteps φ p w bs s (Ok (cs, ys)) m n inside → entered_of n2 ≡ entered_of n → meter_height n2 ≡ meter_height n → f ≡ Memory
       → EachSteps φ p w bs s (Err f) m n2 inside
   late_list {s = s} {m = m} {n2 = n2} {inside = inside} hs en hn e low ms L S =
       let one = answered (hs low ms L S) in
@@ -184,7 +183,7 @@ module _ (φ : AnswersByName) (p : Plan) where
   awake_lived (SPrimitive i) e = primitive_lived φ p i
   awake_lived (Alive' names at l) e = alive_lived φ p names l
   awake_lived (Watching' names at w a q b) e = watching_lived φ p names (record { form = w; running = a; pattern = q; body = b })
-  awake_lived (Keeping' names at w f a x o k q b) e = keeping_lived φ p names (record { shown = w; first = f; source = a; before = x; observer = o; name = k; pattern = q; body = b })
+  awake_lived (Continuation' names at w f a x o k q b) e = continuing_lived φ p names (record { shown = w; first = f; source = a; before = x; observer = o; name = k; pattern = q; body = b })
   awake_lived (Gathering' names at g) e = gathering_lived φ p names g
   awake_lived (Frozen' at d names k) e = absurd cc
 
@@ -193,7 +192,7 @@ module _ (φ : AnswersByName) (p : Plan) where
   asleep_fresh (SPrimitive i) e = absurd cc
   asleep_fresh (Alive' names at l) e = absurd cc
   asleep_fresh (Watching' names at w a q b) e = absurd cc
-  asleep_fresh (Keeping' names at w f a x o k q b) e = absurd cc
+  asleep_fresh (Continuation' names at w f a x o k q b) e = absurd cc
   asleep_fresh (Gathering' names at g) e = absurd cc
   asleep_fresh (Frozen' at d names k) e = frozen_fresh φ p d names k
 
@@ -218,20 +217,20 @@ module _ (φ : AnswersByName) (p : Plan) where
       by (s ∷ M) A e = subst (λ P. PartSteps φ p P [] (step d x) r m n inside) (sym e) (gone_on φ p (h Q (s ∷ M) A))
 
   -- a collection steps as its states do
-  pub members_step : (g h : Gathered) (d : ℕ) (x : Data) (m n : Meter) (inside : ℕ) (ys : List Data) (y : Data) → y ≡ table (rows_under g.keys.value ys) → h.keys.value ≡ g.keys.value → h.wait ≡ None
+  pub members_step : (g h : Gathered) (d : ℕ) (x : Data) (m n : Meter) (inside : ℕ) (ys : List Data) (y : Data) → y ≡ table (keyed_rows g.keys.value ys) → h.keys.value ≡ g.keys.value → h.wait ≡ None
       → EachSteps φ p g.wait g.states.value.items (step d x) (Ok (h.states.value.items, ys)) m n inside → MembersSteps φ p g (step d x) (Ok (h, y)) m n inside
   members_step g h d x m n inside ys y same keys runs hs low ms L (gathers K S) =
       let one = answered (hs low ms L S) in
-      let value : y ≡ table (rows_under (keys_in ms) ys) = same ∙ ap (λ ks. table (rows_under ks ys)) K in
+      let value : y ≡ table (keyed_rows (keys_in ms) ys) = same ∙ ap (λ ks. table (keyed_rows ks ys)) K in
       answers (subst (λ v. Each (network_of_plan φ p) ms (step d x) L (gave v one.r) one.k) (sym value) one.given) one.spent
       (gathers (keys ∙ K) (subst (λ v. EachStands φ p v h.states.value.items ms (step d x ∷ L)) (sym runs) one.holds))
 
   pub members_fail : (g : Gathered) (d : ℕ) (x : Data) (m n : Meter) (inside : ℕ) (f : Fault) → EachSteps φ p g.wait g.states.value.items (step d x) (Err f) m n inside
-      → inside ≤ height_of m → (ms : Members) (L : Life) → Gathers φ p (held_in g) ms L → StopsFor (Each (network_of_plan φ p) ms (step d x) L) f m n inside
+      → inside ≤ meter_height m → (ms : Members) (L : Life) → Gathers φ p (gathered_holding g) ms L → StopsFor (Each (network_of_plan φ p) ms (step d x) L) f m n inside
   members_fail g d x m n inside f hs low ms L (gathers K S) = failed (hs low ms L S)
 
   -- memory runs out for their table
-  pub members_end : (g : Gathered) (d : ℕ) (x : Data) (m n n2 : Meter) (inside : ℕ) (cs : List State) (ys : List Data) {f : Fault} → f ≡ Memory → entered_of n2 ≡ entered_of n → height_of n2 ≡ height_of n
+  pub members_end : (g : Gathered) (d : ℕ) (x : Data) (m n n2 : Meter) (inside : ℕ) (cs : List State) (ys : List Data) {f : Fault} → f ≡ Memory → entered_of n2 ≡ entered_of n → meter_height n2 ≡ meter_height n
       → EachSteps φ p g.wait g.states.value.items (step d x) (Ok (cs, ys)) m n inside → MembersSteps φ p g (step d x) (Err f) m n2 inside
   members_end g d x m n n2 inside cs ys e en hn hs low ms L (gathers K S) =
       let one = answered (hs low ms L S) in
@@ -239,7 +238,7 @@ module _ (φ : AnswersByName) (p : Plan) where
       fails (subst (λ (f : Fault). StopsFor (Each (network_of_plan φ p) ms (step d x) L) f m n2 inside) (sym e) (memory (spent_within single_each one.given one.spent en hn)))
 
   -- the height counts the nodes around
-  pub ticked_low : {m n : Meter} {depth inside : ℕ} → Ticks m n depth inside → inside ≤ height_of n
+  pub ticked_low : {m n : Meter} {depth inside : ℕ} → Ticks m n depth inside → inside ≤ meter_height n
   ticked_low T = let h = T.high in omega (arith, h)
 
   module _ (g : Gathered) (d : ℕ) (x : Data) (n n' : Meter) (inside : ℕ) where

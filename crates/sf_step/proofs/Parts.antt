@@ -6,10 +6,10 @@ use Rattle.sf_value.specs.declared.value.Pair.{Pair}
 use Rattle.sf_value.specs.declared.fault.ValueFault.{ValueFault}
 use Rattle.sf_value.specs.declared.fault.Fault.{Fault}
 use Rattle.sf_expr.specs.Evaluation.{Evaluated}
-use Rattle.sf_mean.specs.Meaning.{Readings, Outcome, gave, faulted, answered_by, combined, value_in, Cost, count, height, both_costs, over}
-use Rattle.sf_parts.specs.declared.meter.Meter.{Meter}
-use Rattle.sf_parts.specs.Meters.{entered_of, height_of, readings}
-use Rattle.sf_parts.specs.Answering.{Rel, Ticks, Spent, AtMost, Within, StopsFor, faults, large, memory, Answers, answers, fails, left_or}
+use Rattle.sf_mean.specs.Meaning.{Readings, Outcome, gave, faulted, answered_by, combined, outcome_value, Cost, count, height, both_costs, over}
+use Rattle.sf_meter.specs.declared.meter.Meter.{Meter}
+use Rattle.sf_meter.specs.Meters.{entered_of, meter_height, readings, Ticks, left_or}
+use Rattle.sf_step.specs.Answering.{Rel, Spent, AtMost, Within, StopsFor, faults, large, memory, Answers, answers, fails}
 
 -- one outcome at most
 pub data Single (R : Rel) : Type 0 where
@@ -26,7 +26,7 @@ pub data Then (R : Rel) (f : Data → Data → Data) (stop : Cost) (S : Data →
 
 -- a part, with what is made of its value: another one, or a fault
 pub data Changed (f : Data → Evaluated Data) (R : Rel) : Outcome → Cost → Type 0 where
-  with_change : {o : Outcome} {k : Cost} → R o k → Changed f R (answered_by (f (value_in o)) o) k
+  with_change : {o : Outcome} {k : Cost} → R o k → Changed f R (answered_by (f (outcome_value o)) o) k
 
 -- the two relations have the same outcomes
 pub record Alike (R S : Rel) : Type 0 where
@@ -128,7 +128,7 @@ module _ {R : Rel} {g : Data → Data → Data} {stop : Cost} (S : Data → Rel)
       go : (o : Outcome) (k : Cost) → Then R g stop S o k → AtMost m n' depth k
       go o k (then_on {y = z} {o = o'} {k = k'} {l = l} G H) =
           let e = same_once u G G-one in
-          subst (λ (k : Cost). AtMost m n' depth (both_costs k l)) (sym e.1) (both_most s (w.most o' l (subst (λ v. S v o' l) (ap value_in e.0) H)))
+          subst (λ (k : Cost). AtMost m n' depth (both_costs k l)) (sym e.1) (both_most s (w.most o' l (subst (λ v. S v o' l) (ap outcome_value e.0) H)))
       go o k (then_stop G) = let e = (same_once u G G-one).0 in cc
 
   pub rest_fails : {f : Fault} {m n n' : Meter} {depth : ℕ} → Spent m n depth k1 r → StopsFor (S y) f n n' depth → StopsFor (Then R g stop S) f m n' depth
@@ -139,12 +139,12 @@ module _ {R : Rel} {g : Data → Data → Data} {stop : Cost} (S : Data → Rel)
       go o k (then_on {y = z} {o = o'} {l = l} G H) a b =
           let e = same_once u G G-one in
           let c = ap count e.1 in let d = ap height e.1 in let i = s.entered in
-          h o' l (subst (λ v. S v o' l) (ap value_in e.0) H) (omega arith) (omega arith)
+          h o' l (subst (λ v. S v o' l) (ap outcome_value e.0) H) (omega arith) (omega arith)
       go o k (then_stop G) a b = let e = (same_once u G G-one).0 in cc
   rest_fails s (memory w) = memory (rest_within s w)
 
 -- a value's cost is the one that there is, also where no more is counted after it
-pub spent_within : {R : Rel} {o : Outcome} {k : Cost} {r : Readings} {m n n' : Meter} {depth : ℕ} → Single R → R o k → Spent m n depth k r → entered_of n' ≡ entered_of n → height_of n' ≡ height_of n → Within R m n' depth
+pub spent_within : {R : Rel} {o : Outcome} {k : Cost} {r : Readings} {m n n' : Meter} {depth : ℕ} → Single R → R o k → Spent m n depth k r → entered_of n' ≡ entered_of n → meter_height n' ≡ meter_height n → Within R m n' depth
 spent_within {m = m} {n' = n'} {depth = depth} u G s en hn =
     let c = s.entered in let d = s.high in
     record { most = λ p l H. subst (λ (k : Cost). AtMost m n' depth k) (sym (same_once u H G).1) (record { entered = omega arith; high = omega arith }) }

@@ -5,7 +5,7 @@ use Rattle.sf_value.specs.declared.fault.Fault.{Fault}
 use Rattle.sf_func.specs.Registries.{AnswersByName}
 use Rattle.sf_expr.specs.Expressions.{Pattern}
 use Rattle.sf_expr.specs.Patterns.{pattern_of}
-use Rattle.sf_expr.specs.Arena.{placed_at}
+use Rattle.sf_expr.specs.Arena.{stored_pattern}
 use Rattle.sf_term.specs.declared.form.Observation.{Observation}
 use Rattle.sf_term.specs.declared.form.Switching.TheVariants.{Recurring}
 use Rattle.sf_term.specs.Trees.{Term, switching}
@@ -17,9 +17,9 @@ use Rattle.sf_state.specs.declared.state.State.{State}
 use Rattle.sf_state.specs.declared.state.Switch.{Switch}
 use Rattle.sf_state.specs.declared.env.Env.{Env}
 use Rattle.sf_state.specs.Standing.{IsNames, Stands, Waits, waits_so, recurs_so}
-use Rattle.sf_parts.specs.declared.meter.Meter.{Meter}
-use Rattle.sf_parts.specs.Meters.{entered_of, height_of}
-use Rattle.sf_parts.specs.Answering.{Rel, Ticks, Within, StopsFor, answers, fails, left_or}
+use Rattle.sf_meter.specs.declared.meter.Meter.{Meter}
+use Rattle.sf_meter.specs.Meters.{entered_of, meter_height, Ticks, left_or}
+use Rattle.sf_step.specs.Answering.{Rel, Within, StopsFor, answers, fails}
 use Rattle.sf_step.specs.Sampling.{StateSteps, SwitchSteps}
 use Rattle.sf_step.proofs.Parts.{Over, counted, Then, then_on, then_stop, Alike, over_spent, both_spent, alike_within, over_within, then_within, fails_alike, over_fails, then_fails, rest_fails, spent_within, answered, failed}
 use Rattle.sf_step.proofs.Forms.{single_gives, form_alike}
@@ -64,7 +64,7 @@ module _ (φ : AnswersByName) (p : Plan) where
 
     module _ (a : State) (y : Data) (hs : StateSteps φ p k.running (step d i) (Ok (a, y)) n n1 inside) where
       -- memory runs out after what runs was stepped
-      pub run_memory : (n2 : Meter) → entered_of n2 ≡ entered_of n1 → height_of n2 ≡ height_of n1
+      pub run_memory : (n2 : Meter) → entered_of n2 ≡ entered_of n1 → meter_height n2 ≡ meter_height n1
           → (m : Meter) (depth : ℕ) → Ticks m n depth inside → (t : Term) (e : Environment) (L : Life) → IsNames φ p names e → Waits φ p k (closure t e) L → Within (Gives net (closure t e) (step d x ∷ L)) m n2 depth
       run_memory n2 en hn m depth t T e L N (waits_so own S O A) = absurd (not_recurring own form)
       run_memory n2 en hn m depth t T e L N (recurs_so own O A) =
@@ -77,24 +77,24 @@ module _ (φ : AnswersByName) (p : Plan) where
       runs_on none k' ek m depth t T e L N (waits_so own S O A) = absurd (not_recurring own form)
       runs_on none k' ek m depth t T e L N (recurs_so {w = h} {t = first} own O A) =
           let one = answered (on_input refl hs _ _ A) in
-          let B = body_of (pattern_of (placed_at (plan_expressions p) k.pattern)) (plan_tree p k.body) e in
+          let B = body_of (pattern_of (stored_pattern (plan_expressions p) k.pattern)) (plan_tree p k.body) e in
           let u = plan_tree p k.body in
-          let F : Form net (switching (Recurring h) first (pattern_of (placed_at (plan_expressions p) k.pattern)) u) e nothing_made (step d x) L (gave y one.r) (over (both_costs one.k no_cost)) =
+          let F : Form net (switching (Recurring h) first (pattern_of (stored_pattern (plan_expressions p) k.pattern)) u) e nothing_made (step d x) L (gave y one.r) (over (both_costs one.k no_cost)) =
           of_recurring one.given (subst (λ q. Fires net h B (without_event (step d x)) (gave y one.r) q (gave y one.r) no_cost) (sym none) no_event_yet) in
           let G = of_form refl F in
           let lives = subst (λ q. Stands φ p a (what_runs (closure first e) B (or_earlier q (last_event L))) (with_inputs first_of (step d x ∷ kept_before q (since_event L)))) (sym none) one.holds in
           answers (gives O G) (over_spent t (no_more_spent one.spent))
-          (subst (λ (k' : Switch). Waits φ p k' (closure (switching (Recurring h) first (pattern_of (placed_at (plan_expressions p) k.pattern)) u) e) (step d x ∷ L)) (sym ek) (recurs_so own (and_gave O G) lives))
+          (subst (λ (k' : Switch). Waits φ p k' (closure (switching (Recurring h) first (pattern_of (stored_pattern (plan_expressions p) k.pattern)) u) e) (step d x ∷ L)) (sym ek) (recurs_so own (and_gave O G) lives))
 
       module _ (v : Data) (some : event_beside (step d x) ≡ Some v) (b0 : State) (j : Data) (again : j ≡ i)
-          (ha : (e : Environment) → IsNames φ p names e → Stands φ p b0 (body_of (pattern_of (placed_at (plan_expressions p) k.pattern)) (plan_tree p k.body) e v) []) (n2 : Meter) where
+          (ha : (e : Environment) → IsNames φ p names e → Stands φ p b0 (body_of (pattern_of (stored_pattern (plan_expressions p) k.pattern)) (plan_tree p k.body) e v) []) (n2 : Meter) where
         -- the body fails
         pub new_fails : (f : Fault) → StateSteps φ p b0 (step d j) (Err f) n1 n2 inside
             → (m : Meter) (depth : ℕ) → Ticks m n depth inside → (t : Term) (e : Environment) (L : Life) → IsNames φ p names e → Waits φ p k (closure t e) L → StopsFor (Gives net (closure t e) (step d x ∷ L)) f m n2 depth
         new_fails f hb m depth t T e L N (waits_so own S O A) = absurd (not_recurring own form)
         new_fails f hb m depth t T e L N (recurs_so own O A) =
             let one = answered (on_input refl hs _ _ A) in
-            let B = body_of (pattern_of (placed_at (plan_expressions p) k.pattern)) (plan_tree p k.body) e in
+            let B = body_of (pattern_of (stored_pattern (plan_expressions p) k.pattern)) (plan_tree p k.body) e in
             let H = fails_alike (way_alike φ p B (without_event (step d x)) y v (event_beside (step d x)) some) (failed (on_input again hb _ [] (ha e N))) in
             fails_alike (form_alike net (step d x) L refl O) (fails_alike recurring_alike (over_fails t (rest_fails (λ z. Beside φ p B (without_event (step d x)) z (event_beside (step d x))) (single_gives net _ _) one.given one.spent H)))
 
@@ -105,7 +105,7 @@ module _ (φ : AnswersByName) (p : Plan) where
         new_runs b z u eu k' ek hb m depth t T e L N (recurs_so {w = h} {t = first} own O A) =
             let one = answered (on_input refl hs _ _ A) in
             let two = answered (on_input again hb _ [] (ha e N)) in
-            let q = pattern_of (placed_at (plan_expressions p) k.pattern) in
+            let q = pattern_of (stored_pattern (plan_expressions p) k.pattern) in
             let B = body_of q (plan_tree p k.body) e in
             let c = over (both_costs one.k two.k) in
             let r = one.r ++ two.r in

@@ -7,33 +7,33 @@ use Rattle.sf_func.specs.Registries.{AnswersByName}
 use Rattle.sf_expr.specs.Expressions.{Pattern}
 use Rattle.sf_expr.specs.Evaluation.{answer}
 use Rattle.sf_expr.specs.Patterns.{pattern_of}
-use Rattle.sf_expr.specs.Arena.{placed_at, name_at}
+use Rattle.sf_expr.specs.Arena.{stored_pattern, name_at}
 use Rattle.sf_term.specs.declared.form.Observation.{Observation}
 use Rattle.sf_term.specs.Trees.{Term, Collection, releasing}
 use Rattle.sf_mean.specs.Lives.{Step, step, Life, closure, Members, each_frozen, collected, bind, Environment, observed_life}
 use Rattle.sf_mean.specs.Formulas.{occurring}
 use Rattle.sf_mean.specs.Collections.{collect}
-use Rattle.sf_mean.specs.Meaning.{Network, Outcome, gave, faulted, combined, value_in, Cost, no_cost, both_costs, over, text_cost, members_made, observed_members, body_with_members, waits, stands_after, switched_value, Gives, gives, Outputs, and_gave, of_form, Form, of_releasing, Next, goes_on, stops, Sees, by_members_observer, Since, watched, while_waiting, after_value, Fires, no_event_yet, event_now, Tables, and_table, Each}
+use Rattle.sf_mean.specs.Meaning.{Network, Outcome, gave, faulted, combined, outcome_value, Cost, no_cost, both_costs, over, text_cost, members_made, observed_members, body_with_members, waits, stands_after, switched_value, Gives, gives, Outputs, and_gave, of_form, Form, of_releasing, Next, goes_on, stops, Sees, by_members_observer, Since, watched, while_waiting, after_value, Fires, no_event_yet, event_now, Tables, and_table, Each}
 use Rattle.sf_mean.proofs.Once.{once_since, once_sees, once_tables, once_each}
 use Rattle.sf_law.specs.declared.plan.Plan.{Plan}
 use Rattle.sf_law.specs.Arena.{plan_tree, plan_expressions, network_of_plan}
 use Rattle.sf_state.specs.declared.state.State.{State}
 use Rattle.sf_state.specs.declared.state.Live.{items_hidden-the_row-State-0 as states_are}
 use Rattle.sf_state.specs.declared.state.Gathered.{Gathered}
-use Rattle.sf_state.specs.Held.{held_in}
+use Rattle.sf_state.specs.Held.{gathered_holding}
 use Rattle.sf_state.proofs.Copies.{held_shown, held_hidden}
 use Rattle.sf_state.specs.declared.state.Gathering.{Gathering}
 use Rattle.sf_state.specs.declared.state.Gathering.TheVariants.{Releasing}
-use Rattle.sf_state.specs.declared.state.Releasing.{Releasing as ReleasingNode}
+use Rattle.sf_state.specs.declared.state.Releasing as releasing_nodes
 use Rattle.sf_state.specs.declared.env.Env.{Env}
 use Rattle.sf_state.specs.Standing.{IsNames, released_to, Stands, took_over, Gathers, WaitsGathered, releases_so}
-use Rattle.sf_parts.specs.declared.meter.Meter.{Meter}
-use Rattle.sf_parts.specs.Meters.{entered_of, height_of}
-use Rattle.sf_parts.specs.Answering.{Rel, Ticks, Within, StopsFor, answers}
+use Rattle.sf_meter.specs.declared.meter.Meter.{Meter}
+use Rattle.sf_meter.specs.Meters.{entered_of, meter_height, Ticks}
+use Rattle.sf_step.specs.Answering.{Rel, Within, StopsFor, answers}
 use Rattle.sf_step.specs.Sampling.{StateSteps, MembersSteps, GatheringSteps}
 use Rattle.sf_step.proofs.Parts.{Single, single, Then, then_on, then_stop, Alike, over_spent, both_spent, alike_within, over_within, then_within, fails_alike, over_fails, then_fails, rest_fails, spent_within, answered, failed}
 use Rattle.sf_step.proofs.Forms.{form_alike}
-use Rattle.sf_step.proofs.Turning.{as_members}
+use Rattle.sf_step.proofs.SwitchTurns.{as_members}
 use Rattle.sf_step.proofs.Members.{ticked_low}
 use Rattle.sf_step.proofs.Switches.{no_more_spent, Beside, way_alike, after_event, SeenRel, seen_alike, turn_to, turn_back}
 
@@ -53,13 +53,13 @@ module _ (φ : AnswersByName) (p : Plan) where
     both_to o k (then_on G H) = by_members_observer Y G (goes_on H)
     both_to o k (then_stop G) = by_members_observer Y G stops
 
-    by_next : (q : Outcome) {o : Outcome} {k l : Cost} → Each net ms s L q k → Next net q r e (observed_life (s ∷ L) (value_in q ∷ ys)) o l → BothRel ms r e s L ys (combined pair q o) (both_costs k l)
+    by_next : (q : Outcome) {o : Outcome} {k l : Cost} → Each net ms s L q k → Next net q r e (observed_life (s ∷ L) (outcome_value q ∷ ys)) o l → BothRel ms r e s L ys (combined pair q o) (both_costs k l)
     by_next (gave y w) G (goes_on H) = then_on G H
     by_next (faulted x) G stops = then_stop G
 
     both_back : (o : Outcome) (k : Cost) → Sees net (observed_members ms r e) s L o k → BothRel ms r e s L ys o k
     both_back o k (by_members_observer {o = q} {o' = a} {c' = l} Y' G N) =
-        by_next q G (subst (λ zs. Next net q r e (observed_life (s ∷ L) (value_in q ∷ zs)) a l) (once_tables net Y' Y) N)
+        by_next q G (subst (λ zs. Next net q r e (observed_life (s ∷ L) (outcome_value q ∷ zs)) a l) (once_tables net Y' Y) N)
 
     both_alike : Alike (BothRel ms r e s L ys) (Sees net (observed_members ms r e) s L)
     both_alike = record { to = both_to; back = both_back }
@@ -78,12 +78,12 @@ module _ (φ : AnswersByName) (p : Plan) where
     releasing_alike = record { to = seen_to; back = seen_back }
 
   -- members step as those that stand for all that they stand for
-  pub run_alike : (a b : Gathered) {s : Step} {r : Result (Gathered × Data) Fault} {m n : Meter} {inside : ℕ} → ((ms : Members) (L : Life) → Gathers φ p (held_in a) ms L → Gathers φ p (held_in b) ms L) → MembersSteps φ p b s r m n inside → MembersSteps φ p a s r m n inside
+  pub run_alike : (a b : Gathered) {s : Step} {r : Result (Gathered × Data) Fault} {m n : Meter} {inside : ℕ} → ((ms : Members) (L : Life) → Gathers φ p (gathered_holding a) ms L → Gathers φ p (gathered_holding b) ms L) → MembersSteps φ p b s r m n inside → MembersSteps φ p a s r m n inside
   run_alike a b f h low ms L G = h low ms L (f ms L G)
 
   -- ## A step of members that wait under an observer
 
-  module _ (names : Env) (k : ReleasingNode) (d : ℕ) (x : Data) (n n1 : Meter) (inside : ℕ) where
+  module _ (names : Env) (k : releasing_nodes.Releasing) (d : ℕ) (x : Data) (n n1 : Meter) (inside : ℕ) where
     -- what fails or is counted of its members and its observer is so of it
     part_fails : {i : Collection} {r u : Term} {c : Name} {q : Pattern} {e : Environment} {ms : Members} {L : Life} {ys zs : List Data} {f : Fault} {m n' : Meter} {depth : ℕ} → Ticks m n depth inside
         → collect φ i e ≡ answer ms → Since net (observed_members ms r e) (body_with_members c ms q u e) L waits → Outputs net (closure (releasing k.shown i r c q u) e) L zs → Tables net ms L ys
@@ -103,7 +103,7 @@ module _ (φ : AnswersByName) (p : Plan) where
 
     module _ (a : Gathered) (y : Data) (hs : MembersSteps φ p k.members (step d x) (Ok (a, y)) n n1 inside) where
       -- memory runs out after its members were stepped
-      pub members_memory : (n2 : Meter) → entered_of n2 ≡ entered_of n1 → height_of n2 ≡ height_of n1
+      pub members_memory : (n2 : Meter) → entered_of n2 ≡ entered_of n1 → meter_height n2 ≡ meter_height n1
           → (m : Meter) (depth : ℕ) → Ticks m n depth inside → (t : Term) (e : Environment) (L : Life) → IsNames φ p names e → WaitsGathered φ p (Releasing k) (closure t e) L → Within (Gives net (closure t e) (step d x ∷ L)) m n2 depth
       members_memory n2 en hn m depth T t e L N (releases_so {ms = ms} j S O Y G B) =
           let one = answered (hs (ticked_low φ p T) _ _ (held_shown φ p k.members (states_are k.members.states.value) G)) in
@@ -122,7 +122,7 @@ module _ (φ : AnswersByName) (p : Plan) where
 
         module _ (o : State) (z : Data) (ho : StateSteps φ p k.observer (step d v) (Ok (o, z)) n1 n2 inside) where
           -- memory runs out after its observer was stepped
-          pub sight_memory : (n3 : Meter) → entered_of n3 ≡ entered_of n2 → height_of n3 ≡ height_of n2
+          pub sight_memory : (n3 : Meter) → entered_of n3 ≡ entered_of n2 → meter_height n3 ≡ meter_height n2
               → (m : Meter) (depth : ℕ) → Ticks m n depth inside → (t : Term) (e : Environment) (L : Life) → IsNames φ p names e → WaitsGathered φ p (Releasing k) (closure t e) L → Within (Gives net (closure t e) (step d x ∷ L)) m n3 depth
           sight_memory n3 en hn m depth T t e L N (releases_so j S O Y G B) =
               let one = answered (hs (ticked_low φ p T) _ _ (held_shown φ p k.members (states_are k.members.states.value) G)) in
@@ -130,13 +130,13 @@ module _ (φ : AnswersByName) (p : Plan) where
               part_within T j S O Y (spent_within (single_both (step d x) L Y) (then_on one.given two.given) (both_spent one.spent two.spent) en hn)
 
           -- there is no event
-          pub members_go_on : occurring z ≡ None → (held : Gathered) (k' : ReleasingNode) → k' ≡ record { shown = k.shown; members = a; before = held; observer = o; name = k.name; pattern = k.pattern; body = k.body }
+          pub members_go_on : occurring z ≡ None → (held : Gathered) (k' : releasing_nodes.Releasing) → k' ≡ record { shown = k.shown; members = a; before = held; observer = o; name = k.name; pattern = k.pattern; body = k.body }
               → GatheringSteps φ p names (Releasing k) (step d x) (Ok ((None, Releasing k'), y)) n n2 inside
           members_go_on none held k' ek m depth T t e L N (releases_so {i = i} {r = r} {ms = ms} j S O Y G B) =
               let one = answered (hs (ticked_low φ p T) _ _ (held_shown φ p k.members (states_are k.members.states.value) G)) in
               let two = answered (on_both ho _ _ B) in
               let c = name_at (plan_expressions p) k.name in
-              let q = pattern_of (placed_at (plan_expressions p) k.pattern) in
+              let q = pattern_of (stored_pattern (plan_expressions p) k.pattern) in
               let u = plan_tree p k.body in
               let b = body_with_members c ms q u e in
               let seen : Sees net (observed_members ms r e) (step d x) L (gave (pair y z) (one.r ++ two.r)) (both_costs one.k two.k) = by_members_observer Y one.given (goes_on two.given) in
@@ -144,12 +144,12 @@ module _ (φ : AnswersByName) (p : Plan) where
               of_releasing S (while_waiting seen (after_value (subst (λ i. Fires net k.shown (b (step d x) L) (step d x) (gave y (one.r ++ two.r)) i (gave y (one.r ++ two.r)) no_cost) (sym none) no_event_yet))) in
               let M = of_form (ap (as_members φ p) j) F in
               answers (gives O M) (over_spent T (no_more_spent (both_spent one.spent two.spent)))
-              (subst (λ (k' : ReleasingNode). WaitsGathered φ p (Releasing k') (closure (releasing k.shown i r c q u) e) (step d x ∷ L)) (sym ek)
+              (subst (λ (k' : releasing_nodes.Releasing). WaitsGathered φ p (Releasing k') (closure (releasing k.shown i r c q u) e) (step d x ∷ L)) (sym ek)
               (releases_so j (watched S seen (ap (stands_after b (step d x) L) none)) (and_gave O M) (and_table Y one.given) (held_hidden φ p a (states_are a.states.value) one.holds) two.holds))
 
           module _ (i : Data) (some : occurring z ≡ Some i) (b0 : State)
-              (ha : (e : Environment) (ms : Members) (L : Life) → IsNames φ p names e → Gathers φ p (held_in k.members) ms L
-              → Stands φ p b0 (closure (plan_tree p k.body) (bind (pattern_of (placed_at (plan_expressions p) k.pattern)) i (collected (name_at (plan_expressions p) k.name) (each_frozen ms L d) e))) [])
+              (ha : (e : Environment) (ms : Members) (L : Life) → IsNames φ p names e → Gathers φ p (gathered_holding k.members) ms L
+              → Stands φ p b0 (closure (plan_tree p k.body) (bind (pattern_of (stored_pattern (plan_expressions p) k.pattern)) i (collected (name_at (plan_expressions p) k.name) (each_frozen ms L d) e))) [])
               (j0 : Data) (ej : j0 ≡ x) (n3 : Meter) where
             on_input : {r : Result (State × Data) Fault} → StateSteps φ p b0 (step d j0) r n2 n3 inside → StateSteps φ p b0 (step d x) r n2 n3 inside
             on_input {r} h = subst (λ j. StateSteps φ p b0 (step d j) r n2 n3 inside) ej h
@@ -160,7 +160,7 @@ module _ (φ : AnswersByName) (p : Plan) where
             released_body_fails f hb m depth T t e L N (releases_so {ms = ms} j S O Y G B) =
                 let one = answered (hs (ticked_low φ p T) _ _ (held_shown φ p k.members (states_are k.members.states.value) G)) in
                 let two = answered (on_both ho _ _ B) in
-                let b = body_with_members (name_at (plan_expressions p) k.name) ms (pattern_of (placed_at (plan_expressions p) k.pattern)) (plan_tree p k.body) e (step d x) L in
+                let b = body_with_members (name_at (plan_expressions p) k.name) ms (pattern_of (stored_pattern (plan_expressions p) k.pattern)) (plan_tree p k.body) e (step d x) L in
                 let H = fails_alike (way_alike φ p b (step d x) y i (occurring z) some) (failed (on_input hb _ [] (ha e _ _ N (held_shown φ p k.members (states_are k.members.states.value) G)))) in
                 part_fails T j S O Y (rest_fails (λ y. Beside φ p b (step d x) (first_of y) (occurring (second_of y))) (single_both (step d x) L Y) (then_on one.given two.given) (both_spent one.spent two.spent) H)
 
@@ -172,7 +172,7 @@ module _ (φ : AnswersByName) (p : Plan) where
                 let two = answered (on_both ho _ _ B) in
                 let three = answered (on_input hb _ [] (ha e _ _ N (held_shown φ p k.members (states_are k.members.states.value) G))) in
                 let c = name_at (plan_expressions p) k.name in
-                let q = pattern_of (placed_at (plan_expressions p) k.pattern) in
+                let q = pattern_of (stored_pattern (plan_expressions p) k.pattern) in
                 let u = plan_tree p k.body in
                 let f = body_with_members c ms q u e in
                 let seen : Sees net (observed_members ms r e) (step d x) L (gave (pair y z) (one.r ++ two.r)) (both_costs one.k two.k) = by_members_observer Y one.given (goes_on two.given) in

@@ -1,15 +1,14 @@
 -- Stages that are stepped one after another.
 use Rattle.std.proofs.Common.{◌≡◌, ℕ, ◌+◌, ◌<◌, suc, List, [], ◌∷◌, ◌++◌, length, get_or, set, take, drop, Vec, Result, Ok, Err, refl, sym, ap, ◌∙◌, subst, append_assoc, arith, drop-cons}
 use Rattle.std.specs.declared.alloc.Global.{Global}
-use Rattle.std.proofs.lemmas.List.{drop-set-lt, take_more_set}
+use Rattle.std.proofs.lemmas.List.{drop-set-lt, take_more_set, append-nil}
 use Rattle.std.proofs.Math.Seq.{take-length, drop-length}
-use Rattle.std.proofs.lemmas.List.{append-nil}
 use Rattle.sf_value.specs.Values.{Data}
 use Rattle.sf_value.specs.declared.fault.Fault.{Fault}
 use Rattle.sf_term.specs.declared.form.Join.TheVariants.{InSequence}
 use Rattle.sf_term.specs.Trees.{whole, rest, Term, staged}
 use Rattle.sf_mean.specs.Lives.{Step, step, Life, Process, closure, Environment, first_input, relay}
-use Rattle.sf_mean.specs.Meaning.{Network, Outcome, gave, faulted, combined, value_in, Cost, both_costs, over, text_cost, Made, nothing_made, join_value, Gives, gives, Outputs, not_begun, and_gave, of_form, Form, of_stages, Next, goes_on, stops}
+use Rattle.sf_mean.specs.Meaning.{Network, Outcome, gave, faulted, combined, outcome_value, Cost, both_costs, over, text_cost, Made, nothing_made, join_value, Gives, gives, Outputs, not_begun, and_gave, of_form, Form, of_stages, Next, goes_on, stops}
 use Rattle.sf_mean.proofs.Once.{onces}
 use Rattle.sf_func.specs.Registries.{AnswersByName}
 use Rattle.sf_law.specs.declared.plan.Plan.{Plan}
@@ -17,10 +16,11 @@ use Rattle.sf_law.specs.Arena.{network_of_plan}
 use Rattle.sf_state.specs.declared.state.State.{State}
 use Rattle.sf_state.specs.declared.state.Live.{items_hidden-the_row-State-0}
 use Rattle.sf_state.specs.declared.state.Live.TheVariants.{Pipeline as LPipeline}
-use Rattle.sf_state.specs.Standing.{Stands, itself, took_over, unborn, recalling, recalls, alive, watching, waits_so, recurs_so, keeping_on, keeps_so, gathering_on, releases_so, edits_so, was_frozen, Turned, fired_to, kept_to, released_to, ran, went_on, was_alike, settles, Ready, ready, lives_pipeline, StagesStand, last_stands, stage_stands}
+use Rattle.sf_state.specs.Standing.{Stands, itself, took_over, unborn, recalling, recalls, alive, watching, waits_so, recurs_so, continuing_on, continues_so, gathering_on, releases_so, edits_so, was_frozen, Turned, fired_to, continued_to, released_to, ran, went_on, was_alike, settles, Ready, ready, lives_pipeline, StagesStand, last_stands, stage_stands}
 use Rattle.sf_state.proofs.Copies.{pipeline_lives}
-use Rattle.sf_parts.specs.declared.meter.Meter.{Meter}
-use Rattle.sf_parts.specs.Answering.{Rel, Ticks, StopsFor, Answers, answers, fails, LiveSteps}
+use Rattle.sf_meter.specs.declared.meter.Meter.{Meter}
+use Rattle.sf_meter.specs.Meters.{Ticks}
+use Rattle.sf_step.specs.Answering.{Rel, StopsFor, Answers, answers, fails, LiveSteps}
 use Rattle.sf_step.specs.Sampling.{StateSteps}
 use Rattle.sf_step.proofs.Parts.{Over, counted, Then, then_on, then_stop, Alike, over_spent, both_spent, fails_alike, over_fails, then_fails, rest_fails, answered, failed}
 use Rattle.sf_step.proofs.Forms.{single_gives, gave_outputs, form_alike, gives_form}
@@ -41,13 +41,13 @@ module _ (n : Network) where
     rest_to o k (then_on G H) = of_stages O G (goes_on H)
     rest_to o k (then_stop G) = of_stages O G stops
 
-    rest_next : (q : Outcome) {o : Outcome} {k l : Cost} → Gives n (closure f e) (s ∷ L) q k → Next n q g e (relay (s ∷ L) (value_in q ∷ ys)) o l → RestRel f g e s L ys (combined (join_value InSequence) q o) (both_costs k l)
+    rest_next : (q : Outcome) {o : Outcome} {k l : Cost} → Gives n (closure f e) (s ∷ L) q k → Next n q g e (relay (s ∷ L) (outcome_value q ∷ ys)) o l → RestRel f g e s L ys (combined (join_value InSequence) q o) (both_costs k l)
     rest_next (gave y r) G (goes_on H) = then_on G H
     rest_next (faulted x) G stops = then_stop G
 
     rest_back : (o : Outcome) (k : Cost) → Form n (staged rest f g) e m s L o k → RestRel f g e s L ys o k
     rest_back o k (of_stages {ys = zs} {o = q} {o' = q'} {c' = l} O' G N) =
-        rest_next q G (subst (λ (ys : List Data). Next n q g e (relay (s ∷ L) (value_in q ∷ ys)) q' l) (onces n O' O) N)
+        rest_next q G (subst (λ (ys : List Data). Next n q g e (relay (s ∷ L) (outcome_value q ∷ ys)) q' l) (onces n O' O) N)
 
     rest_form_alike : Alike (RestRel f g e s L ys) (Form n (staged rest f g) e m s L)
     rest_form_alike = record { to = rest_to; back = rest_back }
@@ -88,7 +88,7 @@ module _ (φ : AnswersByName) (p : Plan) where
 
   turned_gave : {P Q : Process} {L M : Life} → Turned net P L Q M → Gave P L
   turned_gave (fired_to S O) = (_, O)
-  turned_gave (kept_to S O) = (_, O)
+  turned_gave (continued_to S O) = (_, O)
   turned_gave (released_to j S O) = (_, O)
   turned_gave (ran h O) = (_, O)
   turned_gave (went_on O) = (_, O)
@@ -100,7 +100,7 @@ module _ (φ : AnswersByName) (p : Plan) where
   state_gave (itself (alive N (settles (ready h O K)))) = (_, O)
   state_gave (itself (watching N (waits_so own S O A))) = (_, O)
   state_gave (itself (watching N (recurs_so own O A))) = (_, O)
-  state_gave (itself (keeping_on N (keeps_so S O OY A B))) = (_, O)
+  state_gave (itself (continuing_on N (continues_so S O OY A B))) = (_, O)
   state_gave (itself (gathering_on N (releases_so j S O Y G A))) = (_, O)
   state_gave (itself (gathering_on N (edits_so t j R O Y G))) = (_, O)
   state_gave (itself (was_frozen A)) = ([], not_begun)

@@ -5,7 +5,7 @@ use Rattle.sf_value.specs.declared.fault.Fault.{Fault}
 use Rattle.sf_func.specs.Registries.{AnswersByName}
 use Rattle.sf_expr.specs.Expressions.{Pattern}
 use Rattle.sf_expr.specs.Patterns.{pattern_of}
-use Rattle.sf_expr.specs.Arena.{placed_at}
+use Rattle.sf_expr.specs.Arena.{stored_pattern}
 use Rattle.sf_term.specs.declared.form.Observation.{Observation}
 use Rattle.sf_term.specs.declared.form.Observation.TheVariants.{Immediate, Delayed}
 use Rattle.sf_term.specs.declared.form.Switching.{Switching}
@@ -21,9 +21,9 @@ use Rattle.sf_state.specs.declared.state.State.{State}
 use Rattle.sf_state.specs.declared.state.Switch.{Switch}
 use Rattle.sf_state.specs.declared.env.Env.{Env}
 use Rattle.sf_state.specs.Standing.{IsNames, Stands, fired_to, took_over, Waits, waits_so, recurs_so}
-use Rattle.sf_parts.specs.declared.meter.Meter.{Meter}
-use Rattle.sf_parts.specs.Meters.{entered_of, height_of}
-use Rattle.sf_parts.specs.Answering.{Rel, Ticks, Spent, Within, StopsFor, answers}
+use Rattle.sf_meter.specs.declared.meter.Meter.{Meter}
+use Rattle.sf_meter.specs.Meters.{entered_of, meter_height, Ticks}
+use Rattle.sf_step.specs.Answering.{Rel, Spent, Within, StopsFor, answers}
 use Rattle.sf_step.specs.Sampling.{StateSteps, SwitchSteps}
 use Rattle.sf_step.proofs.Parts.{Over, counted, Then, then_on, then_stop, Alike, over_spent, both_spent, alike_within, over_within, then_within, fails_alike, over_fails, then_fails, rest_fails, spent_within, answered, failed}
 use Rattle.sf_step.proofs.Forms.{single_gives, form_alike}
@@ -146,7 +146,7 @@ module _ (φ : AnswersByName) (p : Plan) where
 
     module _ (a : State) (y : Data) (hs : StateSteps φ p k.running s (Ok (a, y)) n n1 inside) where
       -- memory runs out after its first term was stepped
-      pub switch_memory : (n2 : Meter) → entered_of n2 ≡ entered_of n1 → height_of n2 ≡ height_of n1
+      pub switch_memory : (n2 : Meter) → entered_of n2 ≡ entered_of n1 → meter_height n2 ≡ meter_height n1
           → (m : Meter) (depth : ℕ) → Ticks m n depth inside → (t : Term) (e : Environment) (L : Life) → IsNames φ p names e → Waits φ p k (closure t e) L → Within (Gives net (closure t e) (s ∷ L)) m n2 depth
       switch_memory n2 en hn m depth t T e L N (waits_so own S O A) =
           let one = answered (hs _ _ A) in
@@ -159,7 +159,7 @@ module _ (φ : AnswersByName) (p : Plan) where
       switch_waits_on none v ev k' ek m depth t T e L N (recurs_so own O A) = absurd (not_recurring form own)
       switch_waits_on none v ev k' ek m depth t T e L N (waits_so {w = x} {t = first} own S O A) =
           let one = answered (hs _ _ A) in
-          let q = pattern_of (placed_at (plan_expressions p) k.pattern) in
+          let q = pattern_of (stored_pattern (plan_expressions p) k.pattern) in
           let u = plan_tree p k.body in
           let c = over (both_costs one.k no_cost) in
           let F : Form net (switching (Basic x) first q u) e nothing_made s L (gave (first_of y) one.r) c =
@@ -169,14 +169,14 @@ module _ (φ : AnswersByName) (p : Plan) where
           (subst (λ (k' : Switch). Waits φ p k' (closure (switching (Basic x) first q u) e) (s ∷ L)) (sym ek) (waits_so own (watched S (beside_values one.given) (ap (stands_after (whenever (body_of q u e)) s L) none)) (and_gave O G) one.holds))
 
       module _ (v : Data) (some : occurring (second_of y) ≡ Some v) (b0 : State)
-          (ha : (e : Environment) → IsNames φ p names e → Stands φ p b0 (body_of (pattern_of (placed_at (plan_expressions p) k.pattern)) (plan_tree p k.body) e v) []) (n2 : Meter) where
+          (ha : (e : Environment) → IsNames φ p names e → Stands φ p b0 (body_of (pattern_of (stored_pattern (plan_expressions p) k.pattern)) (plan_tree p k.body) e v) []) (n2 : Meter) where
         -- the body fails
         pub body_fails : (f : Fault) → StateSteps φ p b0 s (Err f) n1 n2 inside
             → (m : Meter) (depth : ℕ) → Ticks m n depth inside → (t : Term) (e : Environment) (L : Life) → IsNames φ p names e → Waits φ p k (closure t e) L → StopsFor (Gives net (closure t e) (s ∷ L)) f m n2 depth
         body_fails f hb m depth t T e L N (recurs_so own O A) = absurd (not_recurring form own)
         body_fails f hb m depth t T e L N (waits_so own S O A) =
             let one = answered (hs _ _ A) in
-            let B = body_of (pattern_of (placed_at (plan_expressions p) k.pattern)) (plan_tree p k.body) e in
+            let B = body_of (pattern_of (stored_pattern (plan_expressions p) k.pattern)) (plan_tree p k.body) e in
             let H = fails_alike (way_alike B s (first_of y) v (occurring (second_of y)) some) (failed (hb _ [] (ha e N))) in
             fails_alike (form_alike net s L refl O) (fails_alike (switch_alike S) (over_fails t (rest_fails (λ z. Beside B s (first_of z) (occurring (second_of z))) (single_gives net _ _) one.given one.spent H)))
 
@@ -187,7 +187,7 @@ module _ (φ : AnswersByName) (p : Plan) where
         body_takes_over b z x ex k' hb m depth t T e L N (waits_so {w = h} {t = first} own S O A) =
             let one = answered (hs _ _ A) in
             let two = answered (hb _ [] (ha e N)) in
-            let q = pattern_of (placed_at (plan_expressions p) k.pattern) in
+            let q = pattern_of (stored_pattern (plan_expressions p) k.pattern) in
             let u = plan_tree p k.body in
             let c = over (both_costs one.k two.k) in
             let r = one.r ++ two.r in

@@ -4,10 +4,9 @@ use Rattle.std.specs.List.{remove, slice_range}
 use Rattle.std.specs.Option.{unwrap_or}
 use Rattle.std.specs.Prelude.{IsErr}
 use Rattle.std.proofs.Math.Seq.{take-length, drop-length, take_all, drop-append_seam}
-use Rattle.std.proofs.lemmas.List.{length-take, length-drop, length-append}
-use Rattle.std.proofs.lemmas.List.{drop-set-lt, take_more_set, append-nil, length-set, take-append-le, drop-append-le}
+use Rattle.std.proofs.lemmas.List.{length-take, length-drop, length-append, drop-set-lt, take_more_set, append-nil, length-set, take-append-le, drop-append-le}
 use Rattle.sf_value.specs.Values.{KeyData, Data, table}
-use Rattle.sf_value.specs.View.{rows_under}
+use Rattle.sf_value.specs.View.{keyed_rows}
 use Rattle.sf_value.specs.declared.fault.Fault.{Fault}
 use Rattle.sf_value.specs.declared.fault.Fault.TheVariants.{Memory}
 use Rattle.sf_func.specs.Registries.{AnswersByName}
@@ -19,24 +18,24 @@ use Rattle.sf_law.specs.declared.plan.Plan.{Plan}
 use Rattle.sf_law.specs.Arena.{network_of_plan}
 use Rattle.sf_state.specs.declared.state.State.{State}
 use Rattle.sf_state.specs.declared.state.Gathered.{Gathered}
-use Rattle.sf_state.specs.Held.{Holding, held_in}
+use Rattle.sf_state.specs.Held.{Holding, gathered_holding}
 use Rattle.sf_state.specs.Standing.{Stands, Gathers, gathers, EachStands, none_stands, one_stands, StandsAmong, as_it_stands, as_it_stood, AllFollow}
 use Rattle.sf_state.proofs.Copies.{each_follows, held_freeze}
-use Rattle.sf_parts.specs.declared.drafting.Change.{Change}
-use Rattle.sf_parts.specs.declared.drafting.Change.TheVariants.{Put, Add, Take}
-use Rattle.sf_parts.specs.declared.drafting.Draft.{Draft}
-use Rattle.sf_parts.specs.declared.turning.Turn.{Turn}
-use Rattle.sf_parts.specs.declared.turning.Turn.TheVariants.{Stays, Begins}
-use Rattle.sf_parts.specs.declared.turning.Noted.{Noted}
-use Rattle.sf_parts.specs.declared.meter.Meter.{Meter}
-use Rattle.sf_parts.specs.declared.meter.Spent.{Spent as SpentBetween}
-use Rattle.sf_parts.specs.Meters.{entered_of, height_of, readings}
-use Rattle.sf_parts.specs.Drafting.{change_one, all_changed, laid_over, frozen_over}
-use Rattle.sf_parts.specs.Answering.{Spent, large, memory, answers, fails, CountsAgain, repeated, too_often, not_repeated, left_or}
-use Rattle.sf_parts.proofs.Drafts.{follow_changes}
+use Rattle.sf_begin.specs.declared.drafting.Change.{Change}
+use Rattle.sf_begin.specs.declared.drafting.Change.TheVariants.{Put, Add, Take}
+use Rattle.sf_begin.specs.declared.drafting.Draft.{Draft}
+use Rattle.sf_step.specs.declared.turning.Turn.{Turn}
+use Rattle.sf_step.specs.declared.turning.Turn.TheVariants.{Stays, Begins}
+use Rattle.sf_step.specs.declared.turning.Noted.{Noted}
+use Rattle.sf_meter.specs.declared.meter.Meter.{Meter}
+use Rattle.sf_meter.specs.declared.meter.Spent as spent_amounts
+use Rattle.sf_meter.specs.Meters.{entered_of, meter_height, readings, CountsAgain, repeated, too_often, not_repeated, left_or}
+use Rattle.sf_begin.specs.Drafting.{change_one, all_changed, laid_over, frozen_over}
+use Rattle.sf_step.specs.Answering.{Spent, large, memory, answers, fails}
+use Rattle.sf_begin.proofs.Drafts.{follow_changes}
 use Rattle.sf_step.specs.Edits.{IsBetween, InTurn, left_noted, HaveStepped, all_stepped, one_stepped, later_stopped, one_stopped, no_memory_noted, HaveTurned, all_turned, stays_on, stays_before, stays_not, begins_on, begins_before, begins_not, HeldSteps, HeldStepsAfter, EditSteps, new_fails, new_run}
 use Rattle.sf_step.specs.Sampling.{PartSteps, MemberSteps, MembersSteps, EachSteps}
-use Rattle.sf_step.proofs.Turning.{gone_on}
+use Rattle.sf_step.proofs.SwitchTurns.{gone_on}
 use Rattle.sf_step.proofs.Parts.{single, same_once, spent_within, answered, failed}
 use Rattle.sf_step.proofs.Forms.{single_gives}
 use Rattle.sf_step.proofs.Members.{nobody_steps, memory_now, one_fails, one_steps, left_from, list_alike}
@@ -47,7 +46,7 @@ use Rattle.sf_step.proofs.Members.{nobody_steps, memory_now, one_fails, one_step
 record Grown (m n : Meter) : Type 0 where
   more : Readings
   recorded : readings n ≡ readings m ++ more
-  high : height_of m ≤ height_of n
+  high : meter_height m ≤ meter_height n
 
 grown_none : (m : Meter) → Grown m m
 grown_none m = record { more = []; recorded = sym (append-nil (readings m)); high = omega arith }
@@ -96,12 +95,12 @@ pub turn_at : {A : Type 0} (xs : List A) (i : ℕ) {x : A} (y : A) → get_or xs
 turn_at xs i y is short = let more : suc i ≡ i + 1 = omega arith in drop-cons xs i y short ∙ ap (λ k. get_or xs i y ∷ drop k xs) more ∙ ap (λ z. z ∷ drop (i + 1) xs) is
 
 -- what is counted again
-record CountedAgain (m : Meter) (g : SpentBetween) (n : Meter) : Type 0 where
+record CountedAgain (m : Meter) (g : spent_amounts.Spent) (n : Meter) : Type 0 where
   entered : entered_of n ≡ entered_of m + g.entered
-  high : height_of n ≡ height_of m
+  high : meter_height n ≡ meter_height m
   recorded : g.first ≤ g.behind → g.behind ≤ length (readings m) → readings n ≡ readings m ++ slice_range (readings m) g.first g.behind
 
-counted_again : {m n : Meter} {g h : SpentBetween} → CountsAgain m g n (Ok h) → CountedAgain m g n
+counted_again : {m n : Meter} {g h : spent_amounts.Spent} → CountsAgain m g n (Ok h) → CountedAgain m g n
 counted_again (repeated e h rs) = record { entered = e; high = h; recorded = rs }
 
 -- ## Those that ran
@@ -136,7 +135,7 @@ module _ (φ : AnswersByName) (p : Plan) (w : Option ℕ) (d : ℕ) (x : Data) (
     as_left : {r : Result InTurn Fault} {l : Meter} → Notes n (a ∷ drop (i + 1) now) r l → Notes n (drop i now) r l
     as_left {r} {l} h = subst (λ (bs : List State). Notes n bs r l) (sym left_is) h
 
-    pub notes_next : (b : State) (y : Data) (n' : Meter) (g : SpentBetween) → MemberSteps φ p w a (step d x) (Ok (b, y)) n n' inside → IsBetween n n' g
+    pub notes_next : (b : State) (y : Data) (n' : Meter) (g : spent_amounts.Spent) → MemberSteps φ p w a (step d x) (Ok (b, y)) n n' inside → IsBetween n n' g
         → NotesOn m all (take (i + 1) (set now i b)) (ys ++ y ∷ []) (gs ++ Stays g ∷ []) (drop (i + 1) (set now i b)) n'
     notes_next b y n' g hs bt (Ok z) l h =
         let rest = subst (λ (bs : List State). Notes n' bs (Ok z) l) (drop-set-lt (i + 1) now i b (omega arith)) h in
@@ -150,7 +149,7 @@ module _ (φ : AnswersByName) (p : Plan) (w : Option ℕ) (d : ℕ) (x : Data) (
     notes_fail f n' hs = c (Err f) n' (as_left (one_stopped hs))
 
   -- memory runs out between them
-  pub notes_memory : (m : Meter) (all done : List State) (ys : List Data) (gs : List Turn) (left : List State) (n n2 : Meter) → NotesOn m all done ys gs left n → entered_of n2 ≡ entered_of n → height_of n2 ≡ height_of n → Notes m all (Err Memory) n2
+  pub notes_memory : (m : Meter) (all done : List State) (ys : List Data) (gs : List Turn) (left : List State) (n n2 : Meter) → NotesOn m all done ys gs left n → entered_of n2 ≡ entered_of n → meter_height n2 ≡ meter_height n → Notes m all (Err Memory) n2
   notes_memory m all done ys gs left n n2 c en hn = c (Err Memory) n2 (no_memory_noted en hn)
 
   -- all are done
@@ -184,21 +183,21 @@ module _ (φ : AnswersByName) (p : Plan) (w : Option ℕ) (d : ℕ) (x : Data) (
   net = network_of_plan φ p
 
   -- what a member that has stepped gave and spent, as it stands in a meter
-  record HasGiven (P : Process) (L : Life) (l : Meter) (g : SpentBetween) (b : State) (y : Data) : Type 0 where
+  record HasGiven (P : Process) (L : Life) (l : Meter) (g : spent_amounts.Spent) (b : State) (y : Data) : Type 0 where
     k : Cost
     r : Readings
     gives : Gives net P (step d x ∷ L) (gave y r) k
     entered : g.entered ≡ count k
-    low : inside + height k ≤ height_of l
+    low : inside + height k ≤ meter_height l
     up : g.first ≤ g.behind
     far : g.behind ≤ length (readings l)
     part : slice_range (readings l) g.first g.behind ≡ r
     stands : Stands φ p b P (step d x ∷ L)
 
-  abbrev HasStepped : Meter → State → SpentBetween → State → Data → Type 0
+  abbrev HasStepped : Meter → State → spent_amounts.Spent → State → Data → Type 0
   HasStepped l a g b y = (P : Process) (L : Life) → StandsAmong φ p w a P L → HasGiven P L l g b y
 
-  has_stepped : {m n : Meter} {a b : State} {y : Data} {g : SpentBetween} → MemberSteps φ p w a (step d x) (Ok (b, y)) m n inside → IsBetween m n g → HasStepped n a g b y
+  has_stepped : {m n : Meter} {a b : State} {y : Data} {g : spent_amounts.Spent} → MemberSteps φ p w a (step d x) (Ok (b, y)) m n inside → IsBetween m n g → HasStepped n a g b y
   has_stepped {m} {n} {g = g} hs bt P L A =
       let one = answered (hs P L A) in
       let told : readings n ≡ readings m ++ one.r = one.spent.recorded in
@@ -221,7 +220,7 @@ module _ (φ : AnswersByName) (p : Plan) (w : Option ℕ) (d : ℕ) (x : Data) (
         stands = one.holds;
       }
 
-  has_grown : {n l : Meter} {a b : State} {y : Data} {g : SpentBetween} → Grown n l → HasStepped n a g b y → HasStepped l a g b y
+  has_grown : {n l : Meter} {a b : State} {y : Data} {g : spent_amounts.Spent} → Grown n l → HasStepped n a g b y → HasStepped l a g b y
   has_grown {n} {l} {g = g} grows H P L A =
       let o = H P L A in
       let i = o.low in
@@ -246,7 +245,7 @@ module _ (φ : AnswersByName) (p : Plan) (w : Option ℕ) (d : ℕ) (x : Data) (
   -- members of an edit, over states that have stepped, or that begin on the input
   data TakeTurns (l : Meter) : List State → List State → List Data → List Turn → Type 0 where
     no_turns : TakeTurns l [] [] [] []
-    one_stays : {a b : State} {y : Data} {g : SpentBetween} {cs ds : List State} {ys : List Data} {gs : List Turn} → HasStepped l a g b y → TakeTurns l cs ds ys gs → TakeTurns l (a ∷ cs) (b ∷ ds) (y ∷ ys) (Stays g ∷ gs)
+    one_stays : {a b : State} {y : Data} {g : spent_amounts.Spent} {cs ds : List State} {ys : List Data} {gs : List Turn} → HasStepped l a g b y → TakeTurns l cs ds ys gs → TakeTurns l (a ∷ cs) (b ∷ ds) (y ∷ ys) (Stays g ∷ gs)
     one_begins : {a : State} {cs ds : List State} {ys : List Data} {gs : List Turn} → TakeTurns l cs ds ys gs → TakeTurns l (a ∷ cs) (a ∷ ds) (x ∷ ys) (Begins ∷ gs)
 
   -- all that ran
@@ -289,7 +288,7 @@ module _ (φ : AnswersByName) (p : Plan) (w : Option ℕ) (d : ℕ) (x : Data) (
 
   -- ## Again
 
-  repeats_step : {m n : Meter} {a b : State} {y : Data} {g : SpentBetween} → HasStepped m a g b y → CountsAgain m g n (Ok g) → MemberSteps φ p w a (step d x) (Ok (b, y)) m n inside
+  repeats_step : {m n : Meter} {a b : State} {y : Data} {g : spent_amounts.Spent} → HasStepped m a g b y → CountsAgain m g n (Ok g) → MemberSteps φ p w a (step d x) (Ok (b, y)) m n inside
   repeats_step {m} {n} H R P L A =
       let o = H P L A in
       let i = o.entered in
@@ -299,13 +298,13 @@ module _ (φ : AnswersByName) (p : Plan) (w : Option ℕ) (d : ℕ) (x : Data) (
       let h = t.high in
       answers o.gives (record { entered = omega (arith, e, i); high = omega (arith, h, j); recorded = t.recorded o.up o.far ∙ ap (λ r. readings m ++ r) o.part }) o.stands
 
-  not_so_many : {m : Meter} {b : State} {y : Data} {g : SpentBetween} (P : Process) (L : Life) → HasGiven P L m g b y → 1000000 < entered_of m + g.entered → (o : Outcome) (k : Cost) → Gives net P (step d x ∷ L) o k → entered_of m + count k ≤ 1000000 → inside + height k ≤ 1600 → ⊥
+  not_so_many : {m : Meter} {b : State} {y : Data} {g : spent_amounts.Spent} (P : Process) (L : Life) → HasGiven P L m g b y → 1000000 < entered_of m + g.entered → (o : Outcome) (k : Cost) → Gives net P (step d x ∷ L) o k → entered_of m + count k ≤ 1000000 → inside + height k ≤ 1600 → ⊥
   not_so_many P L z big o k G few low =
       let same = ap count (same_once (single_gives net P (step d x ∷ L)) G z.gives).1 in
       let i = z.entered in
       absurd (omega (arith, few, big, same, i))
 
-  repeats_stop : {m n : Meter} {a b : State} {y : Data} {g : SpentBetween} {f : Fault} → HasStepped m a g b y → CountsAgain m g n (Err f) → MemberSteps φ p w a (step d x) (Err f) m n inside
+  repeats_stop : {m n : Meter} {a b : State} {y : Data} {g : spent_amounts.Spent} {f : Fault} → HasStepped m a g b y → CountsAgain m g n (Err f) → MemberSteps φ p w a (step d x) (Err f) m n inside
   repeats_stop {m} {n} H (too_often big e h) P L A =
       fails (large (not_so_many {m = m} P L (H P L A) big) (record { most = λ o k G. record { entered = omega (arith, e); high = omega (arith, h) } }))
   repeats_stop {m} {n} H (not_repeated e h) P L A = fails (memory (record { most = λ o k G. record { entered = omega (arith, e); high = omega (arith, h) } }))
@@ -322,10 +321,10 @@ module _ (φ : AnswersByName) (p : Plan) (w : Option ℕ) (d : ℕ) (x : Data) (
   abbrev later : ℕ
   later = unwrap_or w d
 
-  stays_step : {m0 m n : Meter} {a b : State} {y : Data} {g : SpentBetween} → Grown m0 m → HasStepped m0 a g b y → CountsAgain m g n (Ok g) → MemberSteps φ p (Some later) a (step d x) (Ok (b, y)) m n inside
+  stays_step : {m0 m n : Meter} {a b : State} {y : Data} {g : spent_amounts.Spent} → Grown m0 m → HasStepped m0 a g b y → CountsAgain m g n (Ok g) → MemberSteps φ p (Some later) a (step d x) (Ok (b, y)) m n inside
   stays_step {m = m} {n = n} {a = a} {b = b} {y = y} grows H R = stays_among w a (Ok (b, y)) m n (repeats_step (has_grown grows H) R)
 
-  stays_stop : {m0 m n : Meter} {a b : State} {y : Data} {g : SpentBetween} {f : Fault} → Grown m0 m → HasStepped m0 a g b y → CountsAgain m g n (Err f) → MemberSteps φ p (Some later) a (step d x) (Err f) m n inside
+  stays_stop : {m0 m n : Meter} {a b : State} {y : Data} {g : spent_amounts.Spent} {f : Fault} → Grown m0 m → HasStepped m0 a g b y → CountsAgain m g n (Err f) → MemberSteps φ p (Some later) a (step d x) (Err f) m n inside
   stays_stop {m = m} {n = n} {a = a} {f = f} grows H R = stays_among w a (Err f) m n (repeats_stop (has_grown grows H) R)
 
   -- members of an edit step as they take their turns
@@ -379,7 +378,7 @@ module _ (φ : AnswersByName) (p : Plan) (w d inside : ℕ) where
         subst (λ (cs : List State). Turns n cs (drop i O) (drop i G) r l) (sym e) (subst (λ (ys : List Data). Turns n cs ys (drop i G) r l) (sym f) (subst (λ (gs : List Turn). Turns n cs ys gs r l) (sym g) h))
 
     -- one that stays
-    module _ (g : SpentBetween) (n' : Meter) (turn : drop i G ≡ Stays g ∷ drop (i + 1) G) (s : i < length S) (o : i < length O) where
+    module _ (g : spent_amounts.Spent) (n' : Meter) (turn : drop i G ≡ Stays g ∷ drop (i + 1) G) (s : i < length S) (o : i < length O) where
       pub turns_stay : CountsAgain n g n' (Ok g) → TurnsOn m all given turns (take (i + 1) S) (take (i + 1) O) (drop (i + 1) S) (drop (i + 1) O) (drop (i + 1) G) n'
       turns_stay R (Ok z) l h =
           let b = next_in S i s in
@@ -416,37 +415,37 @@ module _ (φ : AnswersByName) (p : Plan) (w d inside : ℕ) where
 -- ## Members that are held
 
 module _ (φ : AnswersByName) (p : Plan) where
-  pub as_held : (g a : Gathered) {s : Step} {y : Data} {m n : Meter} {inside : ℕ} → MembersSteps φ p g s (Ok (a, y)) m n inside → HeldSteps φ p (held_in g) s (Ok (held_in a, y)) m n inside
+  pub as_held : (g a : Gathered) {s : Step} {y : Data} {m n : Meter} {inside : ℕ} → MembersSteps φ p g s (Ok (a, y)) m n inside → HeldSteps φ p (gathered_holding g) s (Ok (gathered_holding a, y)) m n inside
   as_held g a h low ms L G = let one = answered (h low ms L G) in answers one.given one.spent one.holds
 
-  pub held_fails : (g : Gathered) {s : Step} {f : Fault} {m n : Meter} {inside : ℕ} → MembersSteps φ p g s (Err f) m n inside → HeldSteps φ p (held_in g) s (Err f) m n inside
+  pub held_fails : (g : Gathered) {s : Step} {f : Fault} {m n : Meter} {inside : ℕ} → MembersSteps φ p g s (Err f) m n inside → HeldSteps φ p (gathered_holding g) s (Err f) m n inside
   held_fails g h low ms L G = fails (failed (h low ms L G))
 
   -- members step as their states do
   pub held_step : (h : Holding) (d : ℕ) (x : Data) (m n : Meter) (inside : ℕ) (cs : List State) (ys : List Data) → EachSteps φ p h.wait h.states (step d x) (Ok (cs, ys)) m n inside
-      → HeldSteps φ p h (step d x) (Ok (record { keys = h.keys; states = cs; wait = None }, table (rows_under h.keys ys))) m n inside
+      → HeldSteps φ p h (step d x) (Ok (record { keys = h.keys; states = cs; wait = None }, table (keyed_rows h.keys ys))) m n inside
   held_step h d x m n inside cs ys hs low ms L (gathers K S) =
       let one = answered (hs low ms L S) in
-      answers (subst (λ ks. Each (network_of_plan φ p) ms (step d x) L (gave (table (rows_under ks ys)) one.r) one.k) (sym K) one.given) one.spent (gathers K one.holds)
+      answers (subst (λ ks. Each (network_of_plan φ p) ms (step d x) L (gave (table (keyed_rows ks ys)) one.r) one.k) (sym K) one.given) one.spent (gathers K one.holds)
 
   pub held_stop : (h : Holding) (d : ℕ) (x : Data) (m n : Meter) (inside : ℕ) (f : Fault) → EachSteps φ p h.wait h.states (step d x) (Err f) m n inside → HeldSteps φ p h (step d x) (Err f) m n inside
   held_stop h d x m n inside f hs low ms L (gathers K S) = fails (failed (hs low ms L S))
 
   -- memory runs out after them
-  pub held_end : (h a : Holding) (s : Step) (y : Data) (m n n2 : Meter) (inside : ℕ) → entered_of n2 ≡ entered_of n → height_of n2 ≡ height_of n → HeldSteps φ p h s (Ok (a, y)) m n inside → HeldSteps φ p h s (Err Memory) m n2 inside
+  pub held_end : (h a : Holding) (s : Step) (y : Data) (m n n2 : Meter) (inside : ℕ) → entered_of n2 ≡ entered_of n → meter_height n2 ≡ meter_height n → HeldSteps φ p h s (Ok (a, y)) m n inside → HeldSteps φ p h s (Err Memory) m n2 inside
   held_end h a s y m n n2 inside en hn hs low ms L G =
       let one = answered (hs low ms L G) in
       fails (memory (spent_within (single (λ a b j k G H. once_each (network_of_plan φ p) G H)) one.given one.spent en hn))
 
   -- members that run, frozen
-  pub gathers_frozen : (g : Gathered) (d : ℕ) (ms : Members) (L : Life) → Gathers φ p (held_in g) ms L → Gathers φ p (frozen_over g d) (each_frozen ms L d) []
+  pub gathers_frozen : (g : Gathered) (d : ℕ) (ms : Members) (L : Life) → Gathers φ p (gathered_holding g) ms L → Gathers φ p (frozen_over g d) (each_frozen ms L d) []
   gathers_frozen g d ms L G = held_freeze φ p d g (record { keys = g.keys; states = g.states; wait = Some (unwrap_or g.wait d) }) refl refl refl ms L G
 
   -- ## A draft
 
   module _ (g : Holding) (bs : List State) (fs : AllFollow φ p g.states bs) (x : Draft) (d : ℕ) (i : Data) (inside : ℕ) (m n : Meter) (ds : List State) (ys : List Data) (gs : List Turn) (h : HaveStepped φ p g.wait (step d i) inside m bs (Ok (ds, (ys, gs))) n) where
     -- the members that ran
-    pub old_step : HeldSteps φ p g (step d i) (Ok (record { keys = g.keys; states = ds; wait = None }, table (rows_under g.keys ys))) m n inside
+    pub old_step : HeldSteps φ p g (step d i) (Ok (record { keys = g.keys; states = ds; wait = None }, table (keyed_rows g.keys ys))) m n inside
     old_step = held_step g d i m n inside ds ys (list_alike φ p fs (stepped_each φ p g.wait d i inside h))
 
     abbrev pub NewTurns : Result (List State × List Data) Fault → Meter → Type 0
@@ -454,11 +453,11 @@ module _ (φ : AnswersByName) (p : Plan) where
 
     -- those of the edit
     pub new_step : (es : List State) (zs : List Data) (ks : List KeyData) (l : Meter) → ks ≡ x.keys → NewTurns (Ok (es, zs)) l
-        → HeldStepsAfter φ p g m (laid_over g.states (Some (unwrap_or g.wait d)) x) (step d i) (Ok (record { keys = ks; states = es; wait = None }, table (rows_under ks zs))) n l inside
+        → HeldStepsAfter φ p g m (laid_over g.states (Some (unwrap_or g.wait d)) x) (step d i) (Ok (record { keys = ks; states = es; wait = None }, table (keyed_rows ks zs))) n l inside
     new_step es zs ks l same t low ms L (gathers K S) =
         let T = noted_turns φ p g.wait d i inside h (each_follows φ p fs S) in
         let steps = turned_each φ p g.wait d i inside (grown_none n) (changed_turns φ p g.wait d i inside x.changes.items T.1) t in
-        subst (λ (ks : List KeyData). HeldSteps φ p (laid_over g.states (Some (unwrap_or g.wait d)) x) (step d i) (Ok (record { keys = ks; states = es; wait = None }, table (rows_under ks zs))) n l inside) (sym same)
+        subst (λ (ks : List KeyData). HeldSteps φ p (laid_over g.states (Some (unwrap_or g.wait d)) x) (step d i) (Ok (record { keys = ks; states = es; wait = None }, table (keyed_rows ks zs))) n l inside) (sym same)
         (held_step (laid_over g.states (Some (unwrap_or g.wait d)) x) d i n l inside es zs (list_alike φ p (follow_changes φ p x.changes.items fs) steps))
 
     pub new_stop : (f : Fault) (l : Meter) → NewTurns (Err f) l → HeldStepsAfter φ p g m (laid_over g.states (Some (unwrap_or g.wait d)) x) (step d i) (Err f) n l inside
@@ -467,7 +466,7 @@ module _ (φ : AnswersByName) (p : Plan) where
         let steps = turned_fails φ p g.wait d i inside (grown_none n) (changed_turns φ p g.wait d i inside x.changes.items T.1) t in
         held_stop (laid_over g.states (Some (unwrap_or g.wait d)) x) d i n l inside f (list_alike φ p (follow_changes φ p x.changes.items fs) steps)
 
-    pub new_end : (es : List State) (zs : List Data) (l l2 : Meter) → entered_of l2 ≡ entered_of l → height_of l2 ≡ height_of l → NewTurns (Ok (es, zs)) l → HeldStepsAfter φ p g m (laid_over g.states (Some (unwrap_or g.wait d)) x) (step d i) (Err Memory) n l2 inside
+    pub new_end : (es : List State) (zs : List Data) (l l2 : Meter) → entered_of l2 ≡ entered_of l → meter_height l2 ≡ meter_height l → NewTurns (Ok (es, zs)) l → HeldStepsAfter φ p g m (laid_over g.states (Some (unwrap_or g.wait d)) x) (step d i) (Err Memory) n l2 inside
     new_end es zs l l2 en hn t low ms L G = held_end (laid_over g.states (Some (unwrap_or g.wait d)) x) _ (step d i) _ n l l2 inside en hn (new_step es zs x.keys l refl t low ms L G)
 
 -- ## Values that don't show again
@@ -475,7 +474,7 @@ module _ (φ : AnswersByName) (p : Plan) where
 -- the values of those that begin are the same
 pub data Agree : List Turn → List Data → List Data → Type 0 where
   none_agree : Agree [] [] []
-  one_apart : {g : SpentBetween} {y z : Data} {gs : List Turn} {ys zs : List Data} → Agree gs ys zs → Agree (Stays g ∷ gs) (y ∷ ys) (z ∷ zs)
+  one_apart : {g : spent_amounts.Spent} {y z : Data} {gs : List Turn} {ys zs : List Data} → Agree gs ys zs → Agree (Stays g ∷ gs) (y ∷ ys) (z ∷ zs)
   one_same : {x : Data} {gs : List Turn} {ys zs : List Data} → Agree gs ys zs → Agree (Begins ∷ gs) (x ∷ ys) (x ∷ zs)
 
 -- of those that ran none begins
@@ -593,7 +592,7 @@ pub edit_stopped : {φ : AnswersByName} {p : Plan} {g : Holding} {made : Result 
 edit_stopped {φ} {p} {g} {made} {w} {s} {m} {n} {inside} same h = subst (λ (f : Fault). EditSteps φ p g made w s (Err f) m n inside) (sym same) h
 
 -- memory runs out after all of them
-pub edit_late : {φ : AnswersByName} {p : Plan} {g h : Holding} {made : Result Holding Fault} {w : Observation} {s : Step} {y : Data} {m n n2 : Meter} {inside : ℕ} {f : Fault} → f ≡ Memory → entered_of n2 ≡ entered_of n → height_of n2 ≡ height_of n
+pub edit_late : {φ : AnswersByName} {p : Plan} {g h : Holding} {made : Result Holding Fault} {w : Observation} {s : Step} {y : Data} {m n n2 : Meter} {inside : ℕ} {f : Fault} → f ≡ Memory → entered_of n2 ≡ entered_of n → meter_height n2 ≡ meter_height n
     → EditSteps φ p g made w s (Ok (h, y)) m n inside → EditSteps φ p g made w s (Err f) m n2 inside
 edit_late {φ} {p} {g} {h} {made} {w} {s} {y} {m} {n} {n2} {inside} e en hn (new_run {h = k} {l = l} {z = z} {n = n1} old same hb shows) =
     edit_stopped e (new_fails old same (λ low ms L G. held_end φ p k l s z n1 n n2 inside en hn (hb low ms L G)))

@@ -15,16 +15,16 @@ use Rattle.sf_law.specs.declared.plan.Plan.{Plan}
 use Rattle.sf_law.specs.Arena.{network_of_plan}
 use Rattle.sf_state.specs.declared.state.State.{State}
 use Rattle.sf_state.specs.declared.state.Gathered.{Gathered}
-use Rattle.sf_state.specs.Held.{Holding, held_as, held_in}
+use Rattle.sf_state.specs.Held.{Holding, held_as, gathered_holding}
 use Rattle.sf_state.specs.Standing.{Gathers}
-use Rattle.sf_parts.specs.declared.meter.Meter.{Meter}
-use Rattle.sf_parts.specs.declared.meter.Spent.{Spent}
-use Rattle.sf_parts.specs.declared.turning.Turn.{Turn}
-use Rattle.sf_parts.specs.declared.turning.Turn.TheVariants.{Stays, Begins}
-use Rattle.sf_parts.specs.declared.turning.Noted.{Noted}
-use Rattle.sf_parts.specs.Drafting.{laid_over}
-use Rattle.sf_parts.specs.Meters.{entered_of, height_of, readings}
-use Rattle.sf_parts.specs.Answering.{Answers, CountsAgain}
+use Rattle.sf_meter.specs.declared.meter.Meter.{Meter}
+use Rattle.sf_meter.specs.declared.meter.Spent.{Spent}
+use Rattle.sf_step.specs.declared.turning.Turn.{Turn}
+use Rattle.sf_step.specs.declared.turning.Turn.TheVariants.{Stays, Begins}
+use Rattle.sf_step.specs.declared.turning.Noted.{Noted}
+use Rattle.sf_begin.specs.Drafting.{laid_over}
+use Rattle.sf_meter.specs.Meters.{entered_of, meter_height, readings, CountsAgain}
+use Rattle.sf_step.specs.Answering.{Answers}
 use Rattle.sf_step.specs.declared.sample.Edit.{Edit}
 use Rattle.sf_step.specs.Sampling.{MemberSteps}
 
@@ -54,7 +54,7 @@ pub data HaveStepped (φ : AnswersByName) (p : Plan) (w : Option ℕ) (s : Step)
   later_stopped : {m n l : Meter} {a b : State} {y : Data} {cs : List State} {f : Fault}
       → MemberSteps φ p w a s (Ok (b, y)) m n inside → HaveStepped φ p w s inside n cs (Err f) l → HaveStepped φ p w s inside m (a ∷ cs) (Err f) l
   one_stopped : {m n : Meter} {a : State} {cs : List State} {f : Fault} → MemberSteps φ p w a s (Err f) m n inside → HaveStepped φ p w s inside m (a ∷ cs) (Err f) n
-  no_memory_noted : {m n : Meter} {cs : List State} → entered_of n ≡ entered_of m → height_of n ≡ height_of m → HaveStepped φ p w s inside m cs (Err Memory) n
+  no_memory_noted : {m n : Meter} {cs : List State} → entered_of n ≡ entered_of m → meter_height n ≡ meter_height m → HaveStepped φ p w s inside m cs (Err Memory) n
 
 -- ## Members of an edit
 
@@ -78,24 +78,24 @@ pub data HaveTurned (φ : AnswersByName) (p : Plan) (w : ℕ) (d : ℕ) (inside 
 
 -- members that are held step to a table, or the first fault, inside nodes that are counted
 abbrev pub HeldSteps : AnswersByName → Plan → Holding → Step → Result (Holding × Data) Fault → Meter → Meter → ℕ → Type 0
-HeldSteps φ p h s result m n inside = inside ≤ height_of m → (ms : Members) (L : Life) → Gathers φ p h ms L
+HeldSteps φ p h s result m n inside = inside ≤ meter_height m → (ms : Members) (L : Life) → Gathers φ p h ms L
     → Answers (λ y. y.1) (λ y. Gathers φ p y.0 ms (s ∷ L)) (Each (network_of_plan φ p) ms s L) result m n inside
 
 -- so they do after those that ran, from where the meter stood before these
 abbrev pub HeldStepsAfter : AnswersByName → Plan → Holding → Meter → Holding → Step → Result (Holding × Data) Fault → Meter → Meter → ℕ → Type 0
-HeldStepsAfter φ p g m h s result n n' inside = inside ≤ height_of m → (ms : Members) (L : Life) → Gathers φ p g ms L → HeldSteps φ p h s result n n' inside
+HeldStepsAfter φ p g m h s result n n' inside = inside ≤ meter_height m → (ms : Members) (L : Life) → Gathers φ p g ms L → HeldSteps φ p h s result n n' inside
 
 -- what an edit made, as it is held
 abbrev pub held_as_made : Result Gathered Fault → Result Holding Fault
-held_as_made (Ok g) = Ok (held_in g)
+held_as_made (Ok g) = Ok (gathered_holding g)
 held_as_made (Err f) = Err f
 
 -- Members step to a table, and those that an edit made after them; one of the two tables shows.
 pub data EditSteps (φ : AnswersByName) (p : Plan) (g : Holding) (made : Result Holding Fault) (w : Observation) (s : Step) : Result (Holding × Data) Fault → Meter → Meter → ℕ → Type 0 where
-  no_memory_before : {m n : Meter} {inside : ℕ} → entered_of n ≡ entered_of m → height_of n ≡ height_of m → EditSteps φ p g made w s (Err Memory) m n inside
+  no_memory_before : {m n : Meter} {inside : ℕ} → entered_of n ≡ entered_of m → meter_height n ≡ meter_height m → EditSteps φ p g made w s (Err Memory) m n inside
   old_fails : {f : Fault} {m n : Meter} {inside : ℕ} → HeldSteps φ p g s (Err f) m n inside → EditSteps φ p g made w s (Err f) m n inside
-  no_memory_between : {a : Holding} {y : Data} {m n n' : Meter} {inside : ℕ} → HeldSteps φ p g s (Ok (a, y)) m n inside → entered_of n' ≡ entered_of n → height_of n' ≡ height_of n → EditSteps φ p g made w s (Err Memory) m n' inside
-  made_fails : {a : Holding} {y : Data} {f : Fault} {m n n' : Meter} {inside : ℕ} → HeldSteps φ p g s (Ok (a, y)) m n inside → made ≡ Err f → entered_of n' ≡ entered_of n → height_of n' ≡ height_of n → EditSteps φ p g made w s (Err f) m n' inside
+  no_memory_between : {a : Holding} {y : Data} {m n n' : Meter} {inside : ℕ} → HeldSteps φ p g s (Ok (a, y)) m n inside → entered_of n' ≡ entered_of n → meter_height n' ≡ meter_height n → EditSteps φ p g made w s (Err Memory) m n' inside
+  made_fails : {a : Holding} {y : Data} {f : Fault} {m n n' : Meter} {inside : ℕ} → HeldSteps φ p g s (Ok (a, y)) m n inside → made ≡ Err f → entered_of n' ≡ entered_of n → meter_height n' ≡ meter_height n → EditSteps φ p g made w s (Err f) m n' inside
   new_fails : {a h : Holding} {y : Data} {f : Fault} {m n n' : Meter} {inside : ℕ} → HeldSteps φ p g s (Ok (a, y)) m n inside → made ≡ Ok h → HeldStepsAfter φ p g m h s (Err f) n n' inside → EditSteps φ p g made w s (Err f) m n' inside
   new_run : {a h : Holding} {l : Holding} {y z v : Data} {m n n' : Meter} {inside : ℕ}
       → HeldSteps φ p g s (Ok (a, y)) m n inside → made ≡ Ok h → HeldStepsAfter φ p g m h s (Ok (l, z)) n n' inside → v ≡ switched_value w y z

@@ -1,3 +1,4 @@
+pub mod Answering
 pub mod Edits
 pub mod Routing
 pub mod Sampling

@@ -3,7 +3,7 @@ use Rattle.std.specs.Prelude.{◌≡◌, ℕ, ◌≤◌, List, ◌∷◌, Option
 use Rattle.std.specs.declared.alloc.Global.{Global}
 use Rattle.sf_value.specs.declared.value.Value.{Value}
 use Rattle.sf_value.specs.Values.{Data, table}
-use Rattle.sf_value.specs.View.{rows_under}
+use Rattle.sf_value.specs.View.{keyed_rows}
 use Rattle.sf_value.specs.declared.fault.Fault.{Fault}
 use Rattle.sf_func.specs.Registries.{AnswersByName}
 use Rattle.sf_term.specs.Trees.{Term}
@@ -15,14 +15,14 @@ use Rattle.sf_state.specs.declared.state.State.{State}
 use Rattle.sf_state.specs.declared.state.Gathered.{Gathered}
 use Rattle.sf_state.specs.declared.state.Gathering.{Gathering}
 use Rattle.sf_state.specs.declared.state.Switch.{Switch}
-use Rattle.sf_state.specs.declared.state.Keeping.{Keeping}
+use Rattle.sf_state.specs.declared.state.Continuation.{Continuation}
 use Rattle.sf_state.specs.declared.env.Env.{Env}
-use Rattle.sf_state.specs.Held.{held_in}
-use Rattle.sf_state.specs.Standing.{IsNames, Stands, Waits, WaitsKeeping, WaitsGathered, Gathers, EachStands, StandsAmong, keys_in}
-use Rattle.sf_parts.specs.declared.meter.Meter.{Meter}
-use Rattle.sf_parts.specs.Meters.{height_of}
-use Rattle.sf_parts.specs.Answering.{Ticks, Answers}
-use Rattle.sf_parts.specs.Beginning.{Prepared}
+use Rattle.sf_state.specs.Held.{gathered_holding}
+use Rattle.sf_state.specs.Standing.{IsNames, Stands, Waits, WaitsContinuation, WaitsGathered, Gathers, EachStands, StandsAmong, keys_in}
+use Rattle.sf_meter.specs.declared.meter.Meter.{Meter}
+use Rattle.sf_meter.specs.Meters.{meter_height, Ticks}
+use Rattle.sf_step.specs.Answering.{Answers}
+use Rattle.sf_begin.specs.Beginning.{Prepared}
 
 -- what a process gives after a life is answered, and what is left stands for it
 abbrev pub PartSteps : AnswersByName → Plan → Process → Life → Step → Result (State × Data) Fault → Meter → Meter → ℕ → Type 0
@@ -56,8 +56,8 @@ WaitingSteps φ p W names w s result n n' inside = (m : Meter) (depth : ℕ) →
 abbrev pub SwitchSteps : AnswersByName → Plan → Env → Switch → Step → Result ((Option State × Switch) × Data) Fault → Meter → Meter → ℕ → Type 0
 SwitchSteps φ p = WaitingSteps φ p (Waits φ p)
 
-abbrev pub KeepingSteps : AnswersByName → Plan → Env → Keeping → Step → Result ((Option State × Keeping) × Data) Fault → Meter → Meter → ℕ → Type 0
-KeepingSteps φ p = WaitingSteps φ p (WaitsKeeping φ p)
+abbrev pub ContinuationSteps : AnswersByName → Plan → Env → Continuation → Step → Result ((Option State × Continuation) × Data) Fault → Meter → Meter → ℕ → Type 0
+ContinuationSteps φ p = WaitingSteps φ p (WaitsContinuation φ p)
 
 -- the same of members that wait
 abbrev pub GatheringSteps : AnswersByName → Plan → Env → Gathering → Step → Result ((Option State × Gathering) × Data) Fault → Meter → Meter → ℕ → Type 0
@@ -65,13 +65,13 @@ GatheringSteps φ p = WaitingSteps φ p (WaitsGathered φ p)
 
 -- members step to a table, or the first fault, inside nodes that are counted
 abbrev pub MembersSteps : AnswersByName → Plan → Gathered → Step → Result (Gathered × Data) Fault → Meter → Meter → ℕ → Type 0
-MembersSteps φ p g s result m n inside = inside ≤ height_of m → (ms : Members) (L : Life) → Gathers φ p (held_in g) ms L
-    → Answers (λ y. y.1) (λ y. Gathers φ p (held_in y.0) ms (s ∷ L)) (Each (network_of_plan φ p) ms s L) result m n inside
+MembersSteps φ p g s result m n inside = inside ≤ meter_height m → (ms : Members) (L : Life) → Gathers φ p (gathered_holding g) ms L
+    → Answers (λ y. y.1) (λ y. Gathers φ p (gathered_holding y.0) ms (s ∷ L)) (Each (network_of_plan φ p) ms s L) result m n inside
 
 -- their states, which run or wait so long, step as they do, to values in their order; from then on they run
 abbrev pub EachSteps : AnswersByName → Plan → Option ℕ → List State → Step → Result (List State × List Data) Fault → Meter → Meter → ℕ → Type 0
-EachSteps φ p w bs s result m n inside = inside ≤ height_of m → (ms : Members) (L : Life) → EachStands φ p w bs ms L
-    → Answers (λ y. table (rows_under (keys_in ms) y.1)) (λ y. EachStands φ p None y.0 ms (s ∷ L)) (Each (network_of_plan φ p) ms s L) result m n inside
+EachSteps φ p w bs s result m n inside = inside ≤ meter_height m → (ms : Members) (L : Life) → EachStands φ p w bs ms L
+    → Answers (λ y. table (keyed_rows (keys_in ms) y.1)) (λ y. EachStands φ p None y.0 ms (s ∷ L)) (Each (network_of_plan φ p) ms s L) result m n inside
 
 -- what a step of states left in place, beside their values, or the fault that stands in the meter
 abbrev pub left_with : {E : Type 0} → Result (Vec Value Global) E → List State → Fault → Result (List State × List Data) Fault

@@ -1,29 +1,32 @@
 //! One sample.
 ghost use Rattle.std.specs.Prelude.{◌≡◌, ◌≤◌, ◌∷◌, List, None, Some, Ok, length, IsTrue, IsFalse};
-ghost use Rattle.sf_parts.specs.Beginning.{is_awake, is_in_place};
-ghost use Rattle.sf_mean.specs.Lives.{step, Life, Process as ProcessOf};
-ghost use Rattle.sf_state.specs.declared.state.State.{State as StateOf};
-ghost use Rattle.sf_state.specs.Held.{held_in, held_as};
-ghost use Rattle.sf_state.specs.Standing.{Stands, AllFollow};
-ghost use Rattle.sf_parts.specs.Answering.{LiveSteps, kept, left_or};
-ghost use Rattle.sf_parts.specs.Contexts.{plan_in, dt_in};
-ghost use Rattle.sf_parts.specs.Meters.{entered_of, height_of, fault_of as fault_in};
-ghost use Rattle.sf_step.specs.Sampling.{StateSteps, SwitchSteps, KeepingSteps, GatheringSteps, MembersSteps, EachSteps, MemberSteps, CountedSteps, left_beside, left_with};
+ghost use Rattle.sf_begin.specs.Beginning.{is_awake, is_in_place};
+ghost use Rattle.sf_mean.specs.Lives.{step, Life, Process};
+ghost use Rattle.sf_state.specs.declared.state.State as state_forms;
+ghost use Rattle.sf_state.specs.Held.{gathered_holding, held_as};
+ghost use Rattle.sf_state.specs.Standing.{Stands, AllFollow, is_frozen};
+ghost use Rattle.sf_meter.specs.Meters.{kept, left_or, entered_of, meter_height, meter_fault};
+ghost use Rattle.sf_step.specs.Answering.{LiveSteps};
+ghost use Rattle.sf_begin.specs.Contexts.{plan_in, dt_in};
+ghost use Rattle.sf_step.specs.Sampling.{StateSteps, SwitchSteps, ContinuationSteps, GatheringSteps, MembersSteps, EachSteps, MemberSteps, CountedSteps, left_beside, left_with};
 ghost use Rattle.sf_step.specs.Edits.{HaveStepped, HaveTurned, EditSteps, DraftSteps, held_as_made, left_noted};
 ghost use Rattle.sf_step.specs.Stepping.{Steps};
 ghost use Rattle.sf_step.specs.Routing.{observation_of};
 
+use crate::leaves::{first_primitive, step_prim, step_probe};
+use crate::routing::{
+    beside, copies, hold_back, payload_of, put_first, put_last, show, take_over, value_and_payload,
+};
+use crate::tables::table_of;
+use crate::turning::{Noted, Turn, change_all, table_after, table_before};
+use sf_begin::{Begun, Draft, SampleContext, begin, collect, draft_of};
 use sf_func::Holds;
 use sf_law::{Plan, PlanNode};
-use sf_parts::{
-    Begun, Draft, Meter, Noted, SampleContext, Stop, Turn, begin, beside, change_all, collect,
-    copies, draft_of, first_primitive, hold_back, payload_of, put_first, put_last, show, step_prim,
-    step_probe, table_after, table_before, table_of, take_over, value_and_payload,
-};
+use sf_meter::{Meter, Stop};
 use sf_probe::Readings;
 use sf_state::{
-    Editing, Env, Feedback, Gathered, Gathering, Keeping, Live, Releasing, State, Switch, Wrap,
-    hold_back_members, own_states,
+    Continuation, Editing, Env, Feedback, Gathered, Gathering, Live, Releasing, State, Switch,
+    Wrap, hold_back_members, own_states,
 };
 use sf_term::{Join, Observation, Switching};
 use sf_value::{Fault, Keys, Value, ValueFault};
@@ -76,9 +79,9 @@ pub fn step<R: Holds>(
     meter: &mut Meter,
 ) -> Result<(Value, Readings), Fault>
     // a state of (P, L) steps to the outcome of P on the longer life
-    ensures answers { (P : ProcessOf) (L : Life) → Stands (R.answers functions.now) plan.now state.old P L →
+    ensures answers { (P : Process) (L : Life) → Stands (R.answers functions.now) plan.now state.old P L →
         Steps (R.answers functions.now) plan.now P (step dt input ∷ L) result state.new meter.new }
-    ensures bounded { (entered_of meter.new ≤ 1000000) × (height_of meter.new ≤ 1600) }
+    ensures bounded { (entered_of meter.new ≤ 1000000) × (meter_height meter.new ≤ 1600) }
 {
     meter.reset(alloc);
     let context = SampleContext {
@@ -106,7 +109,7 @@ fn step_state<R: Holds>(
     meter: &mut Meter,
 ) -> Result<(), Stop>
     ensures { StateSteps (R.answers context.now.functions.now) (plan_in context.now) state.old (step (dt_in context.now) value.old)
-        (left_or result (state.new, value.new) (fault_in meter.new)) meter.old meter.new depth }
+        (left_or result (state.new, value.new) (meter_fault meter.new)) meter.old meter.new depth }
 {
     match state {
         State::Primitive(prim) => {
@@ -133,14 +136,14 @@ fn step_other<R: Holds>(
 ) -> Result<(), Stop>
     requires { IsFalse (is_in_place state.old) }
     ensures { StateSteps (R.answers context.now.functions.now) (plan_in context.now) state.old (step (dt_in context.now) value.old)
-        (left_or result (state.new, value.new) (fault_in meter.new)) meter.old meter.new depth }
+        (left_or result (state.new, value.new) (meter_fault meter.new)) meter.old meter.new depth }
 {
     match state {
         State::Switch(_, _) => {
             let inside = meter.tick(depth)?;
             step_counted(context, state, inside, value, meter)
         }
-        State::Keeping(_, _) => {
+        State::Continuation(_, _) => {
             let inside = meter.tick(depth)?;
             step_counted(context, state, inside, value, meter)
         }
@@ -148,35 +151,72 @@ fn step_other<R: Holds>(
             let inside = meter.tick(depth)?;
             step_counted(context, state, inside, value, meter)
         }
-        State::Unborn(process) => {
-            let term = process.term;
-            let names = mem::replace(&mut process.names, Env::Empty);
-            let inside = meter.tick(depth)?;
-            if let PlanNode::Primitive(primitive) = context.plan.node(term) {
-                return first_primitive(context, state, primitive, &names, value, meter);
-            }
-            match begin(context, state, term, names, value) {
-                Ok(Begun::Itself) => step_counted(context, state, inside, value, meter),
-                Ok(Begun::Referred) => step_state(context, state, inside, value, meter),
-                Err(fault) => Err(meter.stop(fault)),
-            }
-        }
-        State::Frozen(frozen) => {
-            let later = SampleContext {
-                alloc: context.alloc,
-                plan: context.plan,
-                functions: context.functions,
-                dt: frozen.wait,
-            };
-            let Ok(awake) = frozen.wake(context.alloc) else {
-                return Err(meter.stop(Fault::Memory));
-            };
-            *state = awake;
-            step_state(&later, state, depth, value, meter)
-        }
+        State::Unborn(_) => step_unborn(context, state, depth, value, meter),
+        State::Frozen(_) => step_frozen(context, state, depth, value, meter),
         // these are stepped in place, above
         State::Primitive(_) | State::Live(_, _) => unreachable!(),
     }
+}
+
+// The first sample of a part: it is stepped as it begins, or as what it refers to.
+#[cycle(step)]
+#[inline(never)]
+fn step_unborn<R: Holds>(
+    context: &SampleContext<R>,
+    state: &mut State,
+    depth: u64,
+    value: &mut Value,
+    meter: &mut Meter,
+) -> Result<(), Stop>
+    requires unborn { IsFalse (is_awake state.old) }
+    requires thawed { IsFalse (is_frozen state.old) }
+    ensures { StateSteps (R.answers context.now.functions.now) (plan_in context.now) state.old (step (dt_in context.now) value.old)
+        (left_or result (state.new, value.new) (meter_fault meter.new)) meter.old meter.new depth }
+{
+    let State::Unborn(process) = state else {
+        unreachable!();
+    };
+    let term = process.term;
+    let names = mem::replace(&mut process.names, Env::Empty);
+    let inside = meter.tick(depth)?;
+    if let PlanNode::Primitive(primitive) = context.plan.node(term) {
+        return first_primitive(context, state, primitive, &names, value, meter);
+    }
+    match begin(context, state, term, names, value) {
+        Ok(Begun::Itself) => step_counted(context, state, inside, value, meter),
+        Ok(Begun::Referred) => step_state(context, state, inside, value, meter),
+        Err(fault) => Err(meter.stop(fault)),
+    }
+}
+
+// The next sample of a part that was frozen, which goes on by the time that it has.
+#[cycle(step)]
+#[inline(never)]
+fn step_frozen<R: Holds>(
+    context: &SampleContext<R>,
+    state: &mut State,
+    depth: u64,
+    value: &mut Value,
+    meter: &mut Meter,
+) -> Result<(), Stop>
+    requires { IsTrue (is_frozen state.old) }
+    ensures { StateSteps (R.answers context.now.functions.now) (plan_in context.now) state.old (step (dt_in context.now) value.old)
+        (left_or result (state.new, value.new) (meter_fault meter.new)) meter.old meter.new depth }
+{
+    let State::Frozen(frozen) = state else {
+        unreachable!();
+    };
+    let later = SampleContext {
+        alloc: context.alloc,
+        plan: context.plan,
+        functions: context.functions,
+        dt: frozen.wait,
+    };
+    let Ok(awake) = frozen.wake(context.alloc) else {
+        return Err(meter.stop(Fault::Memory));
+    };
+    *state = awake;
+    step_state(&later, state, depth, value, meter)
 }
 
 // The next sample of a part that has been counted and is prepared for it, and whose own parts stand inside `inside` nodes.
@@ -191,7 +231,7 @@ fn step_counted<R: Holds>(
 ) -> Result<(), Stop>
     requires { IsTrue (is_awake state.old) }
     ensures { CountedSteps (R.answers context.now.functions.now) (plan_in context.now) state.old (step (dt_in context.now) value.old)
-        (left_or result (state.new, value.new) (fault_in meter.new)) meter.old meter.new inside }
+        (left_or result (state.new, value.new) (meter_fault meter.new)) meter.old meter.new inside }
 {
     match state {
         State::Primitive(prim) => step_prim(context, prim, value, meter),
@@ -201,7 +241,7 @@ fn step_counted<R: Holds>(
             take_over(state, over);
             Ok(())
         }
-        State::Keeping(names, node) => {
+        State::Continuation(names, node) => {
             let kept = step_observing(context, node, names, inside, value, meter)?;
             take_over(state, kept);
             Ok(())
@@ -227,7 +267,7 @@ fn step_watching<R: Holds>(
     meter: &mut Meter,
 ) -> Result<Option<State>, Stop>
     ensures { SwitchSteps (R.answers context.now.functions.now) (plan_in context.now) names.now node.old.value (step (dt_in context.now) value.old)
-        (left_beside result node.new.value value.new (fault_in meter.new)) meter.old meter.new inside }
+        (left_beside result node.new.value value.new (meter_fault meter.new)) meter.old meter.new inside }
 {
     match Rc::get_mut(node) {
         Some(switch) => step_switch(context, switch, names, inside, value, meter),
@@ -248,7 +288,7 @@ fn step_watching_copy<R: Holds>(
     meter: &mut Meter,
 ) -> Result<Option<State>, Stop>
     ensures { SwitchSteps (R.answers context.now.functions.now) (plan_in context.now) names.now node.old.value (step (dt_in context.now) value.old)
-        (left_beside result node.new.value value.new (fault_in meter.new)) meter.old meter.new inside }
+        (left_beside result node.new.value value.new (meter_fault meter.new)) meter.old meter.new inside }
 {
     let Ok(mut own) = node.clone_in(context.alloc) else {
         return Err(meter.stop(Fault::Memory));
@@ -266,17 +306,17 @@ fn step_watching_copy<R: Holds>(
 #[inline(always)]
 fn step_observing<R: Holds>(
     context: &SampleContext<R>,
-    node: &mut Rc<Keeping>,
+    node: &mut Rc<Continuation>,
     names: &Env,
     inside: u64,
     value: &mut Value,
     meter: &mut Meter,
 ) -> Result<Option<State>, Stop>
-    ensures { KeepingSteps (R.answers context.now.functions.now) (plan_in context.now) names.now node.old.value (step (dt_in context.now) value.old)
-        (left_beside result node.new.value value.new (fault_in meter.new)) meter.old meter.new inside }
+    ensures { ContinuationSteps (R.answers context.now.functions.now) (plan_in context.now) names.now node.old.value (step (dt_in context.now) value.old)
+        (left_beside result node.new.value value.new (meter_fault meter.new)) meter.old meter.new inside }
 {
     match Rc::get_mut(node) {
-        Some(keeping) => step_keeping(context, keeping, names, inside, value, meter),
+        Some(continuing) => step_continuing(context, continuing, names, inside, value, meter),
         None => step_observing_copy(context, node, names, inside, value, meter),
     }
 }
@@ -287,19 +327,19 @@ fn step_observing<R: Holds>(
 #[inline(never)]
 fn step_observing_copy<R: Holds>(
     context: &SampleContext<R>,
-    node: &mut Rc<Keeping>,
+    node: &mut Rc<Continuation>,
     names: &Env,
     inside: u64,
     value: &mut Value,
     meter: &mut Meter,
 ) -> Result<Option<State>, Stop>
-    ensures { KeepingSteps (R.answers context.now.functions.now) (plan_in context.now) names.now node.old.value (step (dt_in context.now) value.old)
-        (left_beside result node.new.value value.new (fault_in meter.new)) meter.old meter.new inside }
+    ensures { ContinuationSteps (R.answers context.now.functions.now) (plan_in context.now) names.now node.old.value (step (dt_in context.now) value.old)
+        (left_beside result node.new.value value.new (meter_fault meter.new)) meter.old meter.new inside }
 {
     let Ok(mut own) = node.clone_in(context.alloc) else {
         return Err(meter.stop(Fault::Memory));
     };
-    let over = step_keeping(context, &mut own, names, inside, value, meter)?;
+    let over = step_continuing(context, &mut own, names, inside, value, meter)?;
     let Ok(copy) = Rc::new(context.alloc, own) else {
         return Err(meter.stop(Fault::Memory));
     };
@@ -319,7 +359,7 @@ fn step_gathering<R: Holds>(
     meter: &mut Meter,
 ) -> Result<Option<State>, Stop>
     ensures { GatheringSteps (R.answers context.now.functions.now) (plan_in context.now) names.now node.old.value (step (dt_in context.now) value.old)
-        (left_beside result node.new.value value.new (fault_in meter.new)) meter.old meter.new inside }
+        (left_beside result node.new.value value.new (meter_fault meter.new)) meter.old meter.new inside }
 {
     match Rc::get_mut(node) {
         Some(gathering) => step_members_waiting(context, gathering, names, inside, value, meter),
@@ -340,7 +380,7 @@ fn step_gathering_copy<R: Holds>(
     meter: &mut Meter,
 ) -> Result<Option<State>, Stop>
     ensures { GatheringSteps (R.answers context.now.functions.now) (plan_in context.now) names.now node.old.value (step (dt_in context.now) value.old)
-        (left_beside result node.new.value value.new (fault_in meter.new)) meter.old meter.new inside }
+        (left_beside result node.new.value value.new (meter_fault meter.new)) meter.old meter.new inside }
 {
     let Ok(mut own) = node.clone_in(context.alloc) else {
         return Err(meter.stop(Fault::Memory));
@@ -365,7 +405,7 @@ fn step_members_waiting<R: Holds>(
     meter: &mut Meter,
 ) -> Result<Option<State>, Stop>
     ensures { GatheringSteps (R.answers context.now.functions.now) (plan_in context.now) names.now gathering.old (step (dt_in context.now) value.old)
-        (left_beside result gathering.new value.new (fault_in meter.new)) meter.old meter.new inside }
+        (left_beside result gathering.new value.new (meter_fault meter.new)) meter.old meter.new inside }
 {
     match gathering {
         Gathering::Releasing(releasing) => {
@@ -390,7 +430,7 @@ fn step_releasing<R: Holds>(
     meter: &mut Meter,
 ) -> Result<Option<State>, Stop>
     ensures { GatheringSteps (R.answers context.now.functions.now) (plan_in context.now) names.now (Gathering.Releasing releasing.old) (step (dt_in context.now) value.old)
-        (left_beside result (Gathering.Releasing releasing.new) value.new (fault_in meter.new)) meter.old meter.new inside }
+        (left_beside result (Gathering.Releasing releasing.new) value.new (meter_fault meter.new)) meter.old meter.new inside }
 {
     let alloc = context.alloc;
     let Ok(()) = hold_back_members(alloc, &mut releasing.members, &mut releasing.before) else {
@@ -430,7 +470,7 @@ fn step_edited<R: Holds>(
     meter: &mut Meter,
 ) -> Result<Option<State>, Stop>
     ensures { GatheringSteps (R.answers context.now.functions.now) (plan_in context.now) names.now (Gathering.Editing editing.old) (step (dt_in context.now) value.old)
-        (left_beside result (Gathering.Editing editing.new) value.new (fault_in meter.new)) meter.old meter.new inside }
+        (left_beside result (Gathering.Editing editing.new) value.new (meter_fault meter.new)) meter.old meter.new inside }
 {
     step_editing(context, editing, names, inside, value, meter)?;
     Ok(None)
@@ -449,7 +489,7 @@ fn step_editing<R: Holds>(
     meter: &mut Meter,
 ) -> Result<(), Stop>
     ensures { GatheringSteps (R.answers context.now.functions.now) (plan_in context.now) names.now (Gathering.Editing editing.old) (step (dt_in context.now) value.old)
-        (left_or result ((None, Gathering.Editing editing.new), value.new) (fault_in meter.new)) meter.old meter.new inside }
+        (left_or result ((None, Gathering.Editing editing.new), value.new) (meter_fault meter.new)) meter.old meter.new inside }
 {
     let alloc = context.alloc;
     let Ok((input, occurring)) = value_and_payload(alloc, value) else {
@@ -502,8 +542,8 @@ fn step_exchange<R: Holds>(
     value: &mut Value,
     meter: &mut Meter,
 ) -> Result<(), Stop>
-    ensures { EditSteps (R.answers context.now.functions.now) (plan_in context.now) (held_in members.old) (held_as_made exchange.made) exchange.shown (step (dt_in context.now) value.old)
-        (left_or result (held_in members.new, value.new) (fault_in meter.new)) meter.old meter.new exchange.inside }
+    ensures { EditSteps (R.answers context.now.functions.now) (plan_in context.now) (gathered_holding members.old) (held_as_made exchange.made) exchange.shown (step (dt_in context.now) value.old)
+        (left_or result (gathered_holding members.new, value.new) (meter_fault meter.new)) meter.old meter.new exchange.inside }
 {
     let Exchange {
         shown,
@@ -536,7 +576,7 @@ fn step_draft<R: Holds>(
     meter: &mut Meter,
 ) -> Result<(), Stop>
     ensures { DraftSteps (R.answers context.now.functions.now) (plan_in context.now) edit (dt_in context.now) members.old.keys members.old.states.value.items value.old
-        (left_or result (held_in members.new, value.new) (fault_in meter.new)) meter.old meter.new }
+        (left_or result (gathered_holding members.new, value.new) (meter_fault meter.new)) meter.old meter.new }
 {
     members.wait = None;
     let keys = &mut members.keys;
@@ -560,7 +600,7 @@ fn step_turns_copy<R: Holds>(
     meter: &mut Meter,
 ) -> Result<(), Stop>
     ensures { DraftSteps (R.answers context.now.functions.now) (plan_in context.now) edit (dt_in context.now) keys.old list.old.value.items value.old
-        (left_or result (held_as keys.new list.new.value.items None, value.new) (fault_in meter.new)) meter.old meter.new }
+        (left_or result (held_as keys.new list.new.value.items None, value.new) (meter_fault meter.new)) meter.old meter.new }
 {
     let Ok(shared) = list.clone() else {
         return Err(meter.stop(Fault::Memory));
@@ -588,8 +628,8 @@ fn step_turns<R: Holds>(
     value: &mut Value,
     meter: &mut Meter,
 ) -> Result<(), Stop>
-    ensures { (bs : List StateOf) → AllFollow (R.answers context.now.functions.now) (plan_in context.now) bs states.old.items → DraftSteps (R.answers context.now.functions.now) (plan_in context.now) edit (dt_in context.now) keys.old bs value.old
-        (left_or result (held_as keys.new states.new.items None, value.new) (fault_in meter.new)) meter.old meter.new }
+    ensures { (bs : List state_forms.State) → AllFollow (R.answers context.now.functions.now) (plan_in context.now) bs states.old.items → DraftSteps (R.answers context.now.functions.now) (plan_in context.now) edit (dt_in context.now) keys.old bs value.old
+        (left_or result (held_as keys.new states.new.items None, value.new) (meter_fault meter.new)) meter.old meter.new }
 {
     let alloc = context.alloc;
     let Edit {
@@ -638,7 +678,7 @@ fn step_noted<R: Holds>(
     meter: &mut Meter,
 ) -> Result<Noted, Stop>
     ensures { HaveStepped (R.answers context.now.functions.now) (plan_in context.now) wait (step (dt_in context.now) value.now) inside meter.old states.old.items
-        (left_noted result states.new.items (fault_in meter.new)) meter.new }
+        (left_noted result states.new.items (meter_fault meter.new)) meter.new }
 {
     let alloc = context.alloc;
     let room = room_for(states.len());
@@ -673,7 +713,7 @@ fn step_again<R: Holds>(
     requires states { length states.old.items ≡ length turns.each.now }
     requires outputs { length outputs.old.items ≡ length turns.each.now }
     ensures { HaveTurned (R.answers context.now.functions.now) (plan_in context.now) turns.entry.wait (dt_in context.now) turns.entry.inside meter.old states.old.items outputs.old.items turns.entry.each.now
-        (left_or result (states.new.items, outputs.new.items) (fault_in meter.new)) meter.new }
+        (left_or result (states.new.items, outputs.new.items) (meter_fault meter.new)) meter.new }
 {
     let Turns { inside, wait, each } = turns;
     for at in 0..each.len() {
@@ -700,7 +740,7 @@ fn step_members<R: Holds>(
     meter: &mut Meter,
 ) -> Result<(), Stop>
     ensures { MembersSteps (R.answers context.now.functions.now) (plan_in context.now) members.old (step (dt_in context.now) value.old)
-        (left_or result (members.new, value.new) (fault_in meter.new)) meter.old meter.new inside }
+        (left_or result (members.new, value.new) (meter_fault meter.new)) meter.old meter.new inside }
 {
     let wait = members.wait;
     let outputs = step_list(context, wait, &mut members.states, inside, &*value, meter)?;
@@ -726,7 +766,7 @@ fn step_list<R: Holds>(
     meter: &mut Meter,
 ) -> Result<Vec<Value>, Stop>
     ensures { EachSteps (R.answers context.now.functions.now) (plan_in context.now) wait list.old.value.items (step (dt_in context.now) value.now)
-        (left_with result list.new.value.items (fault_in meter.new)) meter.old meter.new inside }
+        (left_with result list.new.value.items (meter_fault meter.new)) meter.old meter.new inside }
 {
     match Rc::get_mut(list) {
         Some(states) => step_each(context, wait, states, inside, value, meter),
@@ -747,7 +787,7 @@ fn step_list_copy<R: Holds>(
     meter: &mut Meter,
 ) -> Result<Vec<Value>, Stop>
     ensures { EachSteps (R.answers context.now.functions.now) (plan_in context.now) wait list.old.value.items (step (dt_in context.now) value.now)
-        (left_with result list.new.value.items (fault_in meter.new)) meter.old meter.new inside }
+        (left_with result list.new.value.items (meter_fault meter.new)) meter.old meter.new inside }
 {
     let Ok(shared) = list.clone() else {
         return Err(meter.stop(Fault::Memory));
@@ -775,7 +815,7 @@ fn step_each<R: Holds>(
     meter: &mut Meter,
 ) -> Result<Vec<Value>, Stop>
     ensures { EachSteps (R.answers context.now.functions.now) (plan_in context.now) wait states.old.items (step (dt_in context.now) value.now)
-        (left_with result states.new.items (fault_in meter.new)) meter.old meter.new inside }
+        (left_with result states.new.items (meter_fault meter.new)) meter.old meter.new inside }
 {
     let Ok(mut outputs) = Vec::with_capacity(context.alloc, states.len()) else {
         return Err(meter.stop(Fault::Memory));
@@ -802,7 +842,7 @@ fn step_member<R: Holds>(
     meter: &mut Meter,
 ) -> Result<(), Stop>
     ensures { MemberSteps (R.answers context.now.functions.now) (plan_in context.now) wait state.old (step (dt_in context.now) value.old)
-        (left_or result (state.new, value.new) (fault_in meter.new)) meter.old meter.new inside }
+        (left_or result (state.new, value.new) (meter_fault meter.new)) meter.old meter.new inside }
 {
     match wait {
         None => step_state(context, state, inside, value, meter),
@@ -822,7 +862,7 @@ fn step_waiting<R: Holds>(
     meter: &mut Meter,
 ) -> Result<(), Stop>
     ensures { MemberSteps (R.answers context.now.functions.now) (plan_in context.now) (Some wait) state.old (step (dt_in context.now) value.old)
-        (left_or result (state.new, value.new) (fault_in meter.new)) meter.old meter.new inside }
+        (left_or result (state.new, value.new) (meter_fault meter.new)) meter.old meter.new inside }
 {
     if has_lived(state) {
         let later = SampleContext {
@@ -874,7 +914,7 @@ fn step_gathered<R: Holds>(
     meter: &mut Meter,
 ) -> Result<(), Stop>
     ensures { LiveSteps (R.answers context.now.functions.now) (plan_in context.now) (Live.Gathered members.old) (step (dt_in context.now) value.old)
-        (left_or result (Live.Gathered members.new, value.new) (fault_in meter.new)) meter.old meter.new inside }
+        (left_or result (Live.Gathered members.new, value.new) (meter_fault meter.new)) meter.old meter.new inside }
 {
     step_members(context, members, inside, value, meter)
 }
@@ -892,7 +932,7 @@ fn step_switch<R: Holds>(
     meter: &mut Meter,
 ) -> Result<Option<State>, Stop>
     ensures { SwitchSteps (R.answers context.now.functions.now) (plan_in context.now) names.now switch.old (step (dt_in context.now) value.old)
-        (left_beside result switch.new value.new (fault_in meter.new)) meter.old meter.new inside }
+        (left_beside result switch.new value.new (meter_fault meter.new)) meter.old meter.new inside }
 {
     match switch.form {
         Switching::Basic(_) => step_basic(context, switch, names, inside, value, meter),
@@ -916,7 +956,7 @@ fn step_basic<R: Holds>(
 ) -> Result<Option<State>, Stop>
     requires form { switch.old.form ≡ Switching.Basic (observation_of switch.old.form) }
     ensures { SwitchSteps (R.answers context.now.functions.now) (plan_in context.now) names.now switch.old (step (dt_in context.now) value.old)
-        (left_beside result switch.new value.new (fault_in meter.new)) meter.old meter.new inside }
+        (left_beside result switch.new value.new (meter_fault meter.new)) meter.old meter.new inside }
 {
     let Ok(output) = value.clone_in(context.alloc) else {
         return Err(meter.stop(Fault::Memory));
@@ -953,7 +993,7 @@ fn step_recurring<R: Holds>(
 ) -> Result<(), Stop>
     requires form { switch.old.form ≡ Switching.Recurring (observation_of switch.old.form) }
     ensures { SwitchSteps (R.answers context.now.functions.now) (plan_in context.now) names.now switch.old (step (dt_in context.now) value.old)
-        (left_or result ((None, switch.new), value.new) (fault_in meter.new)) meter.old meter.new inside }
+        (left_or result ((None, switch.new), value.new) (meter_fault meter.new)) meter.old meter.new inside }
 {
     let Ok((input, occurring)) = value_and_payload(context.alloc, value) else {
         return Err(meter.stop(Fault::Memory));
@@ -982,38 +1022,42 @@ fn step_recurring<R: Holds>(
 // input beside the source's value, and its body is handed the source as it was before this sample.
 #[cycle(step)]
 #[inline(never)]
-fn step_keeping<R: Holds>(
+fn step_continuing<R: Holds>(
     context: &SampleContext<R>,
-    keeping: &mut Keeping,
+    continuing: &mut Continuation,
     names: &Env,
     inside: u64,
     value: &mut Value,
     meter: &mut Meter,
 ) -> Result<Option<State>, Stop>
-    ensures { KeepingSteps (R.answers context.now.functions.now) (plan_in context.now) names.now keeping.old (step (dt_in context.now) value.old)
-        (left_beside result keeping.new value.new (fault_in meter.new)) meter.old meter.new inside }
+    ensures { ContinuationSteps (R.answers context.now.functions.now) (plan_in context.now) names.now continuing.old (step (dt_in context.now) value.old)
+        (left_beside result continuing.new value.new (meter_fault meter.new)) meter.old meter.new inside }
 {
-    let Ok(()) = hold_back(context.alloc, &mut keeping.source, &mut keeping.before) else {
+    let Ok(()) = hold_back(
+        context.alloc,
+        &mut continuing.source,
+        &mut continuing.before,
+    ) else {
         return Err(meter.stop(Fault::Memory));
     };
     let Ok((input, output)) = copies(context.alloc, &*value) else {
         return Err(meter.stop(Fault::Memory));
     };
-    step_state(context, &mut keeping.source, inside, value, meter)?;
+    step_state(context, &mut continuing.source, inside, value, meter)?;
     let Ok(mut seen) = beside(context.alloc, input, &*value) else {
         return Err(meter.stop(Fault::Memory));
     };
-    step_state(context, &mut keeping.observer, inside, &mut seen, meter)?;
+    step_state(context, &mut continuing.observer, inside, &mut seen, meter)?;
     match payload_of(seen) {
         None => Ok(None),
         Some(payload) => {
             let plan = context.plan;
-            let Ok(successor) = keeping.begin(context.alloc, plan, names, context.dt, payload)
+            let Ok(successor) = continuing.begin(context.alloc, plan, names, context.dt, payload)
             else {
                 return Err(meter.stop(Fault::Memory));
             };
             let (successor, output) = step_begun(context, successor, inside, output, meter)?;
-            show(keeping.shown, value, output);
+            show(continuing.shown, value, output);
             Ok(Some(successor))
         }
     }
@@ -1030,7 +1074,7 @@ fn step_begun<R: Holds>(
     meter: &mut Meter,
 ) -> Result<(State, Value), Stop>
     ensures { StateSteps (R.answers context.now.functions.now) (plan_in context.now) body (step (dt_in context.now) input)
-        (kept result (fault_in meter.new)) meter.old meter.new inside }
+        (kept result (meter_fault meter.new)) meter.old meter.new inside }
 {
     let mut body = body;
     let mut value = input;
@@ -1056,7 +1100,7 @@ fn step_node<R: Holds>(
     meter: &mut Meter,
 ) -> Result<(), Stop>
     ensures { LiveSteps (R.answers context.now.functions.now) (plan_in context.now) node.old.value (step (dt_in context.now) value.old)
-        (left_or result (node.new.value, value.new) (fault_in meter.new)) meter.old meter.new inside }
+        (left_or result (node.new.value, value.new) (meter_fault meter.new)) meter.old meter.new inside }
 {
     match Rc::get_mut(node) {
         Some(live) => step_live(context, live, inside, value, meter),
@@ -1076,7 +1120,7 @@ fn step_node_copy<R: Holds>(
     meter: &mut Meter,
 ) -> Result<(), Stop>
     ensures { LiveSteps (R.answers context.now.functions.now) (plan_in context.now) node.old.value (step (dt_in context.now) value.old)
-        (left_or result (node.new.value, value.new) (fault_in meter.new)) meter.old meter.new inside }
+        (left_or result (node.new.value, value.new) (meter_fault meter.new)) meter.old meter.new inside }
 {
     let Ok(mut own) = node.clone_in(context.alloc) else {
         return Err(meter.stop(Fault::Memory));
@@ -1100,7 +1144,7 @@ fn step_live<R: Holds>(
     meter: &mut Meter,
 ) -> Result<(), Stop>
     ensures { LiveSteps (R.answers context.now.functions.now) (plan_in context.now) live.old (step (dt_in context.now) value.old)
-        (left_or result (live.new, value.new) (fault_in meter.new)) meter.old meter.new inside }
+        (left_or result (live.new, value.new) (meter_fault meter.new)) meter.old meter.new inside }
 {
     match live {
         Live::Probe(name) => step_probe(context, name, value, meter),
@@ -1136,7 +1180,7 @@ fn step_sequence<R: Holds>(
     meter: &mut Meter,
 ) -> Result<(), Stop>
     ensures { LiveSteps (R.answers context.now.functions.now) (plan_in context.now) (Live.Join Join.InSequence left.old right.old) (step (dt_in context.now) value.old)
-        (left_or result (Live.Join Join.InSequence left.new right.new, value.new) (fault_in meter.new)) meter.old meter.new inside }
+        (left_or result (Live.Join Join.InSequence left.new right.new, value.new) (meter_fault meter.new)) meter.old meter.new inside }
 {
     step_state(context, left, inside, value, meter)?;
     step_state(context, right, inside, value, meter)
@@ -1154,7 +1198,7 @@ fn step_parallel<R: Holds>(
     meter: &mut Meter,
 ) -> Result<(), Stop>
     ensures { LiveSteps (R.answers context.now.functions.now) (plan_in context.now) (Live.Join Join.InParallel left.old right.old) (step (dt_in context.now) value.old)
-        (left_or result (Live.Join Join.InParallel left.new right.new, value.new) (fault_in meter.new)) meter.old meter.new inside }
+        (left_or result (Live.Join Join.InParallel left.new right.new, value.new) (meter_fault meter.new)) meter.old meter.new inside }
 {
     let input = mem::replace(value, Value::int(0));
     let Ok(mut node) = input.into_pair(context.alloc) else {
@@ -1181,7 +1225,7 @@ fn step_fan<R: Holds>(
     meter: &mut Meter,
 ) -> Result<(), Stop>
     ensures { LiveSteps (R.answers context.now.functions.now) (plan_in context.now) (Live.Join Join.FannedOut left.old right.old) (step (dt_in context.now) value.old)
-        (left_or result (Live.Join Join.FannedOut left.new right.new, value.new) (fault_in meter.new)) meter.old meter.new inside }
+        (left_or result (Live.Join Join.FannedOut left.new right.new, value.new) (meter_fault meter.new)) meter.old meter.new inside }
 {
     let Ok(mut first) = value.clone_in(context.alloc) else {
         return Err(meter.stop(Fault::Memory));
@@ -1207,7 +1251,7 @@ fn step_pipeline<R: Holds>(
     meter: &mut Meter,
 ) -> Result<(), Stop>
     ensures { LiveSteps (R.answers context.now.functions.now) (plan_in context.now) (Live.Pipeline stages.old) (step (dt_in context.now) value.old)
-        (left_or result (Live.Pipeline stages.new, value.new) (fault_in meter.new)) meter.old meter.new inside }
+        (left_or result (Live.Pipeline stages.new, value.new) (meter_fault meter.new)) meter.old meter.new inside }
 {
     for stage in stages.iter_mut() {
         step_state(context, stage, inside, value, meter)?;
@@ -1226,7 +1270,7 @@ fn step_first<R: Holds>(
     meter: &mut Meter,
 ) -> Result<(), Stop>
     ensures { LiveSteps (R.answers context.now.functions.now) (plan_in context.now) (Live.Wrap Wrap.First part.old) (step (dt_in context.now) value.old)
-        (left_or result (Live.Wrap Wrap.First part.new, value.new) (fault_in meter.new)) meter.old meter.new inside }
+        (left_or result (Live.Wrap Wrap.First part.new, value.new) (meter_fault meter.new)) meter.old meter.new inside }
 {
     let input = mem::replace(value, Value::int(0));
     let Ok(mut node) = input.into_pair(context.alloc) else {
@@ -1251,7 +1295,7 @@ fn step_second<R: Holds>(
     meter: &mut Meter,
 ) -> Result<(), Stop>
     ensures { LiveSteps (R.answers context.now.functions.now) (plan_in context.now) (Live.Wrap Wrap.Second part.old) (step (dt_in context.now) value.old)
-        (left_or result (Live.Wrap Wrap.Second part.new, value.new) (fault_in meter.new)) meter.old meter.new inside }
+        (left_or result (Live.Wrap Wrap.Second part.new, value.new) (meter_fault meter.new)) meter.old meter.new inside }
 {
     let input = mem::replace(value, Value::int(0));
     let Ok(mut node) = input.into_pair(context.alloc) else {
@@ -1277,7 +1321,7 @@ fn step_loop<R: Holds>(
     meter: &mut Meter,
 ) -> Result<(), Stop>
     ensures { LiveSteps (R.answers context.now.functions.now) (plan_in context.now) (Live.Wrap (Wrap.Loop feedback.old) part.old) (step (dt_in context.now) value.old)
-        (left_or result (Live.Wrap (Wrap.Loop feedback.new) part.new, value.new) (fault_in meter.new)) meter.old meter.new inside }
+        (left_or result (Live.Wrap (Wrap.Loop feedback.new) part.new, value.new) (meter_fault meter.new)) meter.old meter.new inside }
 {
     let Ok(mut both) = feedback.beside(context.alloc, value) else {
         return Err(meter.stop(Fault::Memory));
@@ -1301,7 +1345,7 @@ fn step_initialized<R: Holds>(
     meter: &mut Meter,
 ) -> Result<(), Stop>
     ensures { LiveSteps (R.answers context.now.functions.now) (plan_in context.now) (Live.Wrap (Wrap.Initialized first.old) part.old) (step (dt_in context.now) value.old)
-        (left_or result (Live.Wrap (Wrap.Initialized first.new) part.new, value.new) (fault_in meter.new)) meter.old meter.new inside }
+        (left_or result (Live.Wrap (Wrap.Initialized first.new) part.new, value.new) (meter_fault meter.new)) meter.old meter.new inside }
 {
     step_state(context, part, inside, value, meter)?;
     put_first(first, value);
@@ -1320,7 +1364,7 @@ fn step_replaced<R: Holds>(
     meter: &mut Meter,
 ) -> Result<(), Stop>
     ensures { LiveSteps (R.answers context.now.functions.now) (plan_in context.now) (Live.Wrap (Wrap.Replaced initial.old) part.old) (step (dt_in context.now) value.old)
-        (left_or result (Live.Wrap (Wrap.Replaced initial.new) part.new, value.new) (fault_in meter.new)) meter.old meter.new inside }
+        (left_or result (Live.Wrap (Wrap.Replaced initial.new) part.new, value.new) (meter_fault meter.new)) meter.old meter.new inside }
 {
     put_first(initial, value);
     step_state(context, part, inside, value, meter)
@@ -1338,7 +1382,7 @@ fn step_followed<R: Holds>(
     meter: &mut Meter,
 ) -> Result<(), Stop>
     ensures { LiveSteps (R.answers context.now.functions.now) (plan_in context.now) (Live.Wrap (Wrap.Followed last.old) part.old) (step (dt_in context.now) value.old)
-        (left_or result (Live.Wrap (Wrap.Followed last.new) part.new, value.new) (fault_in meter.new)) meter.old meter.new inside }
+        (left_or result (Live.Wrap (Wrap.Followed last.new) part.new, value.new) (meter_fault meter.new)) meter.old meter.new inside }
 {
     step_state(context, part, inside, value, meter)?;
     match put_last(last, value) {

@@ -8,7 +8,7 @@ use Rattle.std.specs.declared.rc.Rc.{Rc}
 use Rattle.std.specs.declared.alloc.Global.{Global}
 use Rattle.sf_arena.specs.declared.arena.ArenaRefusal.{ArenaRefusal}
 use Rattle.sf_arena.specs.declared.entry.Entry.{Entry}
-use Rattle.sf_arena.specs.Folded.{trees, tree_at}
+use Rattle.sf_arena.specs.Folded.{trees, folded_tree}
 use Rattle.sf_arena.specs.Items.{Added}
 use Rattle.sf_arena.proofs.Grown.{each_item, each_tree, tree_made, trees-same, added_or_same}
 use Rattle.sf_expr.specs.declared.exprs.Exprs.{Exprs}
@@ -22,7 +22,7 @@ use Rattle.sf_expr.specs.declared.exprs.ExprNode.{ExprNode}
 use Rattle.sf_refusal.specs.declared.spot.Spot.{Spot}
 use Rattle.sf_expr.specs.Expressions.{Literal, Expression}
 use Rattle.sf_expr.specs.Patterns.{PlacedPattern, pattern_of}
-use Rattle.sf_expr.specs.Arena.{expression, function_at, name_at, count_of, function_count, name_count, constant_count, pattern_count, placed_at, Keeps as KeepsExpressions, Adds, AddsName, AddsConstant, AddsPattern, AddsFunction, IsUnchanged}
+use Rattle.sf_expr.specs.Arena.{expression, function_at, name_at, arena_count, function_count, name_count, constant_count, pattern_count, stored_pattern, Adds, AddsName, AddsConstant, AddsPattern, AddsFunction, IsUnchanged, Extends}
 use Rattle.sf_expr.proofs.Entered.{below_holds, below_function, below_name, below_constant, below_pattern, unchanged_keeps, keeps_trans}
 use Rattle.sf_term.specs.declared.node.Primitive.TheVariants as primitives
 use Rattle.sf_term.specs.declared.node.Node.{Node}
@@ -34,7 +34,7 @@ use Rattle.sf_term.specs.declared.collection.CollectionId.{CollectionId}
 use Rattle.sf_term.specs.declared.collection.CollExpr.{CollExpr}
 use Rattle.sf_term.specs.declared.collection.CollExpr.TheVariants as collections
 use Rattle.sf_term.specs.Trees as forms
-use Rattle.sf_term.specs.Trees.{Term, primitive, reference, call, Collection, value_argument, process_argument, collection_argument, joined, sided, headed, transformed, never, switching, keeping, gathered, releasing, editing, with_value, timed, arrow, accumulated, named_term, term_depth}
+use Rattle.sf_term.specs.Trees.{Term, primitive, reference, call, Collection, value_argument, process_argument, collection_argument, joined, sided, headed, transformed, never, switching, continuing, gathered, releasing, editing, with_value, timed, arrow, accumulated, named_term, term_depth}
 use Rattle.sf_term.specs.Entries.{StoredLists, TermBase, absent_collection, collections_in, collection_listed, stored_over, stored_terms, stored_expressions, stored_functions, stored_names, collections_end, collections_needed, arguments_listed, arguments_over, terms_end, expressions_end, identity_term, term_among, term_over, absent_payload, needs_terms, needs_expressions, needs_functions, constants_needed, patterns_needed, names_needed, arguments_needed, identity_entry, term_entry, term_made, terms_made, term_entered, AreTerms}
 
 -- a collection depends on its terms alone
@@ -76,16 +76,16 @@ local b ts more entry h = at_node entry.node h
     at_node (nodes.Sided d a) h = ap (λ t. sided d t) (part a.0 h)
     at_node (nodes.Headed k e a) h = ap (λ t. headed k (expression b.expressions e) t) (part a.0 h)
     at_node (nodes.Transformed f a) h = ap (λ t. transformed (function_at b.expressions f) t) (part a.0 h)
-    at_node (nodes.Switching n) h = ap₂ (λ s t. switching n.form s (pattern_of (placed_at b.expressions n.pattern)) t) (part n.source.0 (omega arith)) (part n.body.0 (omega arith))
-    at_node (nodes.Keeping n) h = rw (part n.source.0 (omega arith), part n.observer.0 (omega arith), part n.body.0 (omega arith)) refl
+    at_node (nodes.Switching n) h = ap₂ (λ s t. switching n.form s (pattern_of (stored_pattern b.expressions n.pattern)) t) (part n.source.0 (omega arith)) (part n.body.0 (omega arith))
+    at_node (nodes.Continuation n) h = rw (part n.source.0 (omega arith), part n.observer.0 (omega arith), part n.body.0 (omega arith)) refl
     at_node (nodes.Gathered c) h = ap gathered (members (collection_listed b c) h)
     at_node (nodes.Releasing n) h = rw (members (collection_listed b n.members) (omega arith), part n.observer.0 (omega arith), part n.body.0 (omega arith)) refl
     at_node (nodes.Editing n) h =
-        ap₂ (λ i j. editing n.shown i (name_at b.expressions n.name) (pattern_of (placed_at b.expressions n.pattern)) j) (members (collection_listed b n.members) (omega arith)) (members (collection_listed b n.edit) (omega arith))
+        ap₂ (λ i j. editing n.shown i (name_at b.expressions n.name) (pattern_of (stored_pattern b.expressions n.pattern)) j) (members (collection_listed b n.members) (omega arith)) (members (collection_listed b n.edit) (omega arith))
 
 -- nothing is an arena
 pub arena_empty : (x : Exprs) → AreTerms (record { expressions = x; lists = record { arguments = []; collections = [] } }) []
-unfolding tree_at trees
+unfolding folded_tree trees
 arena_empty x = record {
   in_order = λ i. omega arith;
   closed = λ i. omega arith;
@@ -104,7 +104,7 @@ arena_empty x = record {
 -- What a node needs is there.
 pub record NeedsAreThere (b : TermBase) (entries : List (Entry Node)) (n : Node) : Type 0 where
   pub terms : needs_terms b n ≤ length entries
-  pub expressions : needs_expressions b n ≤ count_of b.expressions
+  pub expressions : needs_expressions b n ≤ arena_count b.expressions
   pub functions : needs_functions n ≤ function_count b.expressions
   pub patterns : patterns_needed n ≤ pattern_count b.expressions
   pub names : names_needed n ≤ name_count b.expressions
@@ -116,7 +116,7 @@ pub record NeedsAreThere (b : TermBase) (entries : List (Entry Node)) (n : Node)
 arena_added : (b : TermBase) (old new : List (Entry Node)) (entry : Entry Node) (n : ℕ) → Added old new entry n → AreTerms b old → NeedsAreThere b old entry.node → entry.depth ≡ term_depth (term_made b (terms_made b old) entry) → AreTerms b new
 arena_added b old new entry n added a needed measured = record {
   in_order = each_item old new entry n added (λ i e. needs_terms b e.node ≤ i) identity_entry a.in_order (omega (arith, added.next, needed.terms));
-  closed = each_item old new entry n added (λ i e. needs_expressions b e.node ≤ count_of b.expressions) identity_entry a.closed needed.expressions;
+  closed = each_item old new entry n added (λ i e. needs_expressions b e.node ≤ arena_count b.expressions) identity_entry a.closed needed.expressions;
   functions_closed = each_item old new entry n added (λ i e. needs_functions e.node ≤ function_count b.expressions) identity_entry a.functions_closed needed.functions;
   patterns_closed = each_item old new entry n added (λ i e. patterns_needed e.node ≤ pattern_count b.expressions) identity_entry a.patterns_closed needed.patterns;
   names_closed = each_item old new entry n added (λ i e. names_needed e.node ≤ name_count b.expressions) identity_entry a.names_closed needed.names;
@@ -186,7 +186,7 @@ collection-same : (b c : TermBase) (i : CollectionId) → MoreLists b.lists c.li
 collection-same b c i m h = m.collections.kept i.0 h
 
 -- a collection stays where the expressions grow
-pub stored-same : (x y : Exprs) (ts : List Term) (c : CollExpr) → KeepsExpressions x y → stored_expressions c ≤ count_of x → stored_functions c ≤ function_count x → stored_names c ≤ name_count x → stored_over y ts c ≡ stored_over x ts c
+pub stored-same : (x y : Exprs) (ts : List Term) (c : CollExpr) → Extends x y → stored_expressions c ≤ arena_count x → stored_functions c ≤ function_count x → stored_names c ≤ name_count x → stored_over y ts c ≡ stored_over x ts c
 stored-same x y ts (collections.Empty w t s) k h g n = refl
 stored-same x y ts (collections.Used w r s) k h g n = ap forms.used (k.names w (below_name x w (omega arith)))
 stored-same x y ts (collections.Added' a c e t s) k h g n = ap₂ (λ i u. forms.added i u (term_among ts t.0)) (stored-same x y ts c k (omega arith) g n) (k.trees e (below_holds x e (omega arith)))
@@ -197,8 +197,8 @@ stored-same x y ts (collections.Chosen' e a c b d s) k h g n =
     (ap₂ (λ i j. (i, j)) (stored-same x y ts c k (omega arith) (omega arith) (omega arith)) (stored-same x y ts d k (omega arith) (omega arith) (omega arith)))
 
 -- the terms stay where the expressions and the arguments grow
-pub term-same : (b c : TermBase) (entries : List (Entry Node)) (i : ℕ) → KeepsExpressions b.expressions c.expressions → MoreLists b.lists c.lists → AreTerms b entries → term_entered c entries i ≡ term_entered b entries i
-unfolding tree_at
+pub term-same : (b c : TermBase) (entries : List (Entry Node)) (i : ℕ) → Extends b.expressions c.expressions → MoreLists b.lists c.lists → AreTerms b entries → term_entered c entries i ≡ term_entered b entries i
+unfolding folded_tree
 term-same b c entries i k m a =
     ap (λ ts. term_among ts i) (trees-same (term_made c) (term_made b) identity_entry entries (λ j us h. at_node us (term_entry entries j).node (a.closed j) (a.functions_closed j) (a.patterns_closed j) (a.names_closed j) (a.constants_closed j) (a.arguments_closed j) (a.collections_closed j)))
   where
@@ -207,13 +207,13 @@ term-same b c entries i k m a =
         ap (stored_over c.expressions ts) (collection-same b c i m h)
         ∙ stored-same b.expressions c.expressions ts (collection_listed b i) k (a.stored_expressions_closed i) (a.stored_functions_closed i) (a.stored_names_closed i)
 
-    at_arguments : (ts : List Term) (vs : List Argument) → expressions_end vs ≤ count_of b.expressions → collections_end vs ≤ length b.lists.collections → arguments_over c ts vs ≡ arguments_over b ts vs
+    at_arguments : (ts : List Term) (vs : List Argument) → expressions_end vs ≤ arena_count b.expressions → collections_end vs ≤ length b.lists.collections → arguments_over c ts vs ≡ arguments_over b ts vs
     at_arguments ts [] h g = refl
     at_arguments ts (arguments.Value e ∷ vs) h g = ap₂ value_argument (k.trees e (below_holds b.expressions e (omega arith))) (at_arguments ts vs (omega arith) g)
     at_arguments ts (arguments.Process t ∷ vs) h g = ap (process_argument (term_among ts t.0)) (at_arguments ts vs h g)
     at_arguments ts (arguments.Collection i ∷ vs) h g = ap₂ collection_argument (members ts i (omega arith)) (at_arguments ts vs h (omega arith))
 
-    at_node : (ts : List Term) (n : Node) → needs_expressions b n ≤ count_of b.expressions → needs_functions n ≤ function_count b.expressions → patterns_needed n ≤ pattern_count b.expressions → names_needed n ≤ name_count b.expressions → constants_needed n ≤ constant_count b.expressions → arguments_needed n ≤ length b.lists.arguments → collections_needed b n ≤ length b.lists.collections
+    at_node : (ts : List Term) (n : Node) → needs_expressions b n ≤ arena_count b.expressions → needs_functions n ≤ function_count b.expressions → patterns_needed n ≤ pattern_count b.expressions → names_needed n ≤ name_count b.expressions → constants_needed n ≤ constant_count b.expressions → arguments_needed n ≤ length b.lists.arguments → collections_needed b n ≤ length b.lists.collections
         → term_over c ts n ≡ term_over b ts n
     at_node ts (nodes.Primitive (primitives.Bare k)) h g q m l v i = refl
     at_node ts (nodes.Primitive (primitives.Never n)) h g q m l v i = ap (λ l. primitive (never (absent_payload l))) (k.constants n (below_constant b.expressions n (omega arith)))
@@ -231,7 +231,7 @@ term-same b c entries i k m a =
     at_node ts (nodes.Headed w e a) h g q m l v i = ap (λ v. headed w v (term_among ts a.0)) (k.trees e (below_holds b.expressions e (omega arith)))
     at_node ts (nodes.Transformed f a) h g q m l v i = ap (λ v. transformed v (term_among ts a.0)) (k.meanings f (below_function b.expressions f (omega arith)))
     at_node ts (nodes.Switching n) h g q m l v i = ap (λ v. switching n.form (term_among ts n.source.0) (pattern_of v) (term_among ts n.body.0)) (k.placed n.pattern (below_pattern b.expressions n.pattern (omega arith)))
-    at_node ts (nodes.Keeping n) h g q m l v i = ap₂ (λ u v. keeping n.shown (term_among ts n.source.0) (term_among ts n.observer.0) u (pattern_of v) (term_among ts n.body.0)) (k.names n.name (below_name b.expressions n.name (omega arith))) (k.placed n.pattern (below_pattern b.expressions n.pattern (omega arith)))
+    at_node ts (nodes.Continuation n) h g q m l v i = ap₂ (λ u v. continuing n.shown (term_among ts n.source.0) (term_among ts n.observer.0) u (pattern_of v) (term_among ts n.body.0)) (k.names n.name (below_name b.expressions n.name (omega arith))) (k.placed n.pattern (below_pattern b.expressions n.pattern (omega arith)))
     at_node ts (nodes.Gathered d) h g q m l v i = ap gathered (members ts d (omega arith))
     at_node ts (nodes.Releasing n) h g q m l v i =
         rw (members ts n.members (omega arith), k.names n.name (below_name b.expressions n.name (omega arith)), k.placed n.pattern (below_pattern b.expressions n.pattern (omega arith))) refl
@@ -264,7 +264,7 @@ needs-same b c (nodes.Sided d a) m h g = (refl, refl, refl)
 needs-same b c (nodes.Headed q e a) m h g = (refl, refl, refl)
 needs-same b c (nodes.Transformed f a) m h g = (refl, refl, refl)
 needs-same b c (nodes.Switching n) m h g = (refl, refl, refl)
-needs-same b c (nodes.Keeping n) m h g = (refl, refl, refl)
+needs-same b c (nodes.Continuation n) m h g = (refl, refl, refl)
 needs-same b c (nodes.Gathered d) m h g = (ap stored_terms (collection-same b c d m (omega arith)), refl, refl)
 needs-same b c (nodes.Releasing n) m h g = (ap (λ i. max (stored_terms i) (suc (max n.observer.0 n.body.0))) (collection-same b c n.members m (omega arith)), refl, refl)
 needs-same b c (nodes.Editing n) m h g =
@@ -272,8 +272,8 @@ needs-same b c (nodes.Editing n) m h g =
 
 -- Expressions that grew: what was there is kept, and there are no fewer.
 pub record IsGrown (x y : Exprs) : Type 0 where
-  pub kept : KeepsExpressions x y
-  pub more : count_of x ≤ count_of y
+  pub kept : Extends x y
+  pub more : arena_count x ≤ arena_count y
   pub more_functions : function_count x ≤ function_count y
   pub more_patterns : pattern_count x ≤ pattern_count y
   pub more_names : name_count x ≤ name_count y
@@ -281,7 +281,7 @@ pub record IsGrown (x y : Exprs) : Type 0 where
 
 -- What collections name beside terms is there.
 pub record AreStored (c : TermBase) : Type 0 where
-  pub expressions : (i : CollectionId) → stored_expressions (collection_listed c i) ≤ count_of c.expressions
+  pub expressions : (i : CollectionId) → stored_expressions (collection_listed c i) ≤ arena_count c.expressions
   pub functions : (i : CollectionId) → stored_functions (collection_listed c i) ≤ function_count c.expressions
   pub names : (i : CollectionId) → stored_names (collection_listed c i) ≤ name_count c.expressions
 
@@ -331,10 +331,10 @@ collections_counted (r ∷ vs) = ap suc (collections_counted vs)
 
 -- what collections name is there, also where one more was put behind
 pub stored_put : (b : TermBase) (us : List CollExpr) (entries : List (Entry Node)) (l : CollExpr) (put : Bool) → us ≡ cond put (b.lists.collections ++ l ∷ []) b.lists.collections
-    → (stored_expressions l ≤ count_of b.expressions) × (stored_functions l ≤ function_count b.expressions) × (stored_names l ≤ name_count b.expressions)
+    → (stored_expressions l ≤ arena_count b.expressions) × (stored_functions l ≤ function_count b.expressions) × (stored_names l ≤ name_count b.expressions)
     → AreTerms b entries → AreStored (record { expressions = b.expressions; lists = record { arguments = b.lists.arguments; collections = us } })
 stored_put b us entries l put e h a = record {
-  expressions = each_stored (λ c. stored_expressions c ≤ count_of b.expressions) b.lists.collections us l put e a.stored_expressions_closed h.0 (omega arith);
+  expressions = each_stored (λ c. stored_expressions c ≤ arena_count b.expressions) b.lists.collections us l put e a.stored_expressions_closed h.0 (omega arith);
   functions = each_stored (λ c. stored_functions c ≤ function_count b.expressions) b.lists.collections us l put e a.stored_functions_closed h.1 (omega arith);
   names = each_stored (λ c. stored_names c ≤ name_count b.expressions) b.lists.collections us l put e a.stored_names_closed h.2 (omega arith);
 }

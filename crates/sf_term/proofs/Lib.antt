@@ -1,4 +1,4 @@
 pub mod Entered
-pub mod Kept
+pub mod Extended
 pub mod Refused
 pub mod Named

@@ -1,7 +1,7 @@
 -- Names of the language in patterns.
 use Rattle.std.proofs.Common.{◌≡◌, zero, suc, ◌↔◌, List, [], ◌∷◌, ◌++◌, All, subst, arith, Bool, false, IsTrue}
 use Rattle.sf_lex.specs.Words.{IsName}
-use Rattle.sf_expr.specs.Expressions.{Pattern, both, names_in}
+use Rattle.sf_expr.specs.Expressions.{Pattern, both, names_of_pattern}
 use Rattle.sf_term.specs.Names.{HasNames}
 use Rattle.std.proofs.lemmas.List.{length-append, get_or_append_left}
 use Rattle.std.proofs.lemmas.List.Elements.{All-append}
@@ -26,7 +26,7 @@ module _ {X : Type 0} (P : X → Type 0) where
 
 -- the names of two patterns are names of the language where those of each are
 pub both_named : (p q : Pattern) (b : Bool) → HasNames p → (IsTrue b ↔ HasNames q) → IsTrue b ↔ HasNames (both p q)
-both_named p q b h e = (λ t. All-append IsName (names_in p) (names_in q) h (e.0 t), λ n. e.1 (all_right IsName (names_in p) (names_in q) n))
+both_named p q b h e = (λ t. All-append IsName (names_of_pattern p) (names_of_pattern q) h (e.0 t), λ n. e.1 (all_right IsName (names_of_pattern p) (names_of_pattern q) n))
 
 pub first_unnamed : (p q : Pattern) (b : Bool) → (IsTrue b ↔ HasNames p) → b ≡ false → IsTrue b ↔ HasNames (both p q)
-first_unnamed p q b e f = (λ t. absurd cc, λ n. e.1 (all_left IsName (names_in p) (names_in q) n))
+first_unnamed p q b e f = (λ t. absurd cc, λ n. e.1 (all_left IsName (names_of_pattern p) (names_of_pattern q) n))

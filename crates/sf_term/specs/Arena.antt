@@ -12,7 +12,7 @@ use Rattle.sf_expr.specs.declared.exprs.Exprs.{Exprs}
 use Rattle.sf_value.specs.Values.{Name}
 use Rattle.sf_expr.specs.Expressions.{Expression, Function, function}
 use Rattle.sf_expr.specs.Patterns.{PlacedPattern, pattern_of}
-use Rattle.sf_expr.specs.Arena.{expression, count_of, name_at, HoldsName, next_name, literal_at, HoldsConstant, Holds, HoldsFunction as HoldsFunctionIn, HoldsPattern, placed_at, pattern_at as pattern_at_in, body_at as body_at_in, node_at as expression_node_in, spot_at as expression_spot_in}
+use Rattle.sf_expr.specs.Arena.{expression, arena_count, name_at, HoldsName, next_name, literal_at, HoldsConstant, Holds, HoldsPattern, stored_pattern, HoldsFunction, argument_pattern, body_id, node_at, spot_at}
 use Rattle.sf_term.specs.declared.node.TermId.{TermId}
 use Rattle.sf_term.specs.declared.node.ArgumentsId.{ArgumentsId}
 use Rattle.sf_term.specs.declared.node.Argument.{Argument}
@@ -24,7 +24,7 @@ use Rattle.sf_term.specs.declared.collection.CollExpr.TheVariants as collections
 use Rattle.sf_term.specs.declared.node.Node.{Node}
 use Rattle.sf_term.specs.declared.node.Node.TheVariants as nodes
 use Rattle.sf_term.specs.declared.program.Program.{Program}
-use Rattle.sf_term.specs.Trees.{Term, primitive, reference, call, Collection, without_members, used, added, dropped, kept, chosen, Arguments, no_arguments, value_argument, process_argument, collection_argument, joined, sided, headed, transformed, switching, keeping, gathered, releasing, editing, bare, never, with_value, timed, selected, arrow, accumulated, named_term, term_depth, Template, Templates}
+use Rattle.sf_term.specs.Trees.{Term, primitive, reference, call, Collection, without_members, used, added, dropped, kept, chosen, Arguments, no_arguments, value_argument, process_argument, collection_argument, joined, sided, headed, transformed, switching, continuing, gathered, releasing, editing, bare, never, with_value, timed, selected, arrow, accumulated, named_term, term_depth, Template, Templates}
 use Rattle.sf_term.specs.Parameters.{parameters_of}
 use Rattle.sf_term.specs.Headers.{Header}
 use Rattle.sf_value.specs.KindView.{key_kind_of}
@@ -35,16 +35,16 @@ abbrev pub term_number : TermId → ℕ
 term_number id = id.0
 
 -- the expressions of a program
-unfoldable pub expressions_of : Program → Exprs
-expressions_of p = p.expressions
+unfoldable pub program_expressions : Program → Exprs
+program_expressions p = p.expressions
 
 -- the arguments of the calls of a program, and its collections
 abbrev pub lists_of : Program → StoredLists
 lists_of p = record { arguments = p.arguments.items; collections = collections_in p.collections.items }
 
 -- what the terms of a program are made over beside terms
-abbrev pub base_of : Program → TermBase
-base_of p = record { expressions = p.expressions; lists = lists_of p }
+abbrev pub term_base : Program → TermBase
+term_base p = record { expressions = p.expressions; lists = lists_of p }
 
 -- how many terms a program holds
 unfoldable pub term_count : Program → ℕ
@@ -52,7 +52,7 @@ term_count p = length (entries_of p.terms)
 
 -- how many expressions a program holds
 unfoldable pub expression_count : Program → ℕ
-expression_count p = count_of p.expressions
+expression_count p = arena_count p.expressions
 
 -- a program holds a term under an id
 unfoldable pub HoldsTerm : Program → TermId → Type 0
@@ -64,19 +64,19 @@ HoldsExpression p e = Holds p.expressions e
 
 -- a program holds a function under an id
 unfoldable pub ProgramHoldsFunction : Program → FunctionId → Type 0
-ProgramHoldsFunction p f = HoldsFunctionIn p.expressions f
+ProgramHoldsFunction p f = HoldsFunction p.expressions f
 
 -- a program holds a pattern under an id, beside its functions
-unfoldable pub HoldsPatternIn : Program → PatternId → Type 0
-HoldsPatternIn p q = HoldsPattern p.expressions q
+unfoldable pub ProgramHoldsPattern : Program → PatternId → Type 0
+ProgramHoldsPattern p q = HoldsPattern p.expressions q
 
 -- a program holds arguments under an id
 unfoldable pub HoldsArguments : Program → ArgumentsId → Type 0
 HoldsArguments p a = a.0 < length p.arguments.items
 
 -- the arguments at an id, as ids; none where the program holds none
-unfoldable pub arguments_under : Program → ArgumentsId → List Argument
-arguments_under p a = slice_index_or p.arguments.items a.0 []
+unfoldable pub argument_nodes : Program → ArgumentsId → List Argument
+argument_nodes p a = slice_index_or p.arguments.items a.0 []
 
 -- the id of the next arguments
 unfoldable pub next_arguments : Program → ArgumentsId
@@ -87,8 +87,8 @@ unfoldable pub HoldsCollection : Program → CollectionId → Type 0
 HoldsCollection p c = c.0 < length (collections_in p.collections.items)
 
 -- the collection at an id, as ids; one without members where the program holds none
-unfoldable pub collection_under : Program → CollectionId → CollExpr
-collection_under p c = slice_index_or (collections_in p.collections.items) c.0 absent_collection
+unfoldable pub collection_node : Program → CollectionId → CollExpr
+collection_node p c = slice_index_or (collections_in p.collections.items) c.0 absent_collection
 
 -- the id of the next collection
 unfoldable pub next_collection : Program → CollectionId
@@ -96,31 +96,31 @@ next_collection p = record { 0 = length (collections_in p.collections.items) }
 
 -- the term at an id; the identity where the program holds none
 unfoldable pub tree : Program → TermId → Term
-tree p t = term_entered (base_of p) (entries_of p.terms) t.0
+tree p t = term_entered (term_base p) (entries_of p.terms) t.0
 
 -- the expression at an id; the number 0 where the program holds none
-unfoldable pub expression_under : Program → ExprId → Expression
-expression_under p e = expression p.expressions e
+unfoldable pub program_expression : Program → ExprId → Expression
+program_expression p e = expression p.expressions e
 
 -- the pattern of the function at an id; the one that binds nothing where the program holds none
 unfoldable pub function_pattern_at : Program → FunctionId → PlacedPattern
-function_pattern_at p f = pattern_at_in p.expressions f
+function_pattern_at p f = argument_pattern p.expressions f
 
 -- the id of the body of the function at an id
 unfoldable pub function_body_at : Program → FunctionId → ExprId
-function_body_at p f = body_at_in p.expressions f
+function_body_at p f = body_id p.expressions f
 
 -- the pattern at an id; the one that binds nothing where the program holds none
-unfoldable pub pattern_under : Program → PatternId → PlacedPattern
-pattern_under p q = placed_at p.expressions q
+unfoldable pub placed_pattern : Program → PatternId → PlacedPattern
+placed_pattern p q = stored_pattern p.expressions q
 
 -- the function at an id
-abbrev pub function_in : Program → FunctionId → Function
-function_in p f = function (pattern_of (function_pattern_at p f)) (expression_under p (function_body_at p f))
+abbrev pub program_function : Program → FunctionId → Function
+program_function p f = function (pattern_of (function_pattern_at p f)) (program_expression p (function_body_at p f))
 
 -- the entry at an id
-unfoldable pub term_entry_of : Program → TermId → Entry Node
-term_entry_of p t = term_entry (entries_of p.terms) t.0
+unfoldable pub program_entry : Program → TermId → Entry Node
+program_entry p t = term_entry (entries_of p.terms) t.0
 
 -- the node at an id, with the ids of its parts; the identity where the program holds none
 unfoldable pub term_node_at : Program → TermId → Node
@@ -128,48 +128,48 @@ term_node_at p t = (term_entry (entries_of p.terms) t.0).node
 
 -- the node of the expression at an id, with the ids of its parts; the number 0 where the program holds none
 unfoldable pub expression_node_at : Program → ExprId → ExprNode
-expression_node_at p e = expression_node_in p.expressions e
+expression_node_at p e = node_at p.expressions e
 
 -- what a collection with ids stands for
 abbrev pub collection_of : Program → CollExpr → Collection
 collection_of p (collections.Empty k t s) = without_members (key_kind_of k) t
-collection_of p (collections.Used k r s) = used (name_at (expressions_of p) k)
-collection_of p (collections.Added' a c e t s) = added (collection_of p c) (expression_under p e) (tree p t)
-collection_of p (collections.Dropped' a c e s) = dropped (collection_of p c) (expression_under p e)
-collection_of p (collections.Kept' a c f s) = kept (collection_of p c) (function_in p f)
-collection_of p (collections.Chosen' e a c b d s) = chosen (expression_under p e) (collection_of p c) (collection_of p d)
+collection_of p (collections.Used k r s) = used (name_at (program_expressions p) k)
+collection_of p (collections.Added' a c e t s) = added (collection_of p c) (program_expression p e) (tree p t)
+collection_of p (collections.Dropped' a c e s) = dropped (collection_of p c) (program_expression p e)
+collection_of p (collections.Kept' a c f s) = kept (collection_of p c) (program_function p f)
+collection_of p (collections.Chosen' e a c b d s) = chosen (program_expression p e) (collection_of p c) (collection_of p d)
 
 -- the collection at an id; one without members where the program holds none
-abbrev pub collection_at : Program → CollectionId → Collection
-collection_at p c = collection_of p (collection_under p c)
+abbrev pub collection_tree : Program → CollectionId → Collection
+collection_tree p c = collection_of p (collection_node p c)
 
 -- what arguments with ids stand for
 abbrev pub arguments_of : Program → List Argument → Arguments
 arguments_of p [] = no_arguments
-arguments_of p (arguments.Value e ∷ vs) = value_argument (expression_under p e) (arguments_of p vs)
+arguments_of p (arguments.Value e ∷ vs) = value_argument (program_expression p e) (arguments_of p vs)
 arguments_of p (arguments.Process t ∷ vs) = process_argument (tree p t) (arguments_of p vs)
-arguments_of p (arguments.Collection c ∷ vs) = collection_argument (collection_at p c) (arguments_of p vs)
+arguments_of p (arguments.Collection c ∷ vs) = collection_argument (collection_tree p c) (arguments_of p vs)
 
 -- the term that a node with the ids of its parts stands for
 abbrev pub term_of : Program → Node → Term
 term_of p (nodes.Primitive (primitives.Bare k)) = primitive (bare k)
-term_of p (nodes.Primitive (primitives.Never n)) = primitive (never (absent_payload (literal_at (expressions_of p) n)))
-term_of p (nodes.Primitive (primitives.WithValue k e)) = primitive (with_value k (expression_under p e))
-term_of p (nodes.Primitive (primitives.Timed k q e)) = primitive (timed k q (expression_under p e))
+term_of p (nodes.Primitive (primitives.Never n)) = primitive (never (absent_payload (literal_at (program_expressions p) n)))
+term_of p (nodes.Primitive (primitives.WithValue k e)) = primitive (with_value k (program_expression p e))
+term_of p (nodes.Primitive (primitives.Timed k q e)) = primitive (timed k q (program_expression p e))
 term_of p (nodes.Primitive (primitives.Selected k n)) = primitive (selected k n)
-term_of p (nodes.Primitive (primitives.Arrow f)) = primitive (arrow (function_in p f))
-term_of p (nodes.Primitive (primitives.Accumulated k e f)) = primitive (accumulated k (expression_under p e) (function_in p f))
-term_of p (nodes.Named w k s) = named_term w (name_at (expressions_of p) k)
-term_of p (nodes.Call k a) = reference (call (name_at (expressions_of p) k) (arguments_of p (arguments_under p a)))
+term_of p (nodes.Primitive (primitives.Arrow f)) = primitive (arrow (program_function p f))
+term_of p (nodes.Primitive (primitives.Accumulated k e f)) = primitive (accumulated k (program_expression p e) (program_function p f))
+term_of p (nodes.Named w k s) = named_term w (name_at (program_expressions p) k)
+term_of p (nodes.Call k a) = reference (call (name_at (program_expressions p) k) (arguments_of p (argument_nodes p a)))
 term_of p (nodes.Joined j a b) = joined j (tree p a) (tree p b)
 term_of p (nodes.Sided d a) = sided d (tree p a)
-term_of p (nodes.Headed h e a) = headed h (expression_under p e) (tree p a)
-term_of p (nodes.Transformed f a) = transformed (function_in p f) (tree p a)
-term_of p (nodes.Switching n) = switching n.form (tree p n.source) (pattern_of (pattern_under p n.pattern)) (tree p n.body)
-term_of p (nodes.Keeping n) = keeping n.shown (tree p n.source) (tree p n.observer) (name_at (expressions_of p) n.name) (pattern_of (pattern_under p n.pattern)) (tree p n.body)
-term_of p (nodes.Gathered c) = gathered (collection_at p c)
-term_of p (nodes.Releasing n) = releasing n.shown (collection_at p n.members) (tree p n.observer) (name_at (expressions_of p) n.name) (pattern_of (pattern_under p n.pattern)) (tree p n.body)
-term_of p (nodes.Editing n) = editing n.shown (collection_at p n.members) (name_at (expressions_of p) n.name) (pattern_of (pattern_under p n.pattern)) (collection_at p n.edit)
+term_of p (nodes.Headed h e a) = headed h (program_expression p e) (tree p a)
+term_of p (nodes.Transformed f a) = transformed (program_function p f) (tree p a)
+term_of p (nodes.Switching n) = switching n.form (tree p n.source) (pattern_of (placed_pattern p n.pattern)) (tree p n.body)
+term_of p (nodes.Continuation n) = continuing n.shown (tree p n.source) (tree p n.observer) (name_at (program_expressions p) n.name) (pattern_of (placed_pattern p n.pattern)) (tree p n.body)
+term_of p (nodes.Gathered c) = gathered (collection_tree p c)
+term_of p (nodes.Releasing n) = releasing n.shown (collection_tree p n.members) (tree p n.observer) (name_at (program_expressions p) n.name) (pattern_of (placed_pattern p n.pattern)) (tree p n.body)
+term_of p (nodes.Editing n) = editing n.shown (collection_tree p n.members) (name_at (program_expressions p) n.name) (pattern_of (placed_pattern p n.pattern)) (collection_tree p n.edit)
 
 -- where the term at an id stands in the text
 unfoldable pub term_spot_at : Program → TermId → Spot
@@ -177,23 +177,23 @@ term_spot_at p t = (term_entry (entries_of p.terms) t.0).spot
 
 -- where the expression at an id stands in the text
 unfoldable pub expression_spot_at : Program → ExprId → Spot
-expression_spot_at p e = expression_spot_in p.expressions e
+expression_spot_at p e = spot_at p.expressions e
 
 -- the templates of a program, whose bodies are ids, in order
 unfoldable pub headers_of : Program → List Header
 headers_of p = p.templates.items
 
 -- a template with the tree of its body
-abbrev pub template_in : Program → Header → Template
-template_in p h = record { name = h.name; parameters = parameters_of h.parameters; input = h.input; output = h.output; body = tree p h.body }
+abbrev pub term_template : Program → Header → Template
+term_template p h = record { name = h.name; parameters = parameters_of h.parameters; input = h.input; output = h.output; body = tree p h.body }
 
 -- the templates of a program, in order
 abbrev pub templates_of : Program → Templates
-templates_of p = map (template_in p) (headers_of p)
+templates_of p = map (term_template p) (headers_of p)
 
 -- where the names of the templates stand in the text, in order
-abbrev pub spots_of : Program → List Spot
-spots_of p = map (λ (h : Header). h.spot) (headers_of p)
+abbrev pub template_spots : Program → List Spot
+template_spots p = map (λ (h : Header). h.spot) (headers_of p)
 
 -- the ids of a collection's terms, as numbers, are below a number
 abbrev pub CollectionBelow : ℕ → CollExpr → Type 0
@@ -208,27 +208,27 @@ CollectionBelow n (collections.Chosen' e a c b d s) = CollectionBelow n c × Col
 abbrev pub ArgumentBelow : Program → ℕ → Argument → Type 0
 ArgumentBelow p n (arguments.Value e) = Unit {0}
 ArgumentBelow p n (arguments.Process t) = term_number t < n
-ArgumentBelow p n (arguments.Collection c) = CollectionBelow n (collection_under p c)
+ArgumentBelow p n (arguments.Collection c) = CollectionBelow n (collection_node p c)
 
 -- the ids of a node's parts, as numbers, are below a number
 abbrev pub TermPartsBelow : Program → Node → ℕ → Type 0
 TermPartsBelow p (nodes.Primitive q) n = Unit {0}
 TermPartsBelow p (nodes.Named w k s) n = Unit {0}
-TermPartsBelow p (nodes.Call k a) n = All (ArgumentBelow p n) (arguments_under p a)
+TermPartsBelow p (nodes.Call k a) n = All (ArgumentBelow p n) (argument_nodes p a)
 TermPartsBelow p (nodes.Joined j a b) n = (term_number a < n) × (term_number b < n)
 TermPartsBelow p (nodes.Sided d a) n = term_number a < n
 TermPartsBelow p (nodes.Headed h e a) n = term_number a < n
 TermPartsBelow p (nodes.Transformed f a) n = term_number a < n
 TermPartsBelow p (nodes.Switching node) n = (term_number node.source < n) × (term_number node.body < n)
-TermPartsBelow p (nodes.Keeping node) n = (term_number node.source < n) × (term_number node.observer < n) × (term_number node.body < n)
-TermPartsBelow p (nodes.Gathered c) n = CollectionBelow n (collection_under p c)
-TermPartsBelow p (nodes.Releasing r) n = CollectionBelow n (collection_under p r.members) × (term_number r.observer < n) × (term_number r.body < n)
-TermPartsBelow p (nodes.Editing r) n = CollectionBelow n (collection_under p r.members) × CollectionBelow n (collection_under p r.edit)
+TermPartsBelow p (nodes.Continuation node) n = (term_number node.source < n) × (term_number node.observer < n) × (term_number node.body < n)
+TermPartsBelow p (nodes.Gathered c) n = CollectionBelow n (collection_node p c)
+TermPartsBelow p (nodes.Releasing r) n = CollectionBelow n (collection_node p r.members) × (term_number r.observer < n) × (term_number r.body < n)
+TermPartsBelow p (nodes.Editing r) n = CollectionBelow n (collection_node p r.members) × CollectionBelow n (collection_node p r.edit)
 
 -- what a collection names is held
 abbrev pub HoldsMembers : Program → CollExpr → Type 0
 HoldsMembers p (collections.Empty k t s) = Unit {0}
-HoldsMembers p (collections.Used k r s) = HoldsName (expressions_of p) k
+HoldsMembers p (collections.Used k r s) = HoldsName (program_expressions p) k
 HoldsMembers p (collections.Added' a c e t s) = HoldsMembers p c × HoldsExpression p e × HoldsTerm p t
 HoldsMembers p (collections.Dropped' a c e s) = HoldsMembers p c × HoldsExpression p e
 HoldsMembers p (collections.Kept' a c f s) = HoldsMembers p c × ProgramHoldsFunction p f
@@ -236,7 +236,7 @@ HoldsMembers p (collections.Chosen' e a c b d s) = HoldsExpression p e × HoldsM
 
 -- a collection is held, and what it names
 abbrev pub HoldsWhole : Program → CollectionId → Type 0
-HoldsWhole p c = HoldsCollection p c × HoldsMembers p (collection_under p c)
+HoldsWhole p c = HoldsCollection p c × HoldsMembers p (collection_node p c)
 
 -- what an argument names is held
 abbrev pub HoldsArgument : Program → Argument → Type 0
@@ -247,53 +247,53 @@ HoldsArgument p (arguments.Collection c) = HoldsWhole p c
 -- the parts of a node are held
 abbrev pub HoldsTermParts : Program → Node → Type 0
 HoldsTermParts p (nodes.Primitive (primitives.Bare k)) = Unit {0}
-HoldsTermParts p (nodes.Primitive (primitives.Never n)) = HoldsConstant (expressions_of p) n
+HoldsTermParts p (nodes.Primitive (primitives.Never n)) = HoldsConstant (program_expressions p) n
 HoldsTermParts p (nodes.Primitive (primitives.WithValue k e)) = HoldsExpression p e
 HoldsTermParts p (nodes.Primitive (primitives.Timed k q e)) = HoldsExpression p e
 HoldsTermParts p (nodes.Primitive (primitives.Selected k n)) = Unit {0}
 HoldsTermParts p (nodes.Primitive (primitives.Arrow f)) = ProgramHoldsFunction p f
 HoldsTermParts p (nodes.Primitive (primitives.Accumulated k e f)) = HoldsExpression p e × ProgramHoldsFunction p f
-HoldsTermParts p (nodes.Named w k s) = HoldsName (expressions_of p) k
-HoldsTermParts p (nodes.Call k a) = HoldsName (expressions_of p) k × HoldsArguments p a × All (HoldsArgument p) (arguments_under p a)
+HoldsTermParts p (nodes.Named w k s) = HoldsName (program_expressions p) k
+HoldsTermParts p (nodes.Call k a) = HoldsName (program_expressions p) k × HoldsArguments p a × All (HoldsArgument p) (argument_nodes p a)
 HoldsTermParts p (nodes.Joined j a b) = HoldsTerm p a × HoldsTerm p b
 HoldsTermParts p (nodes.Sided d a) = HoldsTerm p a
 HoldsTermParts p (nodes.Headed h e a) = HoldsExpression p e × HoldsTerm p a
 HoldsTermParts p (nodes.Transformed f a) = ProgramHoldsFunction p f × HoldsTerm p a
-HoldsTermParts p (nodes.Switching n) = HoldsTerm p n.source × HoldsPatternIn p n.pattern × HoldsTerm p n.body
-HoldsTermParts p (nodes.Keeping n) = HoldsTerm p n.source × HoldsTerm p n.observer × HoldsName (expressions_of p) n.name × HoldsPatternIn p n.pattern × HoldsTerm p n.body
+HoldsTermParts p (nodes.Switching n) = HoldsTerm p n.source × ProgramHoldsPattern p n.pattern × HoldsTerm p n.body
+HoldsTermParts p (nodes.Continuation n) = HoldsTerm p n.source × HoldsTerm p n.observer × HoldsName (program_expressions p) n.name × ProgramHoldsPattern p n.pattern × HoldsTerm p n.body
 HoldsTermParts p (nodes.Gathered c) = HoldsWhole p c
-HoldsTermParts p (nodes.Releasing n) = HoldsWhole p n.members × HoldsTerm p n.observer × HoldsName (expressions_of p) n.name × HoldsPatternIn p n.pattern × HoldsTerm p n.body
-HoldsTermParts p (nodes.Editing n) = HoldsWhole p n.members × HoldsName (expressions_of p) n.name × HoldsPatternIn p n.pattern × HoldsWhole p n.edit
+HoldsTermParts p (nodes.Releasing n) = HoldsWhole p n.members × HoldsTerm p n.observer × HoldsName (program_expressions p) n.name × ProgramHoldsPattern p n.pattern × HoldsTerm p n.body
+HoldsTermParts p (nodes.Editing n) = HoldsWhole p n.members × HoldsName (program_expressions p) n.name × ProgramHoldsPattern p n.pattern × HoldsWhole p n.edit
 
 -- Terms, expressions, functions, names, patterns, arguments and collections that a program held are there as they were.
-pub record KeepsTrees (old new : Program) : Type 0 where
+pub record ExtendsTrees (old new : Program) : Type 0 where
   pub terms : (t : TermId) → HoldsTerm old t → HoldsTerm new t
   pub nodes : (t : TermId) → HoldsTerm old t → term_node_at new t ≡ term_node_at old t
   pub trees : (t : TermId) → HoldsTerm old t → tree new t ≡ tree old t
   pub spots : (t : TermId) → HoldsTerm old t → term_spot_at new t ≡ term_spot_at old t
   pub expressions : (e : ExprId) → HoldsExpression old e → HoldsExpression new e
   pub value_nodes : (e : ExprId) → HoldsExpression old e → expression_node_at new e ≡ expression_node_at old e
-  pub values : (e : ExprId) → HoldsExpression old e → expression_under new e ≡ expression_under old e
+  pub values : (e : ExprId) → HoldsExpression old e → program_expression new e ≡ program_expression old e
   pub value_spots : (e : ExprId) → HoldsExpression old e → expression_spot_at new e ≡ expression_spot_at old e
   pub functions : (f : FunctionId) → ProgramHoldsFunction old f → ProgramHoldsFunction new f
   pub patterns : (f : FunctionId) → ProgramHoldsFunction old f → function_pattern_at new f ≡ function_pattern_at old f
   pub bodies : (f : FunctionId) → ProgramHoldsFunction old f → function_body_at new f ≡ function_body_at old f
-  pub meanings : (f : FunctionId) → ProgramHoldsFunction old f → function_in new f ≡ function_in old f
-  pub holds_patterns : (q : PatternId) → HoldsPatternIn old q → HoldsPatternIn new q
-  pub placed : (q : PatternId) → HoldsPatternIn old q → pattern_under new q ≡ pattern_under old q
-  pub holds_names : (n : NameId) → HoldsName (expressions_of old) n → HoldsName (expressions_of new) n
-  pub names : (n : NameId) → HoldsName (expressions_of old) n → name_at (expressions_of new) n ≡ name_at (expressions_of old) n
+  pub meanings : (f : FunctionId) → ProgramHoldsFunction old f → program_function new f ≡ program_function old f
+  pub holds_patterns : (q : PatternId) → ProgramHoldsPattern old q → ProgramHoldsPattern new q
+  pub placed : (q : PatternId) → ProgramHoldsPattern old q → placed_pattern new q ≡ placed_pattern old q
+  pub holds_names : (n : NameId) → HoldsName (program_expressions old) n → HoldsName (program_expressions new) n
+  pub names : (n : NameId) → HoldsName (program_expressions old) n → name_at (program_expressions new) n ≡ name_at (program_expressions old) n
   pub holds_arguments : (a : ArgumentsId) → HoldsArguments old a → HoldsArguments new a
-  pub arguments : (a : ArgumentsId) → HoldsArguments old a → arguments_under new a ≡ arguments_under old a
+  pub arguments : (a : ArgumentsId) → HoldsArguments old a → argument_nodes new a ≡ argument_nodes old a
   pub holds_collections : (c : CollectionId) → HoldsCollection old c → HoldsCollection new c
-  pub collections : (c : CollectionId) → HoldsCollection old c → collection_under new c ≡ collection_under old c
+  pub collections : (c : CollectionId) → HoldsCollection old c → collection_node new c ≡ collection_node old c
 
 -- All that a program held is there as it was, and it has the same templates.
-pub record KeepsProgram (old new : Program) : Type 0 where
-  pub trees : KeepsTrees old new
+pub record ExtendsProgram (old new : Program) : Type 0 where
+  pub trees : ExtendsTrees old new
   pub headers : headers_of new ≡ headers_of old
   pub templates : templates_of new ≡ templates_of old
-  pub spots : spots_of new ≡ spots_of old
+  pub spots : template_spots new ≡ template_spots old
 
 -- a term was added under a new id, with the parts that its node names
 pub record AddsTerm (old new : Program) (id : TermId) (n : Node) (t : Term) (s : Spot) : Type 0 where
@@ -303,7 +303,7 @@ pub record AddsTerm (old new : Program) (id : TermId) (n : Node) (t : Term) (s :
   pub is : tree new id ≡ t
   pub spotted : term_spot_at new id ≡ s
   pub shallow : term_depth t ≤ 64
-  pub kept : KeepsProgram old new
+  pub kept : ExtendsProgram old new
   pub term_counted : term_count new ≡ term_count old + 1
   pub expression_counted : expression_count new ≡ expression_count old
 
@@ -312,9 +312,9 @@ pub record AddsExpression (old new : Program) (id : ExprId) (n : ExprNode) (e : 
   pub within : HoldsExpression new id
   pub fresh : ¬ HoldsExpression old id
   pub node : expression_node_at new id ≡ n
-  pub is : expression_under new id ≡ e
+  pub is : program_expression new id ≡ e
   pub spotted : expression_spot_at new id ≡ s
-  pub kept : KeepsProgram old new
+  pub kept : ExtendsProgram old new
   pub term_counted : term_count new ≡ term_count old
   pub expression_counted : expression_count new ≡ expression_count old + 1
 
@@ -324,8 +324,8 @@ pub record AddsProgramFunction (old new : Program) (f : FunctionId) (q : PlacedP
   pub fresh : ¬ ProgramHoldsFunction old f
   pub pattern : function_pattern_at new f ≡ q
   pub body : function_body_at new f ≡ b
-  pub is : function_in new f ≡ function (pattern_of q) (expression_under old b)
-  pub kept : KeepsProgram old new
+  pub is : program_function new f ≡ function (pattern_of q) (program_expression old b)
+  pub kept : ExtendsProgram old new
   pub term_counted : term_count new ≡ term_count old
   pub expression_counted : expression_count new ≡ expression_count old
 
@@ -337,33 +337,33 @@ pub record IsSameProgram (old new : Program) : Type 0 where
   pub trees : (t : TermId) → tree new t ≡ tree old t
   pub spots : (t : TermId) → term_spot_at new t ≡ term_spot_at old t
   pub value_nodes : (e : ExprId) → expression_node_at new e ≡ expression_node_at old e
-  pub values : (e : ExprId) → expression_under new e ≡ expression_under old e
+  pub values : (e : ExprId) → program_expression new e ≡ program_expression old e
   pub value_spots : (e : ExprId) → expression_spot_at new e ≡ expression_spot_at old e
   pub holds_functions : (f : FunctionId) → ProgramHoldsFunction old f → ProgramHoldsFunction new f
   pub patterns : (f : FunctionId) → function_pattern_at new f ≡ function_pattern_at old f
   pub bodies : (f : FunctionId) → function_body_at new f ≡ function_body_at old f
-  pub holds_patterns : (q : PatternId) → HoldsPatternIn old q → HoldsPatternIn new q
-  pub placed : (q : PatternId) → HoldsPatternIn old q → pattern_under new q ≡ pattern_under old q
-  pub holds_names : (n : NameId) → HoldsName (expressions_of old) n → HoldsName (expressions_of new) n
-  pub names : (n : NameId) → HoldsName (expressions_of old) n → name_at (expressions_of new) n ≡ name_at (expressions_of old) n
+  pub holds_patterns : (q : PatternId) → ProgramHoldsPattern old q → ProgramHoldsPattern new q
+  pub placed : (q : PatternId) → ProgramHoldsPattern old q → placed_pattern new q ≡ placed_pattern old q
+  pub holds_names : (n : NameId) → HoldsName (program_expressions old) n → HoldsName (program_expressions new) n
+  pub names : (n : NameId) → HoldsName (program_expressions old) n → name_at (program_expressions new) n ≡ name_at (program_expressions old) n
   pub holds_arguments : (a : ArgumentsId) → HoldsArguments old a → HoldsArguments new a
-  pub arguments : (a : ArgumentsId) → HoldsArguments old a → arguments_under new a ≡ arguments_under old a
+  pub arguments : (a : ArgumentsId) → HoldsArguments old a → argument_nodes new a ≡ argument_nodes old a
   pub holds_collections : (c : CollectionId) → HoldsCollection old c → HoldsCollection new c
-  pub collections : (c : CollectionId) → HoldsCollection old c → collection_under new c ≡ collection_under old c
+  pub collections : (c : CollectionId) → HoldsCollection old c → collection_node new c ≡ collection_node old c
   pub headers : headers_of new ≡ headers_of old
 
 -- a collection was added under a new id
 pub record AddsCollection (old new : Program) (id : CollectionId) (c : CollExpr) : Type 0 where
   pub within : HoldsCollection new id
   pub next : id ≡ next_collection old
-  pub is : collection_under new id ≡ c
+  pub is : collection_node new id ≡ c
   pub whole : HoldsMembers new c
   pub made : collection_of new c ≡ collection_of old c
   pub same : IsSameProgram old new
 
 -- the members of a name, which was put beside the others
 pub record AddsUsed (old new : Program) (c : CollExpr) (n : Name) (r s : Spot) : Type 0 where
-  pub is : c ≡ collections.Used (next_name (expressions_of old)) r s
+  pub is : c ≡ collections.Used (next_name (program_expressions old)) r s
   pub whole : HoldsMembers new c
   pub made : collection_of new c ≡ used n
   pub same : IsSameProgram old new
@@ -371,9 +371,9 @@ pub record AddsUsed (old new : Program) (c : CollExpr) (n : Name) (r s : Spot) :
 -- a template was added behind the others
 pub record AddsTemplate (old new : Program) (h : Header) : Type 0 where
   pub headers : headers_of new ≡ headers_of old ++ h ∷ []
-  pub templates : templates_of new ≡ templates_of old ++ template_in old h ∷ []
-  pub spots : spots_of new ≡ spots_of old ++ h.spot ∷ []
-  pub kept : KeepsTrees old new
+  pub templates : templates_of new ≡ templates_of old ++ term_template old h ∷ []
+  pub spots : template_spots new ≡ template_spots old ++ h.spot ∷ []
+  pub kept : ExtendsTrees old new
   pub term_counted : term_count new ≡ term_count old
   pub expression_counted : expression_count new ≡ expression_count old
 

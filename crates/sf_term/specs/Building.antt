@@ -7,16 +7,17 @@ use Rattle.sf_expr.specs.declared.exprs.Exprs.{Exprs}
 use Rattle.sf_expr.specs.declared.exprs.NameId.{NameId}
 use Rattle.sf_expr.specs.declared.exprs.PatternId.{PatternId}
 use Rattle.sf_value.specs.Values.{Name}
-use Rattle.sf_expr.specs.Arena.{name_at, HoldsName, next_name, placed_at, HoldsPattern, next_pattern}
+use Rattle.sf_expr.specs.Arena.{name_at, HoldsName, next_name, stored_pattern, HoldsPattern, next_pattern}
 use Rattle.sf_expr.specs.Patterns.{PlacedPattern}
-use Rattle.sf_expr.specs.Expressions.{Expression, depth as expression_depth}
+use Rattle.sf_expr.specs.Expressions.{Expression}
+use Rattle.sf_expr.specs.Expressions
 use Rattle.sf_term.specs.declared.node.TermId.{TermId}
 use Rattle.sf_term.specs.declared.node.Node.{Node}
 use Rattle.sf_term.specs.declared.program.Program.{Program}
 use Rattle.sf_term.specs.declared.refusal.BuildRefusal.{BuildRefusal}
 use Rattle.sf_term.specs.declared.refusal.BuildRefusal.TheVariants.{TooMany, TooDeep, BadName, Memory}
 use Rattle.sf_term.specs.Trees.{Term, term_depth}
-use Rattle.sf_term.specs.Arena.{term_count, expression_count, HoldsPatternIn, pattern_under, AddsTerm, AddsExpression, IsSameProgram}
+use Rattle.sf_term.specs.Arena.{term_count, expression_count, ProgramHoldsPattern, placed_pattern, AddsTerm, AddsExpression, IsSameProgram}
 
 -- where so many are there, one more that is so deep may be added, if its names are names
 abbrev pub HasRoom : ℕ → ℕ → Type 0 → Type 0
@@ -46,7 +47,7 @@ BuildsTerm old new result node whole spot Named = IsBuilt old new result (λ id.
 
 -- an expression of a node is built, whose names are such
 abbrev pub BuildsExpression : Program → Program → Result ExprId BuildRefusal → ExprNode → Expression → Spot → Type 0 → Type 0
-BuildsExpression old new result node whole spot Named = IsBuilt old new result (λ id. AddsExpression old new id node whole spot) (expression_count old) (expression_depth whole) Named
+BuildsExpression old new result node whole spot Named = IsBuilt old new result (λ id. AddsExpression old new id node whole spot) (expression_count old) (Expressions.depth whole) Named
 
 -- what is built has no names of its own
 abbrev pub NoNames : Type 0
@@ -54,7 +55,7 @@ NoNames = Unit {0}
 
 -- a pattern is held under an id
 abbrev pub HasPattern : Program → PatternId → PlacedPattern → Type 0
-HasPattern p q pattern = HoldsPatternIn p q × (pattern_under p q ≡ pattern)
+HasPattern p q pattern = ProgramHoldsPattern p q × (placed_pattern p q ≡ pattern)
 
 -- a name was put beside the expressions, and then a pattern
 pub record PutsBoth (old new : Exprs) (ids : NameId × PatternId) (n : Name) (q : PlacedPattern) : Type 0 where
@@ -62,4 +63,4 @@ pub record PutsBoth (old new : Exprs) (ids : NameId × PatternId) (n : Name) (q 
   pub holds_name : HoldsName new ids.0
   pub holds_pattern : HoldsPattern new ids.1
   pub name_is : name_at new ids.0 ≡ n
-  pub pattern_is : placed_at new ids.1 ≡ q
+  pub pattern_is : stored_pattern new ids.1 ≡ q

@@ -3,10 +3,10 @@ use Rattle.std.specs.Prelude.{◌≡◌, ℕ, suc, ◌≤◌, max, List, [], ◌
 use Rattle.std.specs.declared.rc.Rc.{Rc}
 use Rattle.std.specs.declared.alloc.Global.{Global}
 use Rattle.sf_arena.specs.declared.entry.Entry.{Entry}
-use Rattle.sf_arena.specs.Folded.{trees, tree_at}
+use Rattle.sf_arena.specs.Folded.{trees, folded_tree}
 use Rattle.sf_expr.specs.declared.exprs.Exprs.{Exprs}
 use Rattle.sf_expr.specs.Patterns.{pattern_of}
-use Rattle.sf_expr.specs.Arena.{expression, function_at, name_at, literal_at, placed_at, count_of, function_count, name_count, constant_count, pattern_count, id_number}
+use Rattle.sf_expr.specs.Arena.{expression, function_at, name_at, literal_at, stored_pattern, arena_count, function_count, name_count, constant_count, pattern_count, id_number}
 use Rattle.sf_refusal.specs.declared.spot.Spot.{Spot}
 use Rattle.sf_value.specs.Values.{Kind, unit_kind}
 use Rattle.sf_value.specs.declared.ty.KeyType.TheVariants.{Int as IntKeys}
@@ -22,7 +22,7 @@ use Rattle.sf_term.specs.declared.collection.CollExpr.{CollExpr}
 use Rattle.sf_term.specs.declared.collection.CollExpr.TheVariants as collections
 use Rattle.sf_term.specs.declared.node.Node.{Node}
 use Rattle.sf_term.specs.declared.node.Node.TheVariants as nodes
-use Rattle.sf_term.specs.Trees.{Term, primitive, reference, call, Collection, without_members, used, added, dropped, kept, chosen, Arguments, no_arguments, value_argument, process_argument, collection_argument, joined, sided, headed, transformed, switching, keeping, gathered, releasing, editing, bare, never, with_value, timed, selected, arrow, accumulated, named_term, term_depth}
+use Rattle.sf_term.specs.Trees.{Term, primitive, reference, call, Collection, without_members, used, added, dropped, kept, chosen, Arguments, no_arguments, value_argument, process_argument, collection_argument, joined, sided, headed, transformed, switching, continuing, gathered, releasing, editing, bare, never, with_value, timed, selected, arrow, accumulated, named_term, term_depth}
 
 -- What nodes name by ids beside expressions: the arguments of calls, and collections.
 pub record StoredLists : Type 0 where
@@ -142,13 +142,13 @@ term_over b ts (nodes.Joined j c d) = joined j (term_among ts c.0) (term_among t
 term_over b ts (nodes.Sided d a) = sided d (term_among ts a.0)
 term_over b ts (nodes.Headed h e a) = headed h (expression b.expressions e) (term_among ts a.0)
 term_over b ts (nodes.Transformed f a) = transformed (function_at b.expressions f) (term_among ts a.0)
-term_over b ts (nodes.Switching n) = switching n.form (term_among ts n.source.0) (pattern_of (placed_at b.expressions n.pattern)) (term_among ts n.body.0)
-term_over b ts (nodes.Keeping n) = keeping n.shown (term_among ts n.source.0) (term_among ts n.observer.0) (name_at b.expressions n.name) (pattern_of (placed_at b.expressions n.pattern)) (term_among ts n.body.0)
+term_over b ts (nodes.Switching n) = switching n.form (term_among ts n.source.0) (pattern_of (stored_pattern b.expressions n.pattern)) (term_among ts n.body.0)
+term_over b ts (nodes.Continuation n) = continuing n.shown (term_among ts n.source.0) (term_among ts n.observer.0) (name_at b.expressions n.name) (pattern_of (stored_pattern b.expressions n.pattern)) (term_among ts n.body.0)
 term_over b ts (nodes.Gathered c) = gathered (stored_over b.expressions ts (collection_listed b c))
 term_over b ts (nodes.Releasing n) =
-    releasing n.shown (stored_over b.expressions ts (collection_listed b n.members)) (term_among ts n.observer.0) (name_at b.expressions n.name) (pattern_of (placed_at b.expressions n.pattern)) (term_among ts n.body.0)
+    releasing n.shown (stored_over b.expressions ts (collection_listed b n.members)) (term_among ts n.observer.0) (name_at b.expressions n.name) (pattern_of (stored_pattern b.expressions n.pattern)) (term_among ts n.body.0)
 term_over b ts (nodes.Editing n) =
-    editing n.shown (stored_over b.expressions ts (collection_listed b n.members)) (name_at b.expressions n.name) (pattern_of (placed_at b.expressions n.pattern)) (stored_over b.expressions ts (collection_listed b n.edit))
+    editing n.shown (stored_over b.expressions ts (collection_listed b n.members)) (name_at b.expressions n.name) (pattern_of (stored_pattern b.expressions n.pattern)) (stored_over b.expressions ts (collection_listed b n.edit))
 
 -- how many terms have to stand before arguments
 abbrev pub terms_end : TermBase → List Argument → ℕ
@@ -181,7 +181,7 @@ needs_terms b (nodes.Sided d a) = suc a.0
 needs_terms b (nodes.Headed h e a) = suc a.0
 needs_terms b (nodes.Transformed f a) = suc a.0
 needs_terms b (nodes.Switching n) = suc (max n.source.0 n.body.0)
-needs_terms b (nodes.Keeping n) = suc (max (max n.source.0 n.observer.0) n.body.0)
+needs_terms b (nodes.Continuation n) = suc (max (max n.source.0 n.observer.0) n.body.0)
 needs_terms b (nodes.Gathered c) = stored_terms (collection_listed b c)
 needs_terms b (nodes.Releasing n) = max (stored_terms (collection_listed b n.members)) (suc (max n.observer.0 n.body.0))
 needs_terms b (nodes.Editing n) = max (stored_terms (collection_listed b n.members)) (stored_terms (collection_listed b n.edit))
@@ -202,7 +202,7 @@ needs_expressions b (nodes.Sided d a) = 0
 needs_expressions b (nodes.Headed h e a) = suc (id_number e)
 needs_expressions b (nodes.Transformed f a) = 0
 needs_expressions b (nodes.Switching n) = 0
-needs_expressions b (nodes.Keeping n) = 0
+needs_expressions b (nodes.Continuation n) = 0
 needs_expressions b (nodes.Gathered c) = 0
 needs_expressions b (nodes.Releasing n) = 0
 needs_expressions b (nodes.Editing n) = 0
@@ -223,7 +223,7 @@ needs_functions (nodes.Sided d a) = 0
 needs_functions (nodes.Headed h e a) = 0
 needs_functions (nodes.Transformed f a) = suc f.0
 needs_functions (nodes.Switching n) = 0
-needs_functions (nodes.Keeping n) = 0
+needs_functions (nodes.Continuation n) = 0
 needs_functions (nodes.Gathered c) = 0
 needs_functions (nodes.Releasing n) = 0
 needs_functions (nodes.Editing n) = 0
@@ -238,7 +238,7 @@ patterns_needed (nodes.Sided d a) = 0
 patterns_needed (nodes.Headed h e a) = 0
 patterns_needed (nodes.Transformed f a) = 0
 patterns_needed (nodes.Switching n) = suc n.pattern.0
-patterns_needed (nodes.Keeping n) = suc n.pattern.0
+patterns_needed (nodes.Continuation n) = suc n.pattern.0
 patterns_needed (nodes.Gathered c) = 0
 patterns_needed (nodes.Releasing n) = suc n.pattern.0
 patterns_needed (nodes.Editing n) = suc n.pattern.0
@@ -253,7 +253,7 @@ names_needed (nodes.Sided d a) = 0
 names_needed (nodes.Headed h e a) = 0
 names_needed (nodes.Transformed f a) = 0
 names_needed (nodes.Switching n) = 0
-names_needed (nodes.Keeping n) = suc n.name.0
+names_needed (nodes.Continuation n) = suc n.name.0
 names_needed (nodes.Gathered c) = 0
 names_needed (nodes.Releasing n) = suc n.name.0
 names_needed (nodes.Editing n) = suc n.name.0
@@ -274,7 +274,7 @@ constants_needed (nodes.Sided d a) = 0
 constants_needed (nodes.Headed h e a) = 0
 constants_needed (nodes.Transformed f a) = 0
 constants_needed (nodes.Switching n) = 0
-constants_needed (nodes.Keeping n) = 0
+constants_needed (nodes.Continuation n) = 0
 constants_needed (nodes.Gathered c) = 0
 constants_needed (nodes.Releasing n) = 0
 constants_needed (nodes.Editing n) = 0
@@ -289,7 +289,7 @@ arguments_needed (nodes.Sided d a) = 0
 arguments_needed (nodes.Headed h e a) = 0
 arguments_needed (nodes.Transformed f a) = 0
 arguments_needed (nodes.Switching n) = 0
-arguments_needed (nodes.Keeping n) = 0
+arguments_needed (nodes.Continuation n) = 0
 arguments_needed (nodes.Gathered c) = 0
 arguments_needed (nodes.Releasing n) = 0
 arguments_needed (nodes.Editing n) = 0
@@ -312,7 +312,7 @@ terms_made b entries = trees (term_made b) entries
 
 -- the term at a place; the identity past the end
 abbrev pub term_entered : TermBase → List (Entry Node) → ℕ → Term
-term_entered b entries i = tree_at (term_made b) identity_term entries i
+term_entered b entries i = folded_tree (term_made b) identity_term entries i
 
 -- how many collections have to be there for a node
 abbrev pub collections_needed : TermBase → Node → ℕ
@@ -324,7 +324,7 @@ collections_needed b (nodes.Sided d a) = 0
 collections_needed b (nodes.Headed h e a) = 0
 collections_needed b (nodes.Transformed f a) = 0
 collections_needed b (nodes.Switching n) = 0
-collections_needed b (nodes.Keeping n) = 0
+collections_needed b (nodes.Continuation n) = 0
 collections_needed b (nodes.Gathered c) = suc c.0
 collections_needed b (nodes.Releasing n) = suc n.members.0
 collections_needed b (nodes.Editing n) = suc (max n.members.0 n.edit.0)
@@ -332,14 +332,14 @@ collections_needed b (nodes.Editing n) = suc (max n.members.0 n.edit.0)
 -- What holds of the entries of an arena of terms, beside what they are made over.
 pub record AreTerms (b : TermBase) (entries : List (Entry Node)) : Type 0 where
   pub in_order : (i : ℕ) → needs_terms b (term_entry entries i).node ≤ i
-  pub closed : (i : ℕ) → needs_expressions b (term_entry entries i).node ≤ count_of b.expressions
+  pub closed : (i : ℕ) → needs_expressions b (term_entry entries i).node ≤ arena_count b.expressions
   pub functions_closed : (i : ℕ) → needs_functions (term_entry entries i).node ≤ function_count b.expressions
   pub patterns_closed : (i : ℕ) → patterns_needed (term_entry entries i).node ≤ pattern_count b.expressions
   pub names_closed : (i : ℕ) → names_needed (term_entry entries i).node ≤ name_count b.expressions
   pub constants_closed : (i : ℕ) → constants_needed (term_entry entries i).node ≤ constant_count b.expressions
   pub arguments_closed : (i : ℕ) → arguments_needed (term_entry entries i).node ≤ length b.lists.arguments
   pub collections_closed : (i : ℕ) → collections_needed b (term_entry entries i).node ≤ length b.lists.collections
-  pub stored_expressions_closed : (c : CollectionId) → stored_expressions (collection_listed b c) ≤ count_of b.expressions
+  pub stored_expressions_closed : (c : CollectionId) → stored_expressions (collection_listed b c) ≤ arena_count b.expressions
   pub stored_functions_closed : (c : CollectionId) → stored_functions (collection_listed b c) ≤ function_count b.expressions
   pub stored_names_closed : (c : CollectionId) → stored_names (collection_listed b c) ≤ name_count b.expressions
   pub measured : (i : ℕ) → (term_entry entries i).depth ≡ term_depth (term_entered b entries i)

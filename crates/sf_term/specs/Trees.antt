@@ -1,7 +1,7 @@
 -- Networks as trees.
 use Rattle.std.specs.Prelude.{ℕ, suc, ◌+◌, max, ℤ, List, [], ◌∷◌, cond, Option, Some, None, bytes_eq}
 use Rattle.sf_value.specs.Values.{Name, KeyKind, Kind}
-use Rattle.sf_expr.specs.Expressions.{Pattern, Expression, Function, pattern_depth, depth as expression_depth, size as expression_size, function_depth, function_size}
+use Rattle.sf_expr.specs.Expressions.{Pattern, Expression, Function, pattern_depth, function_depth, function_size, depth, size}
 use Rattle.sf_term.specs.declared.form.Bare.{Bare}
 use Rattle.sf_term.specs.declared.form.WithValue.{WithValue}
 use Rattle.sf_term.specs.declared.form.WithValue.TheVariants.{Constant, Initially, InitialPre, InitializedPre, Now, InitialEdge, EdgeTag, Hold, DelayedHold}
@@ -57,7 +57,7 @@ mutual
     headed : Heading → Expression → Term → Term
     transformed : Function → Term → Term
     switching : Switching → Term → Pattern → Term → Term
-    keeping : Observation → (source observer : Term) → Name → Pattern → Term → Term
+    continuing : Observation → (source observer : Term) → Name → Pattern → Term → Term
     gathered : Collection → Term
     releasing : Observation → Collection → (observer : Term) → Name → Pattern → Term → Term
     editing : Observation → Collection → Name → Pattern → (edit : Collection) → Term
@@ -114,11 +114,11 @@ abbrev pub primitive_depth : Primitive → ℕ
 primitive_depth (bare k) = 0
 primitive_depth (probe k) = 0
 primitive_depth (never t) = 0
-primitive_depth (with_value k e) = expression_depth e
-primitive_depth (timed k q e) = expression_depth e
+primitive_depth (with_value k e) = depth e
+primitive_depth (timed k q e) = depth e
 primitive_depth (selected k n) = 0
 primitive_depth (arrow f) = function_depth f
-primitive_depth (accumulated k e f) = max (expression_depth e) (function_depth f)
+primitive_depth (accumulated k e f) = max (depth e) (function_depth f)
 primitive_depth (fused f) = 64
 
 abbrev mutual
@@ -128,10 +128,10 @@ abbrev mutual
   term_depth (reference r) = suc (reference_depth r)
   term_depth (joined j f g) = suc (max (term_depth f) (term_depth g))
   term_depth (sided d t) = suc (term_depth t)
-  term_depth (headed h e t) = suc (max (expression_depth e) (term_depth t))
+  term_depth (headed h e t) = suc (max (depth e) (term_depth t))
   term_depth (transformed f t) = suc (max (function_depth f) (term_depth t))
   term_depth (switching w t p u) = suc (max (max (term_depth t) (term_depth u)) (pattern_depth p))
-  term_depth (keeping w t q k p u) = suc (max (max (max (term_depth t) (term_depth q)) (term_depth u)) (pattern_depth p))
+  term_depth (continuing w t q k p u) = suc (max (max (max (term_depth t) (term_depth q)) (term_depth u)) (pattern_depth p))
   term_depth (gathered i) = suc (collection_depth i)
   term_depth (releasing w i q k p u) = suc (max (max (max (collection_depth i) (term_depth q)) (term_depth u)) (pattern_depth p))
   term_depth (editing w i k p u) = suc (max (max (collection_depth i) (collection_depth u)) (pattern_depth p))
@@ -141,10 +141,10 @@ abbrev mutual
   pub collection_depth : Collection → ℕ
   collection_depth (without_members k t) = 1
   collection_depth (used x) = 1
-  collection_depth (added i j t) = suc (max (max (collection_depth i) (expression_depth j)) (term_depth t))
-  collection_depth (dropped i j) = suc (max (collection_depth i) (expression_depth j))
+  collection_depth (added i j t) = suc (max (max (collection_depth i) (depth j)) (term_depth t))
+  collection_depth (dropped i j) = suc (max (collection_depth i) (depth j))
   collection_depth (kept i f) = suc (max (collection_depth i) (function_depth f))
-  collection_depth (chosen j a b) = suc (max (max (expression_depth j) (collection_depth a)) (collection_depth b))
+  collection_depth (chosen j a b) = suc (max (max (depth j) (collection_depth a)) (collection_depth b))
 
   -- the same within a reference
   pub reference_depth : Reference → ℕ
@@ -154,7 +154,7 @@ abbrev mutual
   -- the same in arguments
   pub arguments_depth : Arguments → ℕ
   arguments_depth no_arguments = 0
-  arguments_depth (value_argument e vs) = max (expression_depth e) (arguments_depth vs)
+  arguments_depth (value_argument e vs) = max (depth e) (arguments_depth vs)
   arguments_depth (process_argument t vs) = max (term_depth t) (arguments_depth vs)
   arguments_depth (collection_argument i vs) = max (collection_depth i) (arguments_depth vs)
   arguments_depth (closed_argument t vs) = 64
@@ -193,7 +193,7 @@ abbrev mutual
   terms_in (headed h e t) = suc (terms_in t)
   terms_in (transformed f t) = suc (terms_in t)
   terms_in (switching w t p u) = suc (terms_in t + terms_in u)
-  terms_in (keeping w t q k p u) = suc (terms_in t + terms_in q + terms_in u)
+  terms_in (continuing w t q k p u) = suc (terms_in t + terms_in q + terms_in u)
   terms_in (gathered i) = suc (terms_collected i)
   terms_in (releasing w i q k p u) = suc (terms_collected i + terms_in q + terms_in u)
   terms_in (editing w i k p u) = suc (terms_collected i + terms_collected u)
@@ -226,11 +226,11 @@ abbrev pub expressions_in_primitive : Primitive → ℕ
 expressions_in_primitive (bare k) = 0
 expressions_in_primitive (probe k) = 0
 expressions_in_primitive (never t) = 0
-expressions_in_primitive (with_value k e) = expression_size e
-expressions_in_primitive (timed k q e) = expression_size e
+expressions_in_primitive (with_value k e) = size e
+expressions_in_primitive (timed k q e) = size e
 expressions_in_primitive (selected k n) = 0
 expressions_in_primitive (arrow f) = function_size f
-expressions_in_primitive (accumulated k e f) = expression_size e + function_size f
+expressions_in_primitive (accumulated k e f) = size e + function_size f
 expressions_in_primitive (fused f) = 0
 
 abbrev mutual
@@ -240,10 +240,10 @@ abbrev mutual
   expressions_in (reference r) = expressions_referred r
   expressions_in (joined j f g) = expressions_in f + expressions_in g
   expressions_in (sided d t) = expressions_in t
-  expressions_in (headed h e t) = expression_size e + expressions_in t
+  expressions_in (headed h e t) = size e + expressions_in t
   expressions_in (transformed f t) = function_size f + expressions_in t
   expressions_in (switching w t p u) = expressions_in t + expressions_in u
-  expressions_in (keeping w t q k p u) = expressions_in t + expressions_in q + expressions_in u
+  expressions_in (continuing w t q k p u) = expressions_in t + expressions_in q + expressions_in u
   expressions_in (gathered i) = expressions_collected i
   expressions_in (releasing w i q k p u) = expressions_collected i + expressions_in q + expressions_in u
   expressions_in (editing w i k p u) = expressions_collected i + expressions_collected u
@@ -253,10 +253,10 @@ abbrev mutual
   pub expressions_collected : Collection → ℕ
   expressions_collected (without_members k t) = 0
   expressions_collected (used x) = 0
-  expressions_collected (added i j t) = expressions_collected i + expression_size j + expressions_in t
-  expressions_collected (dropped i j) = expressions_collected i + expression_size j
+  expressions_collected (added i j t) = expressions_collected i + size j + expressions_in t
+  expressions_collected (dropped i j) = expressions_collected i + size j
   expressions_collected (kept i f) = expressions_collected i + function_size f
-  expressions_collected (chosen j a b) = expression_size j + expressions_collected a + expressions_collected b
+  expressions_collected (chosen j a b) = size j + expressions_collected a + expressions_collected b
 
   -- how many expressions stand within a reference
   pub expressions_referred : Reference → ℕ
@@ -266,7 +266,7 @@ abbrev mutual
   -- how many expressions stand in arguments
   pub expressions_in_arguments : Arguments → ℕ
   expressions_in_arguments no_arguments = 0
-  expressions_in_arguments (value_argument e vs) = expression_size e + expressions_in_arguments vs
+  expressions_in_arguments (value_argument e vs) = size e + expressions_in_arguments vs
   expressions_in_arguments (process_argument t vs) = expressions_in t + expressions_in_arguments vs
   expressions_in_arguments (collection_argument i vs) = expressions_collected i + expressions_in_arguments vs
   expressions_in_arguments (closed_argument t vs) = expressions_in t + expressions_in_arguments vs

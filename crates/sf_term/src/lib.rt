@@ -16,7 +16,7 @@ pub use form::{
     Timing, WithValue,
 };
 pub use node::{
-    Argument, ArgumentsId, Editing, Keeping, Node, Primitive, Releasing, Switch, TermId,
+    Argument, ArgumentsId, Continuation, Editing, Node, Primitive, Releasing, Switch, TermId,
 };
 pub use program::Program;
 pub use refusal::BuildRefusal;

@@ -77,7 +77,7 @@ pub enum Node {
     /// `switch(t, p => u)`, delayed `dSwitch`, and `rSwitch` and `drSwitch`.
     Switching(Switch),
     /// `kSwitch(t, q, k, p => u)`, delayed `dkSwitch`.
-    Keeping(Keeping),
+    Continuation(Continuation),
     /// `parB c`: the members of a collection.
     Gathered(CollectionId),
     /// `pSwitchB(c, q, ks, p => u)`, delayed `dpSwitchB`.
@@ -100,9 +100,9 @@ pub struct Switch {
 }
 
 /// A term that gives way at the first event that an observer sees in its inputs and values: a body takes over for good, which
-/// knows it as it stood.
+/// knows it stood.
 #[derive(Clone, Copy, Debug, PartialEq, Eq)]
-pub struct Keeping {
+pub struct Continuation {
     /// Whose value shows at the event.
     pub shown: Observation,
     /// The term.

@@ -2,25 +2,26 @@
 ghost use Rattle.std.specs.Option.{option_map, unwrap_or};
 ghost use Rattle.std.specs.Prelude.{◌≡◌, ◌<◌, ◌≤◌, ◌^◌, ◌+◌, ◌-◌, max, min, IfOk, IfErr, OnOk, [], length, string_bytes, All};
 ghost use Rattle.sf_lex.specs.Words.{IsName};
-ghost use Rattle.sf_expr.specs.Expressions.{variable, literal, int_literal, paired, applied as applied_of, operation as operation_of, conditional as conditional_of};
-ghost use Rattle.sf_expr.specs.Expressions.{mapped as mapped_of, folded as folded_of, called as called_of, pattern_depth};
-ghost use Rattle.sf_expr.specs.Expressions.{function as function_of, function_depth as function_depth_of};
+ghost use Rattle.sf_expr.specs.Expressions.{variable, literal, int_literal, paired};
+ghost use Rattle.sf_expr.specs.Expressions;
+ghost use Rattle.sf_expr.specs.Expressions.{pattern_depth};
 ghost use Rattle.sf_expr.specs.Patterns.{pattern_of};
-ghost use Rattle.sf_expr.specs.Arena.{next_name, next_constant, next_pattern, AddsName, AddsConstant, AddsPattern, expression_of, HoldsParts as HoldsExpressionParts};
+ghost use Rattle.sf_expr.specs.Arena.{next_name, next_constant, next_pattern, AddsName, AddsConstant, AddsPattern, node_expression, HoldsParts};
 ghost use Rattle.sf_expr.specs.declared.exprs.ExprNode.TheVariants as expressions;
 ghost use Rattle.sf_term.specs.Headers.{bodies_end};
 ghost use Rattle.sf_arena.specs.Arenas.{entries_of};
 ghost use Rattle.sf_term.specs.Entries.{AreTerms, absent_collection, collections_in};
 ghost use Rattle.sf_term.specs.Names.{HasNames, AreNamed};
 ghost use Rattle.sf_term.specs.declared.node.Node.TheVariants as terms;
-ghost use Rattle.sf_term.specs.Trees.{primitive as primitive_of, never as never_of, named_term, reference as reference_of, call as call_of, arguments_depth as arguments_depth_of, switching as switching_of, keeping as keeping_of, releasing as releasing_of, editing as editing_of, collection_depth as collection_depth_of, term_depth as depth_of};
+ghost use Rattle.sf_term.specs.Trees.{named_term, primitive, reference, arguments_depth, collection_depth, term_depth};
+ghost use Rattle.sf_term.specs.Trees;
 
 use crate::argument::{StoredArguments, clone_lists};
 use crate::collection::{CollExpr, CollectionId, clone_collections};
 use crate::form::{Bare, Naming, Observation, Switching};
 use crate::names::{are_all_named, are_both_named, has_names};
 use crate::node::{
-    Argument, ArgumentsId, Editing, Keeping, Node, Primitive, Releasing, Switch, TermId,
+    Argument, ArgumentsId, Continuation, Editing, Node, Primitive, Releasing, Switch, TermId,
 };
 use crate::refusal::{BuildRefusal, room};
 use crate::template::{Parameter, Template, clone_all};
@@ -65,10 +66,10 @@ impl Drop for Program {
 
 impl Program {
     ghost use Rattle.sf_term.specs.Arena.{term_count, expression_count, HoldsTerm, HoldsExpression};
-    ghost use Rattle.sf_term.specs.Arena.{tree, expression_under, term_entry_of, term_node_at, term_spot_at, term_of, term_number};
-    ghost use Rattle.sf_term.specs.Arena.{expressions_of, headers_of, TermPartsBelow, HoldsTermParts};
-    ghost use Rattle.sf_term.specs.Arena.{HoldsArgument, HoldsArguments, arguments_under, arguments_of, next_arguments};
-    ghost use Rattle.sf_term.specs.Arena.{HoldsWhole, HoldsMembers, collection_under, collection_of, collection_at, AddsCollection, AddsUsed};
+    ghost use Rattle.sf_term.specs.Arena.{tree, program_expression, program_entry, term_node_at, term_spot_at, term_of, term_number};
+    ghost use Rattle.sf_term.specs.Arena.{program_expressions, headers_of, TermPartsBelow, HoldsTermParts};
+    ghost use Rattle.sf_term.specs.Arena.{HoldsArgument, HoldsArguments, argument_nodes, arguments_of, next_arguments};
+    ghost use Rattle.sf_term.specs.Arena.{HoldsWhole, HoldsMembers, collection_node, collection_of, collection_tree, AddsCollection, AddsUsed};
     ghost use Rattle.sf_term.specs.Arena.{AddsProgramFunction, AddsTemplate, IsSameProgram, IsProgramCopy};
     ghost use Rattle.sf_term.specs.Building.{NoNames, RefusesDue, IsBuilt, BuildsTerm, BuildsExpression, HasPattern, PutsBoth};
 
@@ -88,9 +89,9 @@ impl Program {
         }
     }
 
-    #[tactic(auto, unfolding(crate::specs::Arena::term_entry_of))]
+    #[tactic(auto, unfolding(crate::specs::Arena::program_entry))]
     fn entry(&self, id: TermId) -> Entry<Node>
-        ensures { result ≡ term_entry_of self.now id }
+        ensures { result ≡ program_entry self.now id }
     {
         match self.terms.get(id.0 as usize) {
             Some(entry) => *entry,
@@ -103,17 +104,17 @@ impl Program {
     }
 
     /// How many terms and expressions stand one inside another in the term at an id.
-    #[tactic(auto, using(crate::proofs::Kept::tree_shallow), unfolding(crate::specs::Arena::term_entry_of, crate::specs::Arena::tree))]
+    #[tactic(auto, using(crate::proofs::Extended::tree_shallow), unfolding(crate::specs::Arena::program_entry, crate::specs::Arena::tree))]
     pub fn depth(&self, id: TermId) -> u32
-        ensures value { result ≡ depth_of (tree self.now id) }
+        ensures value { result ≡ term_depth (tree self.now id) }
         ensures bound { result ≤ 64 }
     {
         self.entry(id).depth
     }
 
-    #[tactic(auto, unfolding(crate::specs::Arena::expression_under, crate::specs::Arena::function_pattern_at, crate::specs::Arena::function_body_at, crate::specs::Arena::pattern_under), using(crate::proofs::Kept::named_depth))]
+    #[tactic(auto, unfolding(crate::specs::Arena::program_expression, crate::specs::Arena::function_pattern_at, crate::specs::Arena::function_body_at, crate::specs::Arena::placed_pattern), using(crate::proofs::Extended::named_depth))]
     fn depth_with(&self, node: Node) -> u32
-        ensures { result ≡ min (depth_of (term_of self.now node)) (2 ^ 32 - 1) }
+        ensures { result ≡ min (term_depth (term_of self.now node)) (2 ^ 32 - 1) }
     {
         match node {
             Node::Primitive(Primitive::Bare(_) | Primitive::Never(_) | Primitive::Selected(_, _)) =>
@@ -142,7 +143,7 @@ impl Program {
                 let terms = self.depth(node.source).max(self.depth(node.body));
                 1 + terms.max(self.expressions.pattern_depth(node.pattern))
             }
-            Node::Keeping(node) => {
+            Node::Continuation(node) => {
                 let watched = self.depth(node.source).max(self.depth(node.observer));
                 let terms = watched.max(self.depth(node.body));
                 1 + terms.max(self.expressions.pattern_depth(node.pattern))
@@ -170,9 +171,9 @@ impl Program {
     }
 
     // How many collections, terms and expressions stand one inside another in a collection; `u32::MAX` where they are more.
-    #[tactic(auto, unfolding(crate::specs::Arena::expression_under, crate::specs::Arena::function_pattern_at, crate::specs::Arena::function_body_at))]
+    #[tactic(auto, unfolding(crate::specs::Arena::program_expression, crate::specs::Arena::function_pattern_at, crate::specs::Arena::function_body_at))]
     fn depth_of(&self, collection: &CollExpr) -> u32
-        ensures { result ≡ min (collection_depth_of (collection_of self.now collection.now)) (2 ^ 32 - 1) }
+        ensures { result ≡ min (collection_depth (collection_of self.now collection.now)) (2 ^ 32 - 1) }
     {
         match collection {
             CollExpr::Empty(_, _, _) | CollExpr::Used(_, _, _) => 1,
@@ -201,7 +202,7 @@ impl Program {
 
     // The same of the collection at an id.
     fn depth_under(&self, id: CollectionId) -> u32
-        ensures { result ≡ min (collection_depth_of (collection_at self.now id)) (2 ^ 32 - 1) }
+        ensures { result ≡ min (collection_depth (collection_tree self.now id)) (2 ^ 32 - 1) }
     {
         match self.collection(id) {
             Some(collection) => self.depth_of(collection),
@@ -210,9 +211,9 @@ impl Program {
     }
 
     // How many terms and expressions stand one inside another in arguments; `u32::MAX` where they are more.
-    #[tactic(auto, unfolding(crate::specs::Arena::expression_under))]
+    #[tactic(auto, unfolding(crate::specs::Arena::program_expression))]
     fn depth_in(&self, arguments: &[Argument]) -> u32
-        ensures { result ≡ min (arguments_depth_of (arguments_of self.now arguments.now)) (2 ^ 32 - 1) }
+        ensures { result ≡ min (arguments_depth (arguments_of self.now arguments.now)) (2 ^ 32 - 1) }
     {
         let mut depth = 0;
         for argument in arguments {
@@ -230,8 +231,8 @@ impl Program {
     /// then with `TooDeep` where more than 64 would stand one inside another, and with `Memory`. A refused call changes
     /// nothing.
     pub fn add_expression(&mut self, node: ExprNode, spot: Spot) -> Result<ExprId, BuildRefusal>
-        requires { HoldsExpressionParts (expressions_of self.old) node }
-        ensures { BuildsExpression self.old self.new result node (expression_of (expressions_of self.old) node) spot NoNames }
+        requires { HoldsParts (program_expressions self.old) node }
+        ensures { BuildsExpression self.old self.new result node (node_expression (program_expressions self.old) node) spot NoNames }
     {
         match self.expressions.add(node, spot) {
             Ok(id) => Ok(id),
@@ -250,7 +251,7 @@ impl Program {
     /// Adds a name to the expressions. Refused with `TooMany` where 100,000 expressions are there, then with `BadName`
     /// where it is no name of the language, and with `Memory`. A refused call changes nothing.
     pub fn name(&mut self, name: String, spot: Spot) -> Result<ExprId, BuildRefusal>
-        ensures { let next = next_name (expressions_of self.old) in
+        ensures { let next = next_name (program_expressions self.old) in
             BuildsExpression self.old self.new result (expressions.Name next) (variable (string_bytes name)) spot (IsName (string_bytes name)) }
     {
         let count = self.expressions.len();
@@ -261,7 +262,7 @@ impl Program {
     /// Adds a constant to the expressions. Refused with `TooMany` where 100,000 expressions are there, and with
     /// `Memory`. A refused call changes nothing.
     pub fn constant(&mut self, value: Constant, spot: Spot) -> Result<ExprId, BuildRefusal>
-        ensures { let next = next_constant (expressions_of self.old) in
+        ensures { let next = next_constant (program_expressions self.old) in
             BuildsExpression self.old self.new result (expressions.Constant next) (literal value) spot NoNames }
     {
         let count = self.expressions.len();
@@ -279,7 +280,7 @@ impl Program {
     ) -> Result<ExprId, BuildRefusal>
         requires first_held { HoldsExpression self.old first }
         requires second_held { HoldsExpression self.old second }
-        ensures { let whole = paired (expression_under self.old first) (expression_under self.old second) in
+        ensures { let whole = paired (program_expression self.old first) (program_expression self.old second) in
             BuildsExpression self.old self.new result (expressions.Pair first second) whole spot NoNames }
     {
         self.add_expression(ExprNode::Pair(first, second), spot)
@@ -297,7 +298,7 @@ impl Program {
     ) -> Result<ExprId, BuildRefusal>
         requires left_held { HoldsExpression self.old left }
         requires right_held { HoldsExpression self.old right }
-        ensures { let whole = operation_of (expression_under self.old left) operator (expression_under self.old right) in
+        ensures { let whole = Expressions.operation (program_expression self.old left) operator (program_expression self.old right) in
             BuildsExpression self.old self.new result (expressions.Operation left operator right) whole spot NoNames }
     {
         self.add_expression(ExprNode::Operation(left, operator, right), spot)
@@ -313,7 +314,7 @@ impl Program {
         spot: Spot,
     ) -> Result<ExprId, BuildRefusal>
         requires { HoldsExpression self.old part }
-        ensures { let whole = applied_of operator (expression_under self.old part) in
+        ensures { let whole = Expressions.applied operator (program_expression self.old part) in
             BuildsExpression self.old self.new result (expressions.Applied operator part) whole spot NoNames }
     {
         self.add_expression(ExprNode::Applied(operator, part), spot)
@@ -332,7 +333,7 @@ impl Program {
         requires condition_held { HoldsExpression self.old condition }
         requires first_held { HoldsExpression self.old first }
         requires second_held { HoldsExpression self.old second }
-        ensures { let whole = conditional_of (expression_under self.old condition) (expression_under self.old first) (expression_under self.old second) in
+        ensures { let whole = Expressions.conditional (program_expression self.old condition) (program_expression self.old first) (program_expression self.old second) in
             BuildsExpression self.old self.new result (expressions.Conditional condition first second) whole spot NoNames }
     {
         self.add_expression(ExprNode::Conditional(condition, first, second), spot)
@@ -340,9 +341,9 @@ impl Program {
 
     // Puts a name beside the expressions, for one more where `count` are there, whose parts stand `parts` one inside another.
     // Refused as that one is.
-    #[tactic(auto, unfolding(crate::specs::Arena::expressions_of))]
+    #[tactic(auto, unfolding(crate::specs::Arena::program_expressions))]
     fn put_name(&mut self, count: usize, parts: u32, name: String) -> Result<NameId, BuildRefusal>
-        ensures ok { IfOk result (λ n. AddsName (expressions_of self.old) (expressions_of self.new) n (string_bytes name)) }
+        ensures ok { IfOk result (λ n. AddsName (program_expressions self.old) (program_expressions self.new) n (string_bytes name)) }
         ensures refused { RefusesDue result count (parts + 1) (IsName (string_bytes name)) }
         ensures same { IsSameProgram self.old self.new }
         ensures arguments { next_arguments self.new ≡ next_arguments self.old }
@@ -355,9 +356,9 @@ impl Program {
     }
 
     // Puts a constant there, likewise.
-    #[tactic(auto, unfolding(crate::specs::Arena::expressions_of))]
+    #[tactic(auto, unfolding(crate::specs::Arena::program_expressions))]
     fn put_constant(&mut self, count: usize, value: Constant) -> Result<ConstantId, BuildRefusal>
-        ensures ok { IfOk result (λ n. AddsConstant (expressions_of self.old) (expressions_of self.new) n value) }
+        ensures ok { IfOk result (λ n. AddsConstant (program_expressions self.old) (program_expressions self.new) n value) }
         ensures refused { RefusesDue result count 1 NoNames }
         ensures same { IsSameProgram self.old self.new }
     {
@@ -369,14 +370,14 @@ impl Program {
     }
 
     // Puts a pattern there, which counts as one of the parts, likewise.
-    #[tactic(auto, unfolding(crate::specs::Arena::expressions_of))]
+    #[tactic(auto, unfolding(crate::specs::Arena::program_expressions))]
     fn put_pattern(
         &mut self,
         count: usize,
         parts: u32,
         pattern: Pat,
     ) -> Result<PatternId, BuildRefusal>
-        ensures ok { IfOk result (λ q. AddsPattern (expressions_of self.old) (expressions_of self.new) q pattern) }
+        ensures ok { IfOk result (λ q. AddsPattern (program_expressions self.old) (program_expressions self.new) q pattern) }
         ensures refused { RefusesDue result count (max parts (pattern_depth (pattern_of pattern)) + 1) (HasNames (pattern_of pattern)) }
         ensures same { IsSameProgram self.old self.new }
     {
@@ -389,7 +390,7 @@ impl Program {
     }
 
     // Puts a name and a pattern there, likewise.
-    #[tactic(auto, unfolding(crate::specs::Arena::expressions_of))]
+    #[tactic(auto, unfolding(crate::specs::Arena::program_expressions))]
     fn put_both(
         &mut self,
         count: usize,
@@ -397,7 +398,7 @@ impl Program {
         name: String,
         pattern: Pat,
     ) -> Result<(NameId, PatternId), BuildRefusal>
-        ensures ok { IfOk result (λ ids. PutsBoth (expressions_of self.old) (expressions_of self.new) ids (string_bytes name) pattern) }
+        ensures ok { IfOk result (λ ids. PutsBoth (program_expressions self.old) (program_expressions self.new) ids (string_bytes name) pattern) }
         ensures refused { RefusesDue result count (max parts (pattern_depth (pattern_of pattern)) + 1) (IsName (string_bytes name) × HasNames (pattern_of pattern)) }
         ensures same { IsSameProgram self.old self.new }
     {
@@ -426,11 +427,11 @@ impl Program {
     ) -> Result<ExprId, BuildRefusal>
         requires part_held { HoldsExpression self.old part }
         requires body_held { HoldsExpression self.old body }
-        ensures builds { let next = next_pattern (expressions_of self.old) in
+        ensures builds { let next = next_pattern (program_expressions self.old) in
             let node = expressions.Mapped (record { part = part; mapping = mapping; pattern = next; body = body }) in
-            let whole = mapped_of (expression_under self.old part) mapping (pattern_of pattern) (expression_under self.old body) in
+            let whole = Expressions.mapped (program_expression self.old part) mapping (pattern_of pattern) (program_expression self.old body) in
             BuildsExpression self.old self.new result node whole spot (HasNames (pattern_of pattern)) }
-        ensures placed { OnOk result (HasPattern self.new (next_pattern (expressions_of self.old)) pattern) }
+        ensures placed { OnOk result (HasPattern self.new (next_pattern (program_expressions self.old)) pattern) }
     {
         let count = self.expressions.len();
         let parts = self
@@ -463,11 +464,11 @@ impl Program {
         requires first_held { HoldsExpression self.old first }
         requires second_held { HoldsExpression self.old second }
         requires body_held { HoldsExpression self.old body }
-        ensures builds { let next = next_pattern (expressions_of self.old) in
+        ensures builds { let next = next_pattern (program_expressions self.old) in
             let node = expressions.Folded (record { first = first; folding = folding; second = second; pattern = next; body = body }) in
-            let whole = folded_of (expression_under self.old first) folding (expression_under self.old second) (pattern_of pattern) (expression_under self.old body) in
+            let whole = Expressions.folded (program_expression self.old first) folding (program_expression self.old second) (pattern_of pattern) (program_expression self.old body) in
             BuildsExpression self.old self.new result node whole spot (HasNames (pattern_of pattern)) }
-        ensures placed { OnOk result (HasPattern self.new (next_pattern (expressions_of self.old)) pattern) }
+        ensures placed { OnOk result (HasPattern self.new (next_pattern (program_expressions self.old)) pattern) }
     {
         let count = self.expressions.len();
         let operands = self
@@ -498,8 +499,8 @@ impl Program {
         spot: Spot,
     ) -> Result<ExprId, BuildRefusal>
         requires { HoldsExpression self.old part }
-        ensures { let next = next_name (expressions_of self.old) in
-            let whole = called_of (string_bytes function) (expression_under self.old part) in
+        ensures { let next = next_name (program_expressions self.old) in
+            let whole = Expressions.called (string_bytes function) (program_expression self.old part) in
             BuildsExpression self.old self.new result (expressions.Called next place part) whole spot (IsName (string_bytes function)) }
     {
         let count = self.expressions.len();
@@ -513,8 +514,8 @@ impl Program {
     /// language, and with `Memory`. A refused call changes nothing.
     pub fn function(&mut self, pattern: Pat, body: ExprId) -> Result<FunctionId, BuildRefusal>
         requires { HoldsExpression self.old body }
-        ensures { let whole = function_of (pattern_of pattern) (expression_under self.old body) in
-            IsBuilt self.old self.new result (λ f. AddsProgramFunction self.old self.new f pattern body) 0 (function_depth_of whole) (HasNames (pattern_of pattern)) }
+        ensures { let whole = Expressions.function (pattern_of pattern) (program_expression self.old body) in
+            IsBuilt self.old self.new result (λ f. AddsProgramFunction self.old self.new f pattern body) 0 (Expressions.function_depth whole) (HasNames (pattern_of pattern)) }
     {
         let depth = pattern.depth().max(self.expressions.depth(body));
         room(0, depth, has_names(&pattern))?;
@@ -552,11 +553,11 @@ impl Program {
     ) -> Result<TermId, BuildRefusal>
         requires source_held { HoldsTerm self.old source }
         requires body_held { HoldsTerm self.old body }
-        ensures builds { let next = next_pattern (expressions_of self.old) in
+        ensures builds { let next = next_pattern (program_expressions self.old) in
             let node = terms.Switching (record { form = form; source = source; pattern = next; body = body }) in
-            let whole = switching_of form (tree self.old source) (pattern_of pattern) (tree self.old body) in
+            let whole = Trees.switching form (tree self.old source) (pattern_of pattern) (tree self.old body) in
             BuildsTerm self.old self.new result node whole spot (HasNames (pattern_of pattern)) }
-        ensures placed { OnOk result (HasPattern self.new (next_pattern (expressions_of self.old)) pattern) }
+        ensures placed { OnOk result (HasPattern self.new (next_pattern (program_expressions self.old)) pattern) }
     {
         let count = self.terms.len();
         let parts = self.depth(source).max(self.depth(body));
@@ -574,7 +575,7 @@ impl Program {
     /// where 100,000 terms are there, then with `TooDeep` where more than 64 terms, patterns and expressions would stand one
     /// inside another, then with `BadName` where the name or one of the pattern is no name of the language, and with
     /// `Memory`. A refused call changes nothing.
-    pub fn keeping(
+    pub fn continuing(
         &mut self,
         form: Observation,
         source: TermId,
@@ -588,18 +589,18 @@ impl Program {
         requires source_held { HoldsTerm self.old source }
         requires observer_held { HoldsTerm self.old observer }
         requires body_held { HoldsTerm self.old body }
-        ensures builds { let name = next_name (expressions_of self.old) in
-            let next = next_pattern (expressions_of self.old) in
-            let node = terms.Keeping (record { shown = form; source = source; observer = observer; name = name; place = place; pattern = next; body = body }) in
-            let whole = keeping_of form (tree self.old source) (tree self.old observer) (string_bytes process) (pattern_of pattern) (tree self.old body) in
+        ensures builds { let name = next_name (program_expressions self.old) in
+            let next = next_pattern (program_expressions self.old) in
+            let node = terms.Continuation (record { shown = form; source = source; observer = observer; name = name; place = place; pattern = next; body = body }) in
+            let whole = Trees.continuing form (tree self.old source) (tree self.old observer) (string_bytes process) (pattern_of pattern) (tree self.old body) in
             BuildsTerm self.old self.new result node whole spot (IsName (string_bytes process) × HasNames (pattern_of pattern)) }
-        ensures placed { OnOk result (HasPattern self.new (next_pattern (expressions_of self.old)) pattern) }
+        ensures placed { OnOk result (HasPattern self.new (next_pattern (program_expressions self.old)) pattern) }
     {
         let count = self.terms.len();
         let watched = self.depth(source).max(self.depth(observer));
         let parts = watched.max(self.depth(body));
         let (name, pattern) = self.put_both(count, parts, process, pattern)?;
-        let node = Keeping {
+        let node = Continuation {
             shown: form,
             source,
             observer,
@@ -608,7 +609,7 @@ impl Program {
             pattern,
             body,
         };
-        self.add(Node::Keeping(node), spot)
+        self.add(Node::Continuation(node), spot)
     }
 
     /// Adds a form that is a name alone, at `place`, to the terms. Refused with `TooMany` where 100,000 terms are there, then with
@@ -620,7 +621,7 @@ impl Program {
         place: Spot,
         spot: Spot,
     ) -> Result<TermId, BuildRefusal>
-        ensures { let next = next_name (expressions_of self.old) in
+        ensures { let next = next_name (program_expressions self.old) in
             BuildsTerm self.old self.new result (terms.Named form next place) (named_term form (string_bytes name)) spot (IsName (string_bytes name)) }
     {
         let count = self.terms.len();
@@ -638,12 +639,12 @@ impl Program {
         spot: Spot,
     ) -> Result<TermId, BuildRefusal>
         requires { All (HoldsArgument self.old) arguments.items }
-        ensures builds { let name = next_name (expressions_of self.old) in
+        ensures builds { let name = next_name (program_expressions self.old) in
             let next = next_arguments self.old in
-            let whole = reference_of (call_of (string_bytes template) (arguments_of self.old arguments.items)) in
+            let whole = reference (Trees.call (string_bytes template) (arguments_of self.old arguments.items)) in
             BuildsTerm self.old self.new result (terms.Call name next) whole spot (IsName (string_bytes template)) }
         ensures placed { let next = next_arguments self.old in
-            OnOk result (HoldsArguments self.new next × (arguments_under self.new next ≡ arguments.items)) }
+            OnOk result (HoldsArguments self.new next × (argument_nodes self.new next ≡ arguments.items)) }
     {
         let count = self.terms.len();
         let parts = self.depth_in(&arguments);
@@ -656,10 +657,10 @@ impl Program {
     fn place_arguments(&mut self, arguments: Vec<Argument>) -> Result<ArgumentsId, BuildRefusal>
         ensures next { IfOk result (λ id. id ≡ next_arguments self.old) }
         ensures within { IfOk result (λ id. HoldsArguments self.new id) }
-        ensures is { IfOk result (λ id. arguments_under self.new id ≡ arguments.items) }
+        ensures is { IfOk result (λ id. argument_nodes self.new id ≡ arguments.items) }
         ensures memory { IfErr result (λ refusal. refusal ≡ BuildRefusal.Memory) }
         ensures same { IsSameProgram self.old self.new }
-        ensures expressions { expressions_of self.new ≡ expressions_of self.old }
+        ensures expressions { program_expressions self.new ≡ program_expressions self.old }
     {
         let id = ArgumentsId(self.arguments.len());
         self.arguments.push(StoredArguments::new(arguments))?;
@@ -680,7 +681,7 @@ impl Program {
     pub fn add_collection(&mut self, collection: Rc<CollExpr>) -> Result<CollectionId, BuildRefusal>
         requires { HoldsMembers self.old collection.value }
         ensures { let whole = collection_of self.old collection.value in
-            IsBuilt self.old self.new result (λ id. AddsCollection self.old self.new id collection.value) 0 (collection_depth_of whole) NoNames }
+            IsBuilt self.old self.new result (λ id. AddsCollection self.old self.new id collection.value) 0 (collection_depth whole) NoNames }
     {
         let depth = self.depth_of(&collection);
         room(0, depth, true)?;
@@ -707,12 +708,12 @@ impl Program {
         requires members_held { HoldsWhole self.old members }
         requires observer_held { HoldsTerm self.old observer }
         requires body_held { HoldsTerm self.old body }
-        ensures builds { let known = next_name (expressions_of self.old) in
-            let next = next_pattern (expressions_of self.old) in
+        ensures builds { let known = next_name (program_expressions self.old) in
+            let next = next_pattern (program_expressions self.old) in
             let node = terms.Releasing (record { shown = shown; members = members; observer = observer; name = known; place = place; pattern = next; body = body }) in
-            let whole = releasing_of shown (collection_at self.old members) (tree self.old observer) (string_bytes name) (pattern_of pattern) (tree self.old body) in
+            let whole = Trees.releasing shown (collection_tree self.old members) (tree self.old observer) (string_bytes name) (pattern_of pattern) (tree self.old body) in
             BuildsTerm self.old self.new result node whole spot (IsName (string_bytes name) × HasNames (pattern_of pattern)) }
-        ensures placed { OnOk result (HasPattern self.new (next_pattern (expressions_of self.old)) pattern) }
+        ensures placed { OnOk result (HasPattern self.new (next_pattern (program_expressions self.old)) pattern) }
     {
         let count = self.terms.len();
         let watched = self.depth_under(members).max(self.depth(observer));
@@ -744,12 +745,12 @@ impl Program {
     ) -> Result<TermId, BuildRefusal>
         requires members_held { HoldsWhole self.old members }
         requires edit_held { HoldsWhole self.old edit }
-        ensures builds { let known = next_name (expressions_of self.old) in
-            let next = next_pattern (expressions_of self.old) in
+        ensures builds { let known = next_name (program_expressions self.old) in
+            let next = next_pattern (program_expressions self.old) in
             let node = terms.Editing (record { shown = shown; members = members; name = known; place = place; pattern = next; edit = edit }) in
-            let whole = editing_of shown (collection_at self.old members) (string_bytes name) (pattern_of pattern) (collection_at self.old edit) in
+            let whole = Trees.editing shown (collection_tree self.old members) (string_bytes name) (pattern_of pattern) (collection_tree self.old edit) in
             BuildsTerm self.old self.new result node whole spot (IsName (string_bytes name) × HasNames (pattern_of pattern)) }
-        ensures placed { OnOk result (HasPattern self.new (next_pattern (expressions_of self.old)) pattern) }
+        ensures placed { OnOk result (HasPattern self.new (next_pattern (program_expressions self.old)) pattern) }
     {
         let count = self.terms.len();
         let parts = self.depth_under(members).max(self.depth_under(edit));
@@ -768,8 +769,8 @@ impl Program {
     /// Adds `never` for payloads of a type to the terms. Refused with `TooMany` where 100,000 terms are there, and with
     /// `Memory`. A refused call changes nothing.
     pub fn never(&mut self, payload: Ty, spot: Spot) -> Result<TermId, BuildRefusal>
-        ensures { let next = next_constant (expressions_of self.old) in
-            BuildsTerm self.old self.new result (Node.Primitive (Primitive.Never next)) (primitive_of (never_of payload)) spot NoNames }
+        ensures { let next = next_constant (program_expressions self.old) in
+            BuildsTerm self.old self.new result (Node.Primitive (Primitive.Never next)) (primitive (Trees.never payload)) spot NoNames }
     {
         let count = self.terms.len();
         let constant = self.put_constant(count, Constant::no_event(payload))?;
@@ -824,7 +825,7 @@ impl Program {
     }
 
     /// The id of the term of a number.
-    #[tactic(auto, using(crate::proofs::Kept::few_terms))]
+    #[tactic(auto, using(crate::proofs::Extended::few_terms))]
     pub fn term(&self, number: usize) -> TermId
         requires { number < term_count self.now }
         ensures { term_number result ≡ number }
@@ -833,7 +834,7 @@ impl Program {
     }
 
     /// The node at an id, with the ids of its parts; the identity at an id that the program does not hold.
-    #[tactic(auto, using(crate::proofs::Kept::builds, crate::proofs::Kept::parts_below, crate::proofs::Kept::parts_held), unfolding(crate::specs::Arena::term_entry_of, crate::specs::Arena::term_node_at))]
+    #[tactic(auto, using(crate::proofs::Extended::builds, crate::proofs::Extended::parts_below, crate::proofs::Extended::parts_held), unfolding(crate::specs::Arena::program_entry, crate::specs::Arena::term_node_at))]
     pub fn node(&self, id: TermId) -> Node
         ensures value { result ≡ term_node_at self.now id }
         ensures builds { tree self.now id ≡ term_of self.now result }
@@ -844,9 +845,9 @@ impl Program {
     }
 
     /// The arguments at an id, in order; none at an id that the program does not hold.
-    #[tactic(auto, unfolding(crate::specs::Arena::arguments_under))]
+    #[tactic(auto, unfolding(crate::specs::Arena::argument_nodes))]
     pub fn arguments(&self, id: ArgumentsId) -> &[Argument]
-        ensures { result.now ≡ arguments_under self.now id }
+        ensures { result.now ≡ argument_nodes self.now id }
     {
         match self.arguments.get(id.0) {
             Some(arguments) => arguments.items(),
@@ -855,9 +856,9 @@ impl Program {
     }
 
     /// The collection at an id; one without members at an id that the program does not hold.
-    #[tactic(auto, unfolding(crate::specs::Arena::collection_under))]
+    #[tactic(auto, unfolding(crate::specs::Arena::collection_node))]
     pub fn collection(&self, id: CollectionId) -> Option<&CollExpr>
-        ensures { unwrap_or (option_map (λ c. c.now) result) absent_collection ≡ collection_under self.now id }
+        ensures { unwrap_or (option_map (λ c. c.now) result) absent_collection ≡ collection_node self.now id }
     {
         match self.collections.get(id.0) {
             Some(collection) => Some(collection),
@@ -866,7 +867,7 @@ impl Program {
     }
 
     /// Where the term at an id stands in the text; `Spot::NONE` at an id that the program does not hold.
-    #[tactic(auto, unfolding(crate::specs::Arena::term_entry_of, crate::specs::Arena::term_spot_at))]
+    #[tactic(auto, unfolding(crate::specs::Arena::program_entry, crate::specs::Arena::term_spot_at))]
     pub fn spot(&self, id: TermId) -> Spot
         ensures { result ≡ term_spot_at self.now id }
     {
@@ -874,9 +875,9 @@ impl Program {
     }
 
     /// The expressions.
-    #[tactic(auto, unfolding(crate::specs::Arena::expressions_of))]
+    #[tactic(auto, unfolding(crate::specs::Arena::program_expressions))]
     pub fn expressions(&self) -> &Exprs
-        ensures { result.now ≡ expressions_of self.now }
+        ensures { result.now ≡ program_expressions self.now }
     {
         &self.expressions
     }

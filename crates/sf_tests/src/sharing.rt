@@ -47,7 +47,7 @@ fn owners(state: &State) -> usize {
         State::Primitive(_) => 1,
         State::Live(_, node) => Rc::strong_count(node),
         State::Switch(_, node) => Rc::strong_count(node),
-        State::Keeping(_, node) => Rc::strong_count(node),
+        State::Continuation(_, node) => Rc::strong_count(node),
         State::Gathering(_, node) => Rc::strong_count(node),
         State::Frozen(node) => Rc::strong_count(node),
     }
@@ -56,7 +56,7 @@ fn owners(state: &State) -> usize {
 /// How many owners the node of a switch's source has, if it keeps that; else one.
 fn source_owners(state: &State) -> usize {
     match state {
-        State::Keeping(_, node) => owners(&node.source),
+        State::Continuation(_, node) => owners(&node.source),
         _ => 1,
     }
 }

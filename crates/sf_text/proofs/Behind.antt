@@ -8,8 +8,8 @@ use Rattle.sf_refusal.specs.declared.spot.Spot.{Spot}
 use Rattle.sf_term.specs.declared.program.Program.{Program}
 use Rattle.sf_term.specs.Trees.{Template, term_depth, terms_in, expressions_in}
 use Rattle.sf_term.specs.Headers.{Header}
-use Rattle.sf_term.specs.Arena.{templates_of, headers_of, template_in, term_count, expression_count}
-use Rattle.sf_term.proofs.Kept.{few_terms, few_program_expressions}
+use Rattle.sf_term.specs.Arena.{templates_of, headers_of, term_template, term_count, expression_count}
+use Rattle.sf_term.proofs.Extended.{few_terms, few_program_expressions}
 use Rattle.sf_lex.specs.declared.token.PlacedToken.{PlacedToken}
 use Rattle.sf_lex.specs.Tokens.{Tok}
 use Rattle.sf_text.specs.declared.parts.stop.Stop.{Stop}
@@ -61,7 +61,7 @@ pub record Reached (v : Version) (tokens : List PlacedToken) (now : Reader) : Ty
 none_behind : (v : Version) (tokens : List Tok) (p : Program) → IsBlankProgram p → Behind v tokens p tokens
 none_behind v tokens p blank = search rules
 
-no_headers : (p : Program) (hs : List Header) → map (template_in p) hs ≡ [] → hs ≡ []
+no_headers : (p : Program) (hs : List Header) → map (term_template p) hs ≡ [] → hs ≡ []
 no_headers p [] same = refl
 no_headers p (h ∷ hs) same = cc
 

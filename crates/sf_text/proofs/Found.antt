@@ -5,7 +5,8 @@ use Rattle.std.specs.declared.rc.Rc.{Rc}
 use Rattle.sf_value.specs.Values.{Name, Kind}
 use Rattle.sf_expr.specs.declared.exprs.ExprId.{ExprId}
 use Rattle.sf_expr.specs.declared.exprs.FunctionId.{FunctionId}
-use Rattle.sf_expr.specs.Expressions.{Pattern, pattern_depth, Expression, depth as expression_depth, size, Function, function_size}
+use Rattle.sf_expr.specs.Expressions.{Pattern, pattern_depth, Expression, size, Function, function_size}
+use Rattle.sf_expr.specs.Expressions
 use Rattle.sf_term.specs.declared.form.Bare.{Bare}
 use Rattle.sf_term.specs.declared.form.WithValue.{WithValue}
 use Rattle.sf_term.specs.declared.form.WithValue.TheVariants as values
@@ -27,25 +28,26 @@ use Rattle.sf_term.specs.declared.node.Argument.{Argument}
 use Rattle.sf_term.specs.declared.node.Argument.TheVariants as arguments
 use Rattle.sf_term.specs.declared.program.Program.{Program}
 use Rattle.sf_term.specs.declared.refusal.BuildRefusal.{BuildRefusal}
-use Rattle.sf_term.specs.Trees.{terms_with_value, Term, primitive, bare, never, with_value, timed, selected, arrow, accumulated, named_term, joined, sided, transformed, switching, keeping, gathered, releasing, editing, Collection, reference, call, no_arguments, term_depth, collection_depth, terms_in, terms_collected, expressions_in, expressions_collected}
+use Rattle.sf_term.specs.Trees.{terms_with_value, Term, primitive, bare, never, with_value, timed, selected, arrow, accumulated, named_term, joined, sided, transformed, switching, continuing, gathered, releasing, editing, Collection, reference, call, no_arguments, term_depth, collection_depth, terms_in, terms_collected, expressions_in, expressions_collected}
 use Rattle.sf_term.specs.Trees as forms
 use Rattle.sf_term.specs.Names.{HasNames}
 use Rattle.sf_term.specs.Building.{BuildsTerm}
 use Rattle.sf_term.specs.Parameters.{NameKind}
-use Rattle.sf_term.specs.Arena.{HoldsMembers, HoldsWhole, collection_of, collection_at, AddsCollection, AddsUsed, tree, arguments_of, term_of, term_node_at, expression_under as expression_in, function_in, term_count, expression_count, KeepsProgram, AddsTerm}
-use Rattle.sf_term.proofs.Kept.{few_program_expressions, keeps_trans, unchanged_keeps, collection_kept, collection_at_kept}
+use Rattle.sf_term.specs.Arena.{HoldsMembers, HoldsWhole, collection_of, collection_tree, AddsCollection, AddsUsed, tree, arguments_of, term_of, term_node_at, program_function, term_count, expression_count, ExtendsProgram, AddsTerm, program_expression}
+use Rattle.sf_term.proofs.Extended.{few_program_expressions, keeps_trans, unchanged_keeps, collection_kept, collection_at_kept}
 use Rattle.sf_value.specs.KindView.{key_kind_of}
 use Rattle.sf_value.specs.declared.ty.KeyType.{KeyType}
 use Rattle.sf_refusal.specs.declared.spot.Spot.{Spot}
 use Rattle.sf_lex.specs.declared.symbol.Symbol.TheVariants as symbols
 use Rattle.sf_lex.specs.declared.word.Keyword.TheVariants as words
-use Rattle.sf_lex.specs.Tokens.{Tok, name as name_token}
+use Rattle.sf_lex.specs.Tokens.{Tok}
+use Rattle.sf_lex.specs.Tokens
 use Rattle.sf_grammar.specs.declared.ty.Version.{Version}
 use Rattle.sf_grammar.specs.declared.ty.Version.TheVariants as versions
 use Rattle.sf_text.specs.declared.parts.stop.Stop.{Stop}
 use Rattle.sf_text.specs.declared.parts.stop.Stop.TheVariants.{Memory}
 use Rattle.sf_grammar.specs.Spelling.{stands_initially, head_makes}
-use Rattle.sf_grammar.specs.Reading.{◌and_then◌, parse_number, parse_never, parse_timed, parse_selected, Read, got, Counts, counts_with, counts_with_expression, counts_with_function, parse_symbol, parse_inner_type, parse_pattern, parse_expression, parse_function, parse_value, parse_arrow, parse_accumulated, parse_sided, parse_headed, parse_transformed, parse_body, parse_switching, parse_name, parse_named, parse_keeping, parse_listed, parse_arguments, parse_call, parse_name_kind, parse_parameter, term_read, parse_join, parse_joined, parse_term, parse_keyword, parse_keys, parse_collection, parse_empty, parse_used, parse_added, parse_dropped, parse_kept, parse_chosen, parse_gathered, parse_releasing, parse_edit, parse_editing, parse_argument, counts_with_collection, actual_value, actual_process, actual_collection, no_word, process_word, collection_word, argument_word, behind_first}
+use Rattle.sf_grammar.specs.Reading.{◌and_then◌, parse_number, parse_never, parse_timed, parse_selected, Read, got, Counts, counted_term, counts_with_expression, counts_with_function, parse_symbol, parse_inner_type, parse_pattern, parse_expression, parse_function, parse_value, parse_arrow, parse_accumulated, parse_sided, parse_headed, parse_transformed, parse_body, parse_switching, parse_name, parse_named, parse_continuing, parse_listed, parse_arguments, parse_call, parse_name_kind, parse_parameter, term_read, parse_join, parse_joined, parse_term, parse_keyword, parse_keys, parse_collection, parse_empty, parse_used, parse_added, parse_dropped, parse_kept, parse_chosen, parse_gathered, parse_releasing, parse_edit, parse_editing, parse_argument, counts_with_collection, actual_value, actual_process, actual_collection, no_word, process_word, collection_word, argument_word, behind_first}
 use Rattle.sf_text.specs.Parsing.Answers.{StopsReading, FoundExpression, FoundFunction, counts_of, stop_for, built_as}
 use Rattle.sf_text.specs.Answers.{FoundTerm, ReadsTermInto, FoundCollection, ReadsCollectionInto, FoundMembers, FoundEdit, FoundBody, FoundArgument, FoundArguments}
 use Rattle.sf_grammar.proofs.Words.{IsLone, named_alone}
@@ -66,7 +68,7 @@ pub record Ready (old mid : Program) (built : Term) (start rest : List Tok) (rea
 
 -- a term whose parts were read was added to the program, which had room for it
 pub term_found : {old mid new : Program} {id : TermId} {node : Node} {built : Term} {spot : Spot} {start rest : List Tok} {read : Read Term}
-    → Ready old mid built start rest read → KeepsProgram old mid → term_count mid < 100000 → AddsTerm mid new id node built spot → FoundTerm old new id rest read
+    → Ready old mid built start rest read → ExtendsProgram old mid → term_count mid < 100000 → AddsTerm mid new id node built spot → FoundTerm old new id rest read
 term_found {old} {mid} {new} {start = start} {rest = rest} ready kept room added = record {
   term = ready.term;
   is = ready.is ∙ read_within (term_count old + terms_in ready.term) ready.term start rest (omega (arith, room, ready.terms));
@@ -79,7 +81,7 @@ term_found {old} {mid} {new} {start = start} {rest = rest} ready kept room added
 
 -- a term whose parts were read was given to the program
 pub term_built : {old mid : Program} {built : Term} {start rest : List Tok} {read : Read Term} {Named : Type 0} (new : Program) (node : Node) (spot : Spot) (left : ℕ) (added : Result TermId BuildRefusal) (answer : Result TermId Stop)
-    → Ready old mid built start rest read → KeepsProgram old mid → length start ≡ left → answer ≡ built_as left added → BuildsTerm mid new added node built spot Named → Named → ReadsTermInto old new rest answer read
+    → Ready old mid built start rest read → ExtendsProgram old mid → length start ≡ left → answer ≡ built_as left added → BuildsTerm mid new added node built spot Named → Named → ReadsTermInto old new rest answer read
 term_built {old = old} {rest = rest} {read = read} new node spot left (Ok id) answer ready kept counted is builds named =
     subst (λ (a : Result TermId Stop). ReadsTermInto old new rest a read) (sym is) (term_found ready kept builds.refused.room.0 builds.ok)
 term_built {old = old} {mid = mid} {built = built} {start = start} {rest = rest} {read = read} new node spot left (Err refusal) answer ready kept counted is builds named =
@@ -94,7 +96,7 @@ bare_ready k start rest = record { term = primitive (bare k); is = refl; same = 
 term_taken : (v : Version) (old new : Program) (id : TermId) (rest tokens : List Tok) (d : ℕ) → (f : FoundTerm old new id rest (parse_term d v (counts_of old) tokens)) → Took v d (counts_of old) tokens f.term rest
 term_taken v old new id rest tokens d f = term_takes v d (counts_of old) tokens f.term rest (few_program_expressions old) f.is
 
-behind_term : (old mid : Program) (f : Term) → term_count mid ≡ term_count old + terms_in f → expression_count mid ≡ expression_count old + expressions_in f → counts_of mid ≡ counts_with (counts_of old) f
+behind_term : (old mid : Program) (f : Term) → term_count mid ≡ term_count old + terms_in f → expression_count mid ≡ expression_count old + expressions_in f → counts_of mid ≡ counted_term (counts_of old) f
 behind_term old mid f terms expressions = rw (terms, expressions) refl
 
 -- a value that stands behind its word makes one term with it
@@ -104,7 +106,7 @@ one_term _ behind = refl
 
 -- a primitive with a value
 pub value_ready : (v : Version) {old mid : Program} {start rest : List Tok} {e : ExprId} {k : WithValue} (d : ℕ) (tokens : List Tok) → d ≤ 63 → stands_initially k ≡ false → FoundExpression old mid e rest (parse_expression d v (counts_of old) tokens)
-    → Ready old mid (primitive (with_value k (expression_in mid e))) start rest (parse_value d v (counts_of old) k start tokens)
+    → Ready old mid (primitive (with_value k (program_expression mid e))) start rest (parse_value d v (counts_of old) k start tokens)
 unfolding parse_value
 value_ready v {old} {mid} {start} {rest} {e} {k} d tokens small behind f =
     let took = expression_taken v old mid e rest tokens d f in
@@ -126,14 +128,14 @@ never_ready v {u = u} d tokens small is = record { term = primitive (never u); i
 -- a primitive with a time and a value
 pub timed_ready : (v : Version) {old mid : Program} {start r0 rest : List Tok} {q n : ℤ} {e : ExprId} {k : Timing} (d : ℕ) (tokens : List Tok) → d ≤ 63 → parse_number tokens ≡ got q r0 → n ≡ q
     → FoundExpression old mid e rest (parse_expression d v (counts_of old) r0)
-    → Ready old mid (primitive (timed k n (expression_in mid e))) start rest (parse_timed d v (counts_of old) k start tokens)
+    → Ready old mid (primitive (timed k n (program_expression mid e))) start rest (parse_timed d v (counts_of old) k start tokens)
 unfolding parse_timed
 timed_ready v {old} {mid} {start} {r0} {rest} {q} {n} {e} {k} d tokens small time number f =
     let took = expression_taken v old mid e rest r0 d f in
     record {
       term = primitive (timed k q f.value);
       is = rw (time, f.is) refl;
-      same = ap (λ (z : ℤ). primitive (timed k z (expression_in mid e))) number ∙ ap (λ (i : Expression). primitive (timed k q i)) f.tree;
+      same = ap (λ (z : ℤ). primitive (timed k z (program_expression mid e))) number ∙ ap (λ (i : Expression). primitive (timed k q i)) f.tree;
       shallow = omega (arith, took.shallow);
       terms = omega (arith, f.terms);
       expressions = omega (arith, f.expressions);
@@ -148,7 +150,7 @@ selected_ready {n = n} {k = k} tokens counted number =
 
 -- a function as a primitive
 pub arrow_ready : (v : Version) {old mid : Program} {start rest : List Tok} {g : FunctionId} (d : ℕ) (tokens : List Tok) → d ≤ 63 → FoundFunction old mid g rest (parse_function d v (counts_of old) tokens)
-    → Ready old mid (primitive (arrow (function_in mid g))) start rest (parse_arrow d v (counts_of old) start tokens)
+    → Ready old mid (primitive (arrow (program_function mid g))) start rest (parse_arrow d v (counts_of old) start tokens)
 unfolding parse_arrow
 arrow_ready v {old} {mid} {start} {rest} {g} d tokens small f =
     let took : TookFunction v d (counts_of old) tokens f.function rest = function_takes v d (counts_of old) tokens f.function rest f.is in
@@ -164,12 +166,12 @@ arrow_ready v {old} {mid} {start} {rest} {g} d tokens small f =
 -- a primitive with a value and a function
 pub accumulated_ready : (v : Version) {old one two : Program} {start r0 r1 r2 r3 rest : List Tok} {e : ExprId} {g : FunctionId} {k : Accumulation} (d : ℕ) (tokens : List Tok) → d ≤ 63 → parse_symbol symbols.Open tokens ≡ got tt r0
     → FoundExpression old one e r1 (parse_expression d v (counts_of old) r0) → parse_symbol symbols.Comma r1 ≡ got tt r2 → FoundFunction one two g r3 (parse_function d v (counts_of one) r2) → parse_symbol symbols.Close r3 ≡ got tt rest
-    → Ready old two (primitive (accumulated k (expression_in two e) (function_in two g))) start rest (parse_accumulated d v (counts_of old) k start tokens)
+    → Ready old two (primitive (accumulated k (program_expression two e) (program_function two g))) start rest (parse_accumulated d v (counts_of old) k start tokens)
 unfolding parse_accumulated
 accumulated_ready v {old} {one} {two} {start} {r0} {r1} {r2} {r3} {rest} {e} {g} {k} d tokens small opening f comma h closing =
     let second : parse_function d v (counts_with_expression (counts_of old) f.value) r2 ≡ got h.function r3 =
     subst (λ (c : Counts). parse_function d v c r2 ≡ got h.function r3) (behind_expression old one f.value f.terms f.expressions) h.is in
-    let first_same : expression_in two e ≡ f.value = h.kept.trees.values e f.held ∙ f.tree in
+    let first_same : program_expression two e ≡ f.value = h.kept.trees.values e f.held ∙ f.tree in
     let took_f = expression_taken v old one e r1 r0 d f in
     let took_h : TookFunction v d (counts_of one) r2 h.function r3 = function_takes v d (counts_of one) r2 h.function r3 h.is in
     record {
@@ -198,7 +200,7 @@ sided_ready v {old} {mid} {start} {rest} {a} {s} d tokens small f =
 
 -- what a head makes: how deep it is, and how many terms and expressions it is made of
 record MadeSo (d : ℕ) (e : Expression) (f t : Term) : Type 0 where
-  pub shallow : expression_depth e ≤ d → term_depth f ≤ d → term_depth t ≤ suc d
+  pub shallow : Expressions.depth e ≤ d → term_depth f ≤ d → term_depth t ≤ suc d
   pub terms : terms_in t ≡ suc (terms_in f)
   pub expressions : expressions_in t ≡ size e + expressions_in f
 
@@ -214,7 +216,7 @@ unfolding parse_headed
 headed_ready v {old} {one} {two} {start} {r0} {r1} {r2} {r3} {rest} {e} {a} h d tokens small of_head opening f comma g closing =
     let second : parse_term d v (counts_with_expression (counts_of old) f.value) r2 ≡ got g.term r3 =
     subst (λ (c : Counts). parse_term d v c r2 ≡ got g.term r3) (behind_expression old one f.value f.terms f.expressions) g.is in
-    let first_same : expression_in two e ≡ f.value = g.kept.trees.values e f.held ∙ f.tree in
+    let first_same : program_expression two e ≡ f.value = g.kept.trees.values e f.held ∙ f.tree in
     let took_f = expression_taken v old one e r1 r0 d f in
     let took_g = term_taken v one two a r3 r2 d g in
     let made = made_so d (head_view h f.value g.term) in
@@ -233,12 +235,12 @@ behind_function old mid h terms expressions = rw (terms, expressions) refl
 -- a term with a function at its head
 pub transformed_ready : (v : Version) {old one two : Program} {start r0 r1 r2 r3 rest : List Tok} {g : FunctionId} {a : TermId} (d : ℕ) (tokens : List Tok) → d ≤ 63 → parse_symbol symbols.Open tokens ≡ got tt r0
     → FoundFunction old one g r1 (parse_function d v (counts_of old) r0) → parse_symbol symbols.Comma r1 ≡ got tt r2 → FoundTerm one two a r3 (parse_term d v (counts_of one) r2) → parse_symbol symbols.Close r3 ≡ got tt rest
-    → Ready old two (transformed (function_in two g) (tree two a)) start rest (parse_transformed d v (parse_term d v) (counts_of old) start tokens)
+    → Ready old two (transformed (program_function two g) (tree two a)) start rest (parse_transformed d v (parse_term d v) (counts_of old) start tokens)
 unfolding parse_transformed
 transformed_ready v {old} {one} {two} {start} {r0} {r1} {r2} {r3} {rest} {g} {a} d tokens small opening h comma f closing =
     let second : parse_term d v (counts_with_function (counts_of old) h.function) r2 ≡ got f.term r3 =
     subst (λ (c : Counts). parse_term d v c r2 ≡ got f.term r3) (behind_function old one h.function h.terms h.expressions) f.is in
-    let first_same : function_in two g ≡ h.function = f.kept.trees.meanings g h.held ∙ h.meaning in
+    let first_same : program_function two g ≡ h.function = f.kept.trees.meanings g h.held ∙ h.meaning in
     let took_h : TookFunction v d (counts_of old) r0 h.function r1 = function_takes v d (counts_of old) r0 h.function r1 h.is in
     let took_f = term_taken v one two a r3 r2 d f in
     record {
@@ -265,7 +267,7 @@ pub switching_ready : (v : Version) {old one two : Program} {start r0 r1 r2 r3 r
     → Ready old two (switching w (tree two a) p (tree two b)) start rest (parse_switching d (parse_term d v) (counts_of old) w start tokens)
 unfolding parse_switching
 switching_ready v {old} {one} {two} {start} {r0} {r1} {r2} {r3} {rest} {a} {b} {p} {w} d tokens small opening f comma g closing =
-    let second : parse_body d (parse_term d v) (counts_with (counts_of old) f.term) r2 ≡ got (p, g.term) r3 =
+    let second : parse_body d (parse_term d v) (counted_term (counts_of old) f.term) r2 ≡ got (p, g.term) r3 =
     subst (λ (c : Counts). parse_body d (parse_term d v) c r2 ≡ got (p, g.term) r3) (behind_term old one f.term f.terms f.expressions) g.is in
     let first_same : tree two a ≡ f.term = g.kept.trees.trees a f.held ∙ f.tree in
     let took_f = term_taken v old one a r1 r0 d f in
@@ -287,23 +289,23 @@ named_ready w {k = k} tokens named bytes =
     record { term = named_term w k; is = rw named refl; same = ap (named_term w) bytes; shallow = omega (arith, lone.depth); terms = omega (arith, lone.terms); expressions = omega (arith, lone.expressions) }
 
 -- a term that gives way to another, which knows it by a name
-pub keeping_ready : (v : Version) {old one two three : Program} {start r0 r1 r2 r3 r4 r5 r6 r7 rest : List Tok} {a b c : TermId} {k n : Name} {p : Pattern} {w : Observation} (d : ℕ) (tokens : List Tok) → d ≤ 63 → parse_symbol symbols.Open tokens ≡ got tt r0
+pub continuing_ready : (v : Version) {old one two three : Program} {start r0 r1 r2 r3 r4 r5 r6 r7 rest : List Tok} {a b c : TermId} {k n : Name} {p : Pattern} {w : Observation} (d : ℕ) (tokens : List Tok) → d ≤ 63 → parse_symbol symbols.Open tokens ≡ got tt r0
     → FoundTerm old one a r1 (parse_term d v (counts_of old) r0) → parse_symbol symbols.Comma r1 ≡ got tt r2 → FoundTerm one two b r3 (parse_term d v (counts_of one) r2) → parse_symbol symbols.Comma r3 ≡ got tt r4
     → parse_name r4 ≡ got k r5 → parse_symbol symbols.Comma r5 ≡ got tt r6 → FoundBody two three p c r7 (parse_body d (parse_term d v) (counts_of two) r6) → parse_symbol symbols.Close r7 ≡ got tt rest → n ≡ k
-    → Ready old three (keeping w (tree three a) (tree three b) n p (tree three c)) start rest (parse_keeping d (parse_term d v) (counts_of old) w start tokens)
-unfolding parse_keeping
-keeping_ready v {old} {one} {two} {three} {start} {r0} {r1} {r2} {r3} {r4} {r5} {r6} {r7} {rest} {a} {b} {c} {k} {n} {p} {w} d tokens small opening f comma g second named third h closing bytes =
+    → Ready old three (continuing w (tree three a) (tree three b) n p (tree three c)) start rest (parse_continuing d (parse_term d v) (counts_of old) w start tokens)
+unfolding parse_continuing
+continuing_ready v {old} {one} {two} {three} {start} {r0} {r1} {r2} {r3} {r4} {r5} {r6} {r7} {rest} {a} {b} {c} {k} {n} {p} {w} d tokens small opening f comma g second named third h closing bytes =
     let behind_one = behind_term old one f.term f.terms f.expressions in
-    let at_g : parse_term d v (counts_with (counts_of old) f.term) r2 ≡ got g.term r3 = subst (λ (c : Counts). parse_term d v c r2 ≡ got g.term r3) behind_one g.is in
-    let behind_two : counts_of two ≡ counts_with (counts_with (counts_of old) f.term) g.term = behind_term one two g.term g.terms g.expressions ∙ ap (λ (c : Counts). counts_with c g.term) behind_one in
-    let at_h : parse_body d (parse_term d v) (counts_with (counts_with (counts_of old) f.term) g.term) r6 ≡ got (p, h.term) r7 = subst (λ (c : Counts). parse_body d (parse_term d v) c r6 ≡ got (p, h.term) r7) behind_two h.is in
+    let at_g : parse_term d v (counted_term (counts_of old) f.term) r2 ≡ got g.term r3 = subst (λ (c : Counts). parse_term d v c r2 ≡ got g.term r3) behind_one g.is in
+    let behind_two : counts_of two ≡ counted_term (counted_term (counts_of old) f.term) g.term = behind_term one two g.term g.terms g.expressions ∙ ap (λ (c : Counts). counted_term c g.term) behind_one in
+    let at_h : parse_body d (parse_term d v) (counted_term (counted_term (counts_of old) f.term) g.term) r6 ≡ got (p, h.term) r7 = subst (λ (c : Counts). parse_body d (parse_term d v) c r6 ≡ got (p, h.term) r7) behind_two h.is in
     let first_same : tree three a ≡ f.term = h.kept.trees.trees a (g.kept.trees.terms a f.held) ∙ (g.kept.trees.trees a f.held ∙ f.tree) in
     let second_same : tree three b ≡ g.term = h.kept.trees.trees b g.held ∙ g.tree in
     let took_f = term_taken v old one a r1 r0 d f in
     let took_g = term_taken v one two b r3 r2 d g in
     let took_h = body_taken v two three p c r7 r6 d h in
     record {
-      term = keeping w f.term g.term k p h.term;
+      term = continuing w f.term g.term k p h.term;
       is = rw (opening, f.is, comma, at_g, second, named, third, at_h, closing) refl;
       same = rw (first_same, second_same, bytes, h.tree) refl;
       shallow = omega (arith, took_f.shallow, took_g.shallow, took_h.pattern, took_h.shallow);
@@ -314,7 +316,7 @@ keeping_ready v {old} {one} {two} {three} {start} {r0} {r1} {r2} {r3} {r4} {r5} 
 -- a call of a template
 pub call_ready : (v : Version) {old mid : Program} {r1 rest : List Tok} {bs : List Argument} {n : Name} (d : ℕ) (g : Name) (r0 : List Tok) → d ≤ 63 → parse_symbol symbols.Open r0 ≡ got tt r1
     → FoundArguments old mid bs rest (parse_listed no_arguments (λ ts. parse_arguments (suc (length ts)) d v (parse_term d v) (parse_collection d v) (counts_of old) ts) r1) → n ≡ g
-    → Ready old mid (reference (call n (arguments_of mid bs))) (name_token g ∷ r0) rest (parse_call d v (parse_term d v) (parse_collection d v) (counts_of old) (name_token g ∷ r0))
+    → Ready old mid (reference (call n (arguments_of mid bs))) (Tokens.name g ∷ r0) rest (parse_call d v (parse_term d v) (parse_collection d v) (counts_of old) (Tokens.name g ∷ r0))
 unfolding parse_call
 call_ready v {old} {mid} {r1} {rest} {bs} {n} d g r0 small opening f bytes =
     let took : TookListed v d (counts_of old) r1 f.value rest = arguments_take v d (counts_of old) r1 f.value rest (parts_taken v d) (few_program_expressions old) f.is in
@@ -333,7 +335,7 @@ pub joined_ready : (v : Version) {old one two : Program} {start r1 r2 r3 rest : 
     → Ready old two (joined j (tree two a) (tree two b)) start rest (parse_joined (parse_term d v) (counts_of old) start tokens)
 unfolding parse_joined
 joined_ready v {old} {one} {two} {start} {r1} {r2} {r3} {rest} {a} {b} {j} d tokens small f joining g closing =
-    let second : parse_term d v (counts_with (counts_of old) f.term) r2 ≡ got g.term r3 =
+    let second : parse_term d v (counted_term (counts_of old) f.term) r2 ≡ got g.term r3 =
     subst (λ (c : Counts). parse_term d v c r2 ≡ got g.term r3) (behind_term old one f.term f.terms f.expressions) g.is in
     let first_same : tree two a ≡ f.term = g.kept.trees.trees a f.held ∙ f.tree in
     let took_f = term_taken v old one a r1 tokens d f in
@@ -366,15 +368,15 @@ record CollectionStays (two : Program) (c : CollExpr) (i : Collection) : Type 0 
   pub made : collection_of two c ≡ i
   pub held : HoldsMembers two c
 
-collection_stays : {one two : Program} {c : CollExpr} {i : Collection} → KeepsProgram one two → HoldsMembers one c → collection_of one c ≡ i → CollectionStays two c i
+collection_stays : {one two : Program} {c : CollExpr} {i : Collection} → ExtendsProgram one two → HoldsMembers one c → collection_of one c ≡ i → CollectionStays two c i
 collection_stays {one} {two} {c} {i} k held made = let stays = collection_kept one two c k.trees held in record { made = stays.0 ∙ made; held = stays.1 }
 
 -- the same of one that is among the collections of the program
 record MembersStay (two : Program) (m : CollectionId) (i : Collection) : Type 0 where
-  pub made : collection_at two m ≡ i
+  pub made : collection_tree two m ≡ i
   pub held : HoldsWhole two m
 
-members_stay : {one two : Program} {m : CollectionId} {i : Collection} → KeepsProgram one two → HoldsWhole one m → collection_at one m ≡ i → MembersStay two m i
+members_stay : {one two : Program} {m : CollectionId} {i : Collection} → ExtendsProgram one two → HoldsWhole one m → collection_tree one m ≡ i → MembersStay two m i
 members_stay {one} {two} {m} {i} k held made = let stays = collection_at_kept one two m k.trees held in record { made = stays.0 ∙ made; held = stays.1 }
 
 -- a collection that was read, once it is shared
@@ -384,7 +386,7 @@ collection_shared {old} {new} {rest} {read} (Ok r) is want found = subst (λ (x 
 collection_shared {read = read} (Err e) is want found = subst (λ (e : Stop). StopsReading e read) (sym want) tt
 
 -- `empty`
-pub empty_found : (v : Version) {p : Program} {r0 rest : List Tok} {k : KeyType} {u : Kind} {at : Spot} (d : ℕ) (tokens : List Tok) → KeepsProgram p p → parse_keys v tokens ≡ got (key_kind_of k) r0 → parse_inner_type d v r0 0 r0 ≡ got u rest
+pub empty_found : (v : Version) {p : Program} {r0 rest : List Tok} {k : KeyType} {u : Kind} {at : Spot} (d : ℕ) (tokens : List Tok) → ExtendsProgram p p → parse_keys v tokens ≡ got (key_kind_of k) r0 → parse_inner_type d v r0 0 r0 ≡ got u rest
     → FoundCollection p p (collections.Empty k u at) rest (parse_empty d v tokens)
 unfolding parse_empty
 empty_found v {k = k} {u = u} d tokens self keys values = record { members = forms.without_members (key_kind_of k) u; is = rw (keys, values) refl; held = tt; made = refl; kept = self; terms = omega arith; expressions = omega arith }
@@ -413,9 +415,9 @@ added_found v {old} {one} {two} {three} {r0} {r1} {r2} {r3} {r4} {r5} {rest} {a}
     let at_f : parse_expression d v (counts_with_collection (counts_of old) i.members) r2 ≡ got f.value r3 = subst (λ (c : Counts). parse_expression d v c r2 ≡ got f.value r3) behind_one f.is in
     let behind_two : counts_of two ≡ counts_with_expression (counts_with_collection (counts_of old) i.members) f.value = behind_expression one two f.value f.terms f.expressions ∙ ap (λ (c : Counts). counts_with_expression c f.value) behind_one in
     let at_g : parse_term d v (counts_with_expression (counts_with_collection (counts_of old) i.members) f.value) r4 ≡ got g.term r5 = subst (λ (c : Counts). parse_term d v c r4 ≡ got g.term r5) behind_two g.is in
-    let kept_two : KeepsProgram one three = keeps_trans one two three f.kept g.kept in
+    let kept_two : ExtendsProgram one three = keeps_trans one two three f.kept g.kept in
     let stays : CollectionStays three c i.members = collection_stays kept_two i.held i.made in
-    let key_same : expression_in three e ≡ f.value = g.kept.trees.values e f.held ∙ f.tree in
+    let key_same : program_expression three e ≡ f.value = g.kept.trees.values e f.held ∙ f.tree in
     record {
       members = forms.added i.members f.value g.term;
       is = rw (opening, i.is, comma, at_f, second, at_g, closing) refl;
@@ -474,9 +476,9 @@ chosen_found v {old} {one} {two} {three} {r1} {r2} {r3} {r4} {rest} {a} {b} {c} 
     let at_i : parse_collection d v (counts_with_expression (counts_of old) f.value) r2 ≡ got i.members r3 = subst (λ (c : Counts). parse_collection d v c r2 ≡ got i.members r3) behind_one i.is in
     let behind_two : counts_of two ≡ counts_with_collection (counts_with_expression (counts_of old) f.value) i.members = behind_collection one two i.members i.terms i.expressions ∙ ap (λ (c : Counts). counts_with_collection c i.members) behind_one in
     let at_j : parse_collection d v (counts_with_collection (counts_with_expression (counts_of old) f.value) i.members) r4 ≡ got j.members rest = subst (λ (c : Counts). parse_collection d v c r4 ≡ got j.members rest) behind_two j.is in
-    let kept_two : KeepsProgram one three = keeps_trans one two three i.kept j.kept in
+    let kept_two : ExtendsProgram one three = keeps_trans one two three i.kept j.kept in
     let stays : CollectionStays three c i.members = collection_stays j.kept i.held i.made in
-    let condition_same : expression_in three e ≡ f.value = kept_two.trees.values e f.held ∙ f.tree in
+    let condition_same : program_expression three e ≡ f.value = kept_two.trees.values e f.held ∙ f.tree in
     record {
       members = forms.chosen f.value i.members j.members;
       is = rw (f.is, then_word, at_i, else_word, at_j) refl;
@@ -508,7 +510,7 @@ members_shallow v {old} {mid} {c} {rest} d tokens small f =
 
 -- the members of a collection
 pub gathered_ready : (v : Version) {old mid : Program} {start rest : List Tok} {m : CollectionId} (d : ℕ) (tokens : List Tok) → d ≤ 63 → FoundMembers old mid m rest (parse_collection d v (counts_of old) tokens)
-    → Ready old mid (gathered (collection_at mid m)) start rest (parse_gathered (parse_collection d v) (counts_of old) start tokens)
+    → Ready old mid (gathered (collection_tree mid m)) start rest (parse_gathered (parse_collection d v) (counts_of old) start tokens)
 unfolding parse_gathered
 gathered_ready v {old} {mid} {start} {rest} {m} d tokens small f =
     let took = collection_taken v old f.members rest tokens d f.is in
@@ -525,13 +527,13 @@ gathered_ready v {old} {mid} {start} {rest} {m} d tokens small f =
 pub releasing_ready : (v : Version) {old one two three : Program} {start r0 r1 r2 r3 r4 r5 r6 r7 rest : List Tok} {m : CollectionId} {b c : TermId} {k n : Name} {p : Pattern} {w : Observation} (d : ℕ) (tokens : List Tok) → d ≤ 63 → parse_symbol symbols.Open tokens ≡ got tt r0
     → FoundMembers old one m r1 (parse_collection d v (counts_of old) r0) → parse_symbol symbols.Comma r1 ≡ got tt r2 → FoundTerm one two b r3 (parse_term d v (counts_of one) r2) → parse_symbol symbols.Comma r3 ≡ got tt r4
     → parse_name r4 ≡ got k r5 → parse_symbol symbols.Comma r5 ≡ got tt r6 → FoundBody two three p c r7 (parse_body d (parse_term d v) (counts_of two) r6) → parse_symbol symbols.Close r7 ≡ got tt rest → n ≡ k
-    → Ready old three (releasing w (collection_at three m) (tree three b) n p (tree three c)) start rest (parse_releasing d (parse_term d v) (parse_collection d v) (counts_of old) w start tokens)
+    → Ready old three (releasing w (collection_tree three m) (tree three b) n p (tree three c)) start rest (parse_releasing d (parse_term d v) (parse_collection d v) (counts_of old) w start tokens)
 unfolding parse_releasing
 releasing_ready v {old} {one} {two} {three} {start} {r0} {r1} {r2} {r3} {r4} {r5} {r6} {r7} {rest} {m} {b} {c} {k} {n} {p} {w} d tokens small opening f comma g second named third h closing bytes =
     let behind_one = behind_collection old one f.members f.terms f.expressions in
     let at_g : parse_term d v (counts_with_collection (counts_of old) f.members) r2 ≡ got g.term r3 = subst (λ (c : Counts). parse_term d v c r2 ≡ got g.term r3) behind_one g.is in
-    let behind_two : counts_of two ≡ counts_with (counts_with_collection (counts_of old) f.members) g.term = behind_term one two g.term g.terms g.expressions ∙ ap (λ (c : Counts). counts_with c g.term) behind_one in
-    let at_h : parse_body d (parse_term d v) (counts_with (counts_with_collection (counts_of old) f.members) g.term) r6 ≡ got (p, h.term) r7 = subst (λ (c : Counts). parse_body d (parse_term d v) c r6 ≡ got (p, h.term) r7) behind_two h.is in
+    let behind_two : counts_of two ≡ counted_term (counts_with_collection (counts_of old) f.members) g.term = behind_term one two g.term g.terms g.expressions ∙ ap (λ (c : Counts). counted_term c g.term) behind_one in
+    let at_h : parse_body d (parse_term d v) (counted_term (counts_with_collection (counts_of old) f.members) g.term) r6 ≡ got (p, h.term) r7 = subst (λ (c : Counts). parse_body d (parse_term d v) c r6 ≡ got (p, h.term) r7) behind_two h.is in
     let stays : MembersStay three m f.members = members_stay (keeps_trans one two three g.kept h.kept) f.held f.made in
     let second_same : tree three b ≡ g.term = h.kept.trees.trees b g.held ∙ g.tree in
     let took_f = collection_taken v old f.members r1 r0 d f.is in
@@ -571,7 +573,7 @@ edit_taken v d old tokens b rest is =
 pub editing_ready : (v : Version) {old one two : Program} {start r0 r1 r2 r3 r4 r5 rest : List Tok} {m u : CollectionId} {k n : Name} {p : Pattern} {w : Observation} (d : ℕ) (tokens : List Tok) → d ≤ 63 → parse_symbol symbols.Open tokens ≡ got tt r0
     → FoundMembers old one m r1 (parse_collection d v (counts_of old) r0) → parse_symbol symbols.Comma r1 ≡ got tt r2 → parse_name r2 ≡ got k r3 → parse_symbol symbols.Comma r3 ≡ got tt r4
     → FoundEdit one two p u r5 (parse_edit d (parse_collection d v) (counts_of one) r4) → parse_symbol symbols.Close r5 ≡ got tt rest → n ≡ k
-    → Ready old two (editing w (collection_at two m) n p (collection_at two u)) start rest (parse_editing d (parse_collection d v) (counts_of old) w start tokens)
+    → Ready old two (editing w (collection_tree two m) n p (collection_tree two u)) start rest (parse_editing d (parse_collection d v) (counts_of old) w start tokens)
 unfolding parse_editing
 editing_ready v {old} {one} {two} {start} {r0} {r1} {r2} {r3} {r4} {r5} {rest} {m} {u} {k} {n} {p} {w} d tokens small opening f comma named second g closing bytes =
     let at_g : parse_edit d (parse_collection d v) (counts_with_collection (counts_of old) f.members) r4 ≡ got (p, g.members) r5 =

@@ -17,10 +17,10 @@ use Rattle.sf_term.specs.declared.program.Program.{Program}
 use Rattle.sf_term.specs.Parameters.{PlacedParameter, Bindings, binding_of, parameters_of}
 use Rattle.sf_term.specs.Names.{AreNamed}
 use Rattle.sf_term.specs.Trees.{Arguments, no_arguments, terms_in_arguments, expressions_in_arguments}
-use Rattle.sf_term.specs.Arena.{HoldsArgument, arguments_of, term_count, expression_count, KeepsProgram}
-use Rattle.sf_term.proofs.Kept.{keeps_trans, collection_at_kept}
+use Rattle.sf_term.specs.Arena.{HoldsArgument, arguments_of, term_count, expression_count, ExtendsProgram}
+use Rattle.sf_term.proofs.Extended.{keeps_trans, collection_at_kept}
 use Rattle.sf_grammar.specs.declared.ty.Version.{Version}
-use Rattle.sf_grammar.specs.Reading.{Read, got, stop, ◌and_then◌, Counts, Actual, actual_value, actual_process, actual_collection, with_actual, counts_with_actual, further_from, parse_further, parse_separator, parse_parameter, parse_parameters, parse_argument, parse_arguments, parse_term, parse_collection}
+use Rattle.sf_grammar.specs.Reading.{Read, got, stop, ◌and_then◌, Counts, Actual, actual_value, actual_process, actual_collection, leading_actual, counts_with_actual, further_from, parse_further, parse_separator, parse_parameter, parse_parameters, parse_argument, parse_arguments, parse_term, parse_collection}
 use Rattle.sf_grammar.specs.Placing.{ParameterPlaced, EachParameterPlaced, no_parameter_placed, parameter_placed, ArgumentPlaced, EachArgumentPlaced, no_argument_placed, argument_placed}
 use Rattle.sf_text.specs.declared.parts.stop.Stop.{Stop}
 use Rattle.sf_text.specs.declared.parts.stop.Stop.TheVariants.{At, Memory}
@@ -174,18 +174,18 @@ next_parameter v tokens r0 r1 r2 ps q more read one named placed separator behin
 -- these arguments in front of others
 abbrev arguments_before : List Actual → Arguments → Arguments
 arguments_before [] vs = vs
-arguments_before (a ∷ bs) vs = with_actual a (arguments_before bs vs)
+arguments_before (a ∷ bs) vs = leading_actual a (arguments_before bs vs)
 
-before_more : (bs : List Actual) (a : Actual) (vs : Arguments) → arguments_before (bs ++ a ∷ []) vs ≡ arguments_before bs (with_actual a vs)
+before_more : (bs : List Actual) (a : Actual) (vs : Arguments) → arguments_before (bs ++ a ∷ []) vs ≡ arguments_before bs (leading_actual a vs)
 before_more [] a vs = refl
-before_more (b ∷ bs) a vs = ap (with_actual b) (before_more bs a vs)
+before_more (b ∷ bs) a vs = ap (leading_actual b) (before_more bs a vs)
 
-terms_with : (a : Actual) (vs : Arguments) → terms_in_arguments (with_actual a vs) ≡ terms_in_arguments (with_actual a no_arguments) + terms_in_arguments vs
+terms_with : (a : Actual) (vs : Arguments) → terms_in_arguments (leading_actual a vs) ≡ terms_in_arguments (leading_actual a no_arguments) + terms_in_arguments vs
 terms_with (actual_value e) vs = omega arith
 terms_with (actual_process t) vs = omega arith
 terms_with (actual_collection i) vs = omega arith
 
-expressions_with : (a : Actual) (vs : Arguments) → expressions_in_arguments (with_actual a vs) ≡ expressions_in_arguments (with_actual a no_arguments) + expressions_in_arguments vs
+expressions_with : (a : Actual) (vs : Arguments) → expressions_in_arguments (leading_actual a vs) ≡ expressions_in_arguments (leading_actual a no_arguments) + expressions_in_arguments vs
 expressions_with (actual_value e) vs = omega arith
 expressions_with (actual_process t) vs = omega arith
 expressions_with (actual_collection i) vs = omega arith
@@ -202,7 +202,7 @@ counts_same : (c k : Counts) → c.terms ≡ k.terms → c.expressions ≡ k.exp
 counts_same c k terms expressions = ap₂ (λ (m n : ℕ). record { terms = m; expressions = n }) terms expressions
 
 -- how many terms and expressions a program has with an argument
-counts_behind : (one two : Program) (a : Actual) → term_count two ≡ term_count one + terms_in_arguments (with_actual a no_arguments) → expression_count two ≡ expression_count one + expressions_in_arguments (with_actual a no_arguments)
+counts_behind : (one two : Program) (a : Actual) → term_count two ≡ term_count one + terms_in_arguments (leading_actual a no_arguments) → expression_count two ≡ expression_count one + expressions_in_arguments (leading_actual a no_arguments)
     → counts_of two ≡ counts_with_actual (counts_of one) a
 counts_behind one two (actual_value e) terms expressions = counts_same (counts_of two) (counts_with_actual (counts_of one) (actual_value e)) (omega (arith, terms)) (omega (arith, expressions))
 counts_behind one two (actual_process t) terms expressions = counts_same (counts_of two) (counts_with_actual (counts_of one) (actual_process t)) (omega (arith, terms)) (omega (arith, expressions))
@@ -216,7 +216,7 @@ none_behind : (read : Read Arguments) → read ≡ arguments_behind [] read
 none_behind (got vs rest) = refl
 none_behind (stop fault at) = refl
 
-more_behind : (bs : List Actual) (a : Actual) (read : Read Arguments) → arguments_behind bs (read and_then λ vs rest. got (with_actual a vs) rest) ≡ arguments_behind (bs ++ a ∷ []) read
+more_behind : (bs : List Actual) (a : Actual) (read : Read Arguments) → arguments_behind bs (read and_then λ vs rest. got (leading_actual a vs) rest) ≡ arguments_behind (bs ++ a ∷ []) read
 more_behind bs a (got vs rest) = ap (λ (vs : Arguments). got vs rest) (sym (before_more bs a vs))
 more_behind bs a (stop fault at) = refl
 
@@ -240,7 +240,7 @@ pub record ReadArguments (v : Version) (d : ℕ) (old new : Program) (tokens : L
   pub enough : length rest < most
   pub some : more ≡ false → bs ≢ []
   pub held : All (HoldsArgument new) bs
-  pub kept : KeepsProgram old new
+  pub kept : ExtendsProgram old new
   pub terms : term_count new ≡ term_count old + terms_in_arguments (arguments_before values no_arguments)
   pub expressions : expression_count new ≡ expression_count old + expressions_in_arguments (arguments_before values no_arguments)
   pub placed : Consumes (EachArgumentPlaced v new bs) (places tokens) spots
@@ -262,7 +262,7 @@ no_arguments_read v d p tokens =
     }
 
 -- what arguments name stays as it was
-argument_stays : (one two : Program) → KeepsProgram one two → (b : Argument) → HoldsArgument one b → HoldsArgument two b × (actual_of two b ≡ actual_of one b)
+argument_stays : (one two : Program) → ExtendsProgram one two → (b : Argument) → HoldsArgument one b → HoldsArgument two b × (actual_of two b ≡ actual_of one b)
 argument_stays one two k (arguments.Value e) held = (k.trees.expressions e held, ap actual_value (k.trees.values e held))
 argument_stays one two k (arguments.Process t) held = (k.trees.terms t held, ap actual_process (k.trees.trees t held))
 argument_stays one two k (arguments.Collection i) held =
@@ -273,7 +273,7 @@ record ArgumentsStay (one two : Program) (bs : List Argument) : Type 0 where
   pub held : All (HoldsArgument two) bs
   pub same : map (actual_of two) bs ≡ map (actual_of one) bs
 
-arguments_stay : (one two : Program) → KeepsProgram one two → (bs : List Argument) → All (HoldsArgument one) bs → ArgumentsStay one two bs
+arguments_stay : (one two : Program) → ExtendsProgram one two → (bs : List Argument) → All (HoldsArgument one) bs → ArgumentsStay one two bs
 arguments_stay one two k [] held = record { held = All-nil (HoldsArgument two); same = refl }
 arguments_stay one two k (b ∷ bs) held =
     let first = argument_stays one two k b (All-head (HoldsArgument one) b bs held) in
@@ -294,11 +294,11 @@ argument_more v d old one two tokens rest r1 r2 s0 s1 s2 bs b more read f placed
     stay : ArgumentsStay one two bs
     stay = arguments_stay one two f.kept bs read.held
 
-    before_terms : terms_in_arguments (arguments_before (read.values ++ f.value ∷ []) no_arguments) ≡ terms_in_arguments (arguments_before read.values no_arguments) + terms_in_arguments (with_actual f.value no_arguments)
-    before_terms = ap terms_in_arguments (before_more read.values f.value no_arguments) ∙ terms_before read.values (with_actual f.value no_arguments)
+    before_terms : terms_in_arguments (arguments_before (read.values ++ f.value ∷ []) no_arguments) ≡ terms_in_arguments (arguments_before read.values no_arguments) + terms_in_arguments (leading_actual f.value no_arguments)
+    before_terms = ap terms_in_arguments (before_more read.values f.value no_arguments) ∙ terms_before read.values (leading_actual f.value no_arguments)
 
-    before_expressions : expressions_in_arguments (arguments_before (read.values ++ f.value ∷ []) no_arguments) ≡ expressions_in_arguments (arguments_before read.values no_arguments) + expressions_in_arguments (with_actual f.value no_arguments)
-    before_expressions = ap expressions_in_arguments (before_more read.values f.value no_arguments) ∙ expressions_before read.values (with_actual f.value no_arguments)
+    before_expressions : expressions_in_arguments (arguments_before (read.values ++ f.value ∷ []) no_arguments) ≡ expressions_in_arguments (arguments_before read.values no_arguments) + expressions_in_arguments (leading_actual f.value no_arguments)
+    before_expressions = ap expressions_in_arguments (before_more read.values f.value no_arguments) ∙ expressions_before read.values (leading_actual f.value no_arguments)
 
     from : (n : ℕ) → ArgumentsSo v d (counts_of old) (counts_of one) (toks tokens) n read.values true rest → length rest < n → ReadArguments v d old two tokens (bs ++ b ∷ []) more r2 s2
     from zero so enough = absurd (omega arith)
@@ -319,7 +319,7 @@ argument_more v d old one two tokens rest r1 r2 s0 s1 s2 bs b more read f placed
 
 argument_stops_so : (v : Version) (d n : ℕ) (c : Counts) (e : Stop) (rest : List Tok) → StopsReading e (parse_argument d v (parse_term d v) (parse_collection d v) c rest) → StopsReading e (parse_arguments (suc n) d v (parse_term d v) (parse_collection d v) c rest)
 unfolding parse_arguments
-argument_stops_so v d n c e rest stops = stops_within e (parse_argument d v (parse_term d v) (parse_collection d v) c rest) (λ a rest. parse_further no_arguments (parse_arguments n d v (parse_term d v) (parse_collection d v) (counts_with_actual c a)) rest and_then λ vs rest. got (with_actual a vs) rest) stops
+argument_stops_so v d n c e rest stops = stops_within e (parse_argument d v (parse_term d v) (parse_collection d v) c rest) (λ a rest. parse_further no_arguments (parse_arguments n d v (parse_term d v) (parse_collection d v) (counts_with_actual c a)) rest and_then λ vs rest. got (leading_actual a vs) rest) stops
 
 -- reading stops within a further argument
 pub argument_stops : (v : Version) (d : ℕ) (old one : Program) (tokens : List PlacedToken) (rest : List Tok) (spots : List Spot) (bs : List Argument) (e : Stop) → ReadArguments v d old one tokens bs true rest spots
@@ -332,7 +332,7 @@ argument_stops v d old one tokens rest spots bs e read stops = from read.most re
 
 argument_stops_behind : (v : Version) (d n : ℕ) (c : Counts) (e : Stop) (rest r1 : List Tok) (a : Actual) → parse_argument d v (parse_term d v) (parse_collection d v) c rest ≡ got a r1 → StopsReading e (parse_separator r1) → StopsReading e (parse_arguments (suc n) d v (parse_term d v) (parse_collection d v) c rest)
 unfolding parse_arguments
-argument_stops_behind v d n c e rest r1 a is stops = rw is (stops_within e (parse_further no_arguments (parse_arguments n d v (parse_term d v) (parse_collection d v) (counts_with_actual c a)) r1) (λ vs rest. got (with_actual a vs) rest)
+argument_stops_behind v d n c e rest r1 a is stops = rw is (stops_within e (parse_further no_arguments (parse_arguments n d v (parse_term d v) (parse_collection d v) (counts_with_actual c a)) r1) (λ vs rest. got (leading_actual a vs) rest)
     (stops_within e (parse_separator r1) (λ more rest. further_from no_arguments (parse_arguments n d v (parse_term d v) (parse_collection d v) (counts_with_actual c a)) more rest) stops))
 
 -- reading stops behind a further argument
@@ -360,9 +360,9 @@ next_argument v d old tokens now after behind bs b more read found placed separa
 
 arguments_so : (p : Program) (bs : List Argument) → arguments_of p bs ≡ arguments_before (map (actual_of p) bs) no_arguments
 arguments_so p [] = refl
-arguments_so p (arguments.Value e ∷ bs) = ap (with_actual (actual_of p (arguments.Value e))) (arguments_so p bs)
-arguments_so p (arguments.Process t ∷ bs) = ap (with_actual (actual_of p (arguments.Process t))) (arguments_so p bs)
-arguments_so p (arguments.Collection i ∷ bs) = ap (with_actual (actual_of p (arguments.Collection i))) (arguments_so p bs)
+arguments_so p (arguments.Value e ∷ bs) = ap (leading_actual (actual_of p (arguments.Value e))) (arguments_so p bs)
+arguments_so p (arguments.Process t ∷ bs) = ap (leading_actual (actual_of p (arguments.Process t))) (arguments_so p bs)
+arguments_so p (arguments.Collection i ∷ bs) = ap (leading_actual (actual_of p (arguments.Collection i))) (arguments_so p bs)
 
 -- all arguments were read
 pub record AllArguments (v : Version) (d : ℕ) (old new : Program) (tokens : List PlacedToken) (bs : List Argument) (rest : List PlacedToken) : Type 0 where

@@ -43,12 +43,12 @@ use Rattle.sf_term.specs.declared.node.Node.TheVariants as nodes
 use Rattle.sf_term.specs.declared.program.Program.{Program}
 use Rattle.sf_term.specs.Trees.{Term, headed, primitive, never}
 use Rattle.sf_term.specs.Headers.{Header}
-use Rattle.sf_term.specs.Arena.{KeepsTrees, KeepsProgram, HoldsCollection, collection_under, AddsCollection, AddsUsed, HoldsTerm, HoldsTermParts, HoldsPatternIn, HoldsArguments, tree, term_of, term_entry_of, term_node_at, expression_under, pattern_under, arguments_under, AddsTerm, AddsTemplate, template_in}
-use Rattle.sf_term.proofs.Kept.{keeps_trees_trans, unchanged_keeps, node_builds, parts_held}
+use Rattle.sf_term.specs.Arena.{ExtendsTrees, ExtendsProgram, HoldsCollection, collection_node, AddsCollection, AddsUsed, HoldsTerm, HoldsTermParts, ProgramHoldsPattern, HoldsArguments, tree, term_of, program_entry, term_node_at, program_expression, placed_pattern, argument_nodes, AddsTerm, AddsTemplate, term_template}
+use Rattle.sf_term.proofs.Extended.{keeps_trees_trans, unchanged_keeps, node_builds, parts_held}
 use Rattle.sf_value.specs.Values.{Name, Kind}
 use Rattle.sf_value.specs.KindView.{key_kind_of}
 use Rattle.sf_value.specs.declared.ty.KeyType.{KeyType}
-use Rattle.sf_lex.specs.Tokens.{Tok, Located, seen, shown, place_at, symbol}
+use Rattle.sf_lex.specs.Tokens.{Tok, Located, seen, shown, offset_place, symbol}
 use Rattle.sf_lex.specs.Cutting.{AreTokensOf}
 use Rattle.sf_lex.specs.declared.symbol.Symbol.TheVariants as symbols
 use Rattle.sf_grammar.specs.declared.ty.Version.{Version}
@@ -58,27 +58,27 @@ use Rattle.sf_text.specs.Parsing.Answers.{toks}
 use Rattle.sf_grammar.proofs.Parts.{TookKeys, keys_takes}
 use Rattle.sf_grammar.proofs.Takes.{TookType, inner_type_takes, parameter_takes, TookSignature, signature_takes}
 use Rattle.sf_lex.specs.declared.token.PlacedToken.{PlacedToken}
-use Rattle.sf_grammar.specs.Placing.{around, PatternPlaced, ExpressionPlaced, FunctionPlaced, TermStands, TermPlaced, bare_placed, never_placed, with_value_placed, initialized_placed, timed_placed, selected_placed, arrow_placed, accumulated_placed, joined_placed, sided_placed, headed_placed, transformed_placed, switching_placed, named_placed, keeping_placed, gathered_placed, releasing_placed, editing_placed, CollectionPlaced, empty_placed, used_placed, added_placed, dropped_placed, kept_placed, chosen_placed, call_placed, ArgumentsPlaced, no_arguments_placed, some_arguments_placed, EachArgumentPlaced, no_argument_placed, argument_placed, ArgumentPlaced, value_argument_placed, process_argument_placed, collection_argument_placed, ParameterPlaced, EachParameterPlaced, ParametersPlaced, no_parameters_placed, some_parameters_placed, TemplatePlaced, TemplatesPlaced, none_placed, template_placed, NetworkPlaced, IsPlacedIn}
+use Rattle.sf_grammar.specs.Placing.{around, PatternPlaced, ExpressionPlaced, FunctionPlaced, TermStands, TermPlaced, bare_placed, never_placed, with_value_placed, initialized_placed, timed_placed, selected_placed, arrow_placed, accumulated_placed, joined_placed, sided_placed, headed_placed, transformed_placed, switching_placed, named_placed, continuing_placed, gathered_placed, releasing_placed, editing_placed, CollectionPlaced, empty_placed, used_placed, added_placed, dropped_placed, kept_placed, chosen_placed, call_placed, ArgumentsPlaced, no_arguments_placed, some_arguments_placed, EachArgumentPlaced, no_argument_placed, argument_placed, ArgumentPlaced, value_argument_placed, process_argument_placed, collection_argument_placed, ParameterPlaced, EachParameterPlaced, ParametersPlaced, no_parameters_placed, some_parameters_placed, TemplatePlaced, TemplatesPlaced, none_placed, template_placed, NetworkPlaced, IsPlacedIn}
 use Rattle.sf_text.specs.Progress.{IsSpelled}
 use Rattle.sf_text.proofs.Whole.{toks_same}
 use Rattle.sf_text.specs.Parsing.Consuming.{places, BehindOne, BehindSome, NamePlaced, Consumes, Parted}
 use Rattle.sf_text.specs.Consuming.{MembersPlaced, headed_node, HeadingPlaced, PlacesTemplate}
 use Rattle.sf_text.proofs.Parsing.Placed.{some_more, pattern_stays, expression_keeps, function_keeps, behind_first, in_brackets_read, behind_opening, parted, pattern_stands, front_counted}
 
-term_stays : (old new : Program) → KeepsTrees old new → (id : TermId) (n : Node) (at : Spot) → TermStands old id n at → TermStands new id n at
+term_stays : (old new : Program) → ExtendsTrees old new → (id : TermId) (n : Node) (at : Spot) → TermStands old id n at → TermStands new id n at
 term_stays old new k id n at s = record { held = k.terms id s.held; node = k.nodes id s.held ∙ s.node; spot = k.spots id s.held ∙ s.spot }
 
 -- the arguments of a call are held
 arguments_held : (p : Program) (id : TermId) (g : NameId) (a : ArgumentsId) → HoldsTerm p id → term_node_at p id ≡ nodes.Call g a → HoldsArguments p a
-unfolding term_node_at term_entry_of
+unfolding term_node_at program_entry
 arguments_held p id g a held is = let parts : HoldsTermParts p (nodes.Call g a) = subst (HoldsTermParts p) is (parts_held p id) in parts.1
 
 -- the collection at an id, which is there as it was
-members_at : (v : Version) (old new : Program) → KeepsTrees old new → (i : CollectionId) (xs : List Spot) → HoldsCollection old i → CollectionPlaced v new (collection_under old i) xs → CollectionPlaced v new (collection_under new i) xs
+members_at : (v : Version) (old new : Program) → ExtendsTrees old new → (i : CollectionId) (xs : List Spot) → HoldsCollection old i → CollectionPlaced v new (collection_node old i) xs → CollectionPlaced v new (collection_node new i) xs
 members_at v old new k i xs held placed = subst (λ (c : CollExpr). CollectionPlaced v new c xs) (sym (k.collections i held)) placed
 
 mutual
-  pub term_keeps : (v : Version) (old new : Program) → KeepsTrees old new → (id : TermId) (xs : List Spot) → TermPlaced v old id xs → TermPlaced v new id xs
+  pub term_keeps : (v : Version) (old new : Program) → ExtendsTrees old new → (id : TermId) (xs : List Spot) → TermPlaced v old id xs → TermPlaced v new id xs
   term_keeps v old new k id xs (bare_placed s) = bare_placed (term_stays old new k _ _ _ s)
   term_keeps v old new k id xs (never_placed s counted) =
       never_placed (term_stays old new k _ _ _ s) (counted ∙ ap (λ (t : Term). length (spell_term v t)) (sym (k.trees id s.held)))
@@ -100,8 +100,8 @@ mutual
   term_keeps v old new k id xs (switching_placed opening comma leads closing s source pattern body) =
       switching_placed opening comma leads closing (term_stays old new k _ _ _ s) (term_keeps v old new k _ _ source) (pattern_stays old new k _ _ pattern) (term_keeps v old new k _ _ body)
   term_keeps v old new k id xs (named_placed s) = named_placed (term_stays old new k _ _ _ s)
-  term_keeps v old new k id xs (keeping_placed opening comma second third leads closing s source observer pattern body) =
-      keeping_placed opening comma second third leads closing (term_stays old new k _ _ _ s) (term_keeps v old new k _ _ source) (term_keeps v old new k _ _ observer) (pattern_stays old new k _ _ pattern) (term_keeps v old new k _ _ body)
+  term_keeps v old new k id xs (continuing_placed opening comma second third leads closing s source observer pattern body) =
+      continuing_placed opening comma second third leads closing (term_stays old new k _ _ _ s) (term_keeps v old new k _ _ source) (term_keeps v old new k _ _ observer) (pattern_stays old new k _ _ pattern) (term_keeps v old new k _ _ body)
   term_keeps v old new k id xs (gathered_placed {i = i} s held members) =
       gathered_placed (term_stays old new k _ _ _ s) (k.holds_collections i held) (members_at v old new k i _ held (collection_keeps v old new k _ _ members))
   term_keeps v old new k id xs (releasing_placed {n = n} opening comma second third leads closing s held members observer pattern body) =
@@ -111,9 +111,9 @@ mutual
       editing_placed opening comma second leads closing (term_stays old new k _ _ _ s) (k.holds_collections n.members held) (members_at v old new k n.members _ held (collection_keeps v old new k _ _ members))
       (pattern_stays old new k _ _ pattern) (k.holds_collections n.edit there) (members_at v old new k n.edit _ there (collection_keeps v old new k _ _ edit))
   term_keeps v old new k id xs (call_placed {g = g} {a = a} {xs = ys} opening s actuals) =
-      call_placed opening (term_stays old new k _ _ _ s) (subst (λ (bs : List Argument). ArgumentsPlaced v new bs ys) (sym (k.arguments a (arguments_held old id g a s.held s.node))) (arguments_keep v old new k (arguments_under old a) ys actuals))
+      call_placed opening (term_stays old new k _ _ _ s) (subst (λ (bs : List Argument). ArgumentsPlaced v new bs ys) (sym (k.arguments a (arguments_held old id g a s.held s.node))) (arguments_keep v old new k (argument_nodes old a) ys actuals))
 
-  pub collection_keeps : (v : Version) (old new : Program) → KeepsTrees old new → (c : CollExpr) (xs : List Spot) → CollectionPlaced v old c xs → CollectionPlaced v new c xs
+  pub collection_keeps : (v : Version) (old new : Program) → ExtendsTrees old new → (c : CollExpr) (xs : List Spot) → CollectionPlaced v old c xs → CollectionPlaced v new c xs
   collection_keeps v old new k c xs (empty_placed counted) = empty_placed counted
   collection_keeps v old new k c xs used_placed = used_placed
   collection_keeps v old new k c xs (added_placed opening comma second closing others key member) =
@@ -123,24 +123,24 @@ mutual
   collection_keeps v old new k c xs (chosen_placed then_at else_at condition one two) =
       chosen_placed then_at else_at (expression_keeps v old new k _ _ condition) (collection_keeps v old new k _ _ one) (collection_keeps v old new k _ _ two)
 
-  pub arguments_keep : (v : Version) (old new : Program) → KeepsTrees old new → (bs : List Argument) (xs : List Spot) → ArgumentsPlaced v old bs xs → ArgumentsPlaced v new bs xs
+  pub arguments_keep : (v : Version) (old new : Program) → ExtendsTrees old new → (bs : List Argument) (xs : List Spot) → ArgumentsPlaced v old bs xs → ArgumentsPlaced v new bs xs
   arguments_keep v old new k bs xs (no_arguments_placed closing) = no_arguments_placed closing
   arguments_keep v old new k bs xs (some_arguments_placed each) = some_arguments_placed (each_argument_keeps v old new k bs xs each)
 
-  pub each_argument_keeps : (v : Version) (old new : Program) → KeepsTrees old new → (bs : List Argument) (xs : List Spot) → EachArgumentPlaced v old bs xs → EachArgumentPlaced v new bs xs
+  pub each_argument_keeps : (v : Version) (old new : Program) → ExtendsTrees old new → (bs : List Argument) (xs : List Spot) → EachArgumentPlaced v old bs xs → EachArgumentPlaced v new bs xs
   each_argument_keeps v old new k bs xs no_argument_placed = no_argument_placed
   each_argument_keeps v old new k bs xs (argument_placed separator one others) = argument_placed separator (argument_keeps v old new k _ _ one) (each_argument_keeps v old new k _ _ others)
 
-  pub argument_keeps : (v : Version) (old new : Program) → KeepsTrees old new → (b : Argument) (xs : List Spot) → ArgumentPlaced v old b xs → ArgumentPlaced v new b xs
+  pub argument_keeps : (v : Version) (old new : Program) → ExtendsTrees old new → (b : Argument) (xs : List Spot) → ArgumentPlaced v old b xs → ArgumentPlaced v new b xs
   argument_keeps v old new k b xs (value_argument_placed value) = value_argument_placed (expression_keeps v old new k _ _ value)
   argument_keeps v old new k b xs (process_argument_placed word part) = process_argument_placed word (term_keeps v old new k _ _ part)
   argument_keeps v old new k b xs (collection_argument_placed {i = i} word held members) =
       collection_argument_placed word (k.holds_collections i held) (members_at v old new k i _ held (collection_keeps v old new k _ _ members))
 
-members_keep : (v : Version) (old new : Program) → KeepsTrees old new → (i : CollectionId) (xs : List Spot) → MembersPlaced v old i xs → MembersPlaced v new i xs
+members_keep : (v : Version) (old new : Program) → ExtendsTrees old new → (i : CollectionId) (xs : List Spot) → MembersPlaced v old i xs → MembersPlaced v new i xs
 members_keep v old new k i xs m = record { held = k.holds_collections i m.held; placed = members_at v old new k i xs m.held (collection_keeps v old new k _ xs m.placed) }
 
-pub templates_keep : (v : Version) (old new : Program) → KeepsTrees old new → (hs : List Header) (xs : List Spot) → TemplatesPlaced v old hs xs → TemplatesPlaced v new hs xs
+pub templates_keep : (v : Version) (old new : Program) → ExtendsTrees old new → (hs : List Header) (xs : List Spot) → TemplatesPlaced v old hs xs → TemplatesPlaced v new hs xs
 templates_keep v old new k hs xs none_placed = none_placed
 templates_keep v old new k hs xs (template_placed {h = h} t ts) =
     template_placed (record {
@@ -194,7 +194,7 @@ sided_read {v} {mid} {new} {id} {a} {s} {t} {spot} added part =
     behind_first part (λ xs p. sided_placed (term_stands mid new id _ t spot added) (term_keeps v mid new added.kept.trees a xs p))
 
 -- an expression and a function in brackets
-pub accumulated_read : {v : Version} {one two new : Program} {id : TermId} {k : Accumulation} {e : ExprId} {f : FunctionId} {t : Term} {spot : Spot} {r r0 r1 r2 r3 rest : List Spot} → KeepsTrees one two → AddsTerm two new id (nodes.Primitive (primitives.Accumulated k e f)) t spot
+pub accumulated_read : {v : Version} {one two new : Program} {id : TermId} {k : Accumulation} {e : ExprId} {f : FunctionId} {t : Term} {spot : Spot} {r r0 r1 r2 r3 rest : List Spot} → ExtendsTrees one two → AddsTerm two new id (nodes.Primitive (primitives.Accumulated k e f)) t spot
     → BehindOne r r0 → Consumes (ExpressionPlaced v one e) r0 r1 → BehindOne r1 r2 → Consumes (FunctionPlaced v two f) r2 r3 → BehindOne r3 rest → Consumes (TermPlaced v new id) (spot ∷ r) rest
 accumulated_read {v} {one} {two} {new} {id} {k} {e} {f} {t} {spot} {r} {r0} {r1} {r2} {r3} {rest} K added opening value between function closing =
     behind_opening opening (in_brackets_read value between function closing (λ comma closing xs ys p q.
@@ -214,12 +214,12 @@ node_view headings.Initialized e a (nodes.Primitive q) = primitive_view e a q
 node_view _ e a n = other_node
 
 -- it stands for what the head makes of the part
-node_makes : (p : Program) (h : Heading) (e : ExprId) (a : TermId) (n : Node) → tree p a ≡ term_of p n → term_of p (headed_node h e a n) ≡ head_makes h (expression_under p e) (tree p a)
-node_makes p headings.Initialized e a (nodes.Primitive (primitives.Bare bares.Pre)) is = ap (head_makes headings.Initialized (expression_under p e)) (sym is)
-node_makes p headings.Initialized e a (nodes.Named namings.Probe k s) is = ap (headed headings.Initialized (expression_under p e)) is ∙ ap (head_makes headings.Initialized (expression_under p e)) (sym is)
-node_makes p h e a n is = ap (headed h (expression_under p e)) is ∙ ap (head_makes h (expression_under p e)) (sym is)
+node_makes : (p : Program) (h : Heading) (e : ExprId) (a : TermId) (n : Node) → tree p a ≡ term_of p n → term_of p (headed_node h e a n) ≡ head_makes h (program_expression p e) (tree p a)
+node_makes p headings.Initialized e a (nodes.Primitive (primitives.Bare bares.Pre)) is = ap (head_makes headings.Initialized (program_expression p e)) (sym is)
+node_makes p headings.Initialized e a (nodes.Named namings.Probe k s) is = ap (headed headings.Initialized (program_expression p e)) is ∙ ap (head_makes headings.Initialized (program_expression p e)) (sym is)
+node_makes p h e a n is = ap (headed h (program_expression p e)) is ∙ ap (head_makes h (program_expression p e)) (sym is)
 
-pub headed_makes : (p : Program) (h : Heading) (e : ExprId) (a : TermId) → term_of p (headed_node h e a (term_node_at p a)) ≡ head_makes h (expression_under p e) (tree p a)
+pub headed_makes : (p : Program) (h : Heading) (e : ExprId) (a : TermId) → term_of p (headed_node h e a (term_node_at p a)) ≡ head_makes h (program_expression p e) (tree p a)
 headed_makes p h e a = node_makes p h e a (term_node_at p a) (node_builds p a (term_node_at p a) refl)
 
 -- a primitive without constants has one place
@@ -238,7 +238,7 @@ bare_places is (headed_placed opening comma closing s value part) = absurd (let 
 bare_places is (transformed_placed opening comma closing s function part) = absurd (let e = sym s.node ∙ is in cc)
 bare_places is (switching_placed opening comma leads closing s source pattern body) = absurd (let e = sym s.node ∙ is in cc)
 bare_places is (named_placed s) = absurd (let e = sym s.node ∙ is in cc)
-bare_places is (keeping_placed opening comma second third leads closing s source observer pattern body) = absurd (let e = sym s.node ∙ is in cc)
+bare_places is (continuing_placed opening comma second third leads closing s source observer pattern body) = absurd (let e = sym s.node ∙ is in cc)
 bare_places is (gathered_placed s held members) = absurd (let e = sym s.node ∙ is in cc)
 bare_places is (releasing_placed opening comma second third leads closing s held members observer pattern body) = absurd (let e = sym s.node ∙ is in cc)
 bare_places is (editing_placed opening comma second leads closing s held members pattern there edit) = absurd (let e = sym s.node ∙ is in cc)
@@ -254,22 +254,22 @@ headed_placed_so {v} {two} {new} {id} {a = a} {t = t} {spot = spot} {ys = ys} op
     headed_placed opening comma closing (term_stands two new id _ t spot added) value (term_keeps v two new added.kept.trees a ys part)
 
 -- an expression and a term in brackets
-pub headed_read : {v : Version} {one two new : Program} {id a : TermId} (h : Heading) {e : ExprId} {n : Node} {t : Term} {spot : Spot} {r r0 r1 r2 r3 rest : List Spot} → KeepsTrees one two → n ≡ headed_node h e a (term_node_at two a) → AddsTerm two new id n t spot
+pub headed_read : {v : Version} {one two new : Program} {id a : TermId} (h : Heading) {e : ExprId} {n : Node} {t : Term} {spot : Spot} {r r0 r1 r2 r3 rest : List Spot} → ExtendsTrees one two → n ≡ headed_node h e a (term_node_at two a) → AddsTerm two new id n t spot
     → BehindOne r r0 → Consumes (ExpressionPlaced v one e) r0 r1 → BehindOne r1 r2 → Consumes (TermPlaced v two a) r2 r3 → BehindOne r3 rest → Consumes (TermPlaced v new id) (spot ∷ r) rest
 headed_read {v} {one} {two} {new} {id} {a} h {e} {n} {t} {spot} k is added opening value between part closing =
     behind_opening opening (in_brackets_read value between part closing (λ comma closing xs ys p q.
     headed_placed_so opening.at comma closing (subst (HeadedNode h e a (term_node_at two a)) (sym is) (node_view h e a (term_node_at two a))) refl added (expression_keeps v two new added.kept.trees e xs (expression_keeps v one two k e xs p)) q))
 
 -- a function and a term in brackets
-pub transformed_read : {v : Version} {one two new : Program} {id a : TermId} {f : FunctionId} {t : Term} {spot : Spot} {r r0 r1 r2 r3 rest : List Spot} → KeepsTrees one two → AddsTerm two new id (nodes.Transformed f a) t spot
+pub transformed_read : {v : Version} {one two new : Program} {id a : TermId} {f : FunctionId} {t : Term} {spot : Spot} {r r0 r1 r2 r3 rest : List Spot} → ExtendsTrees one two → AddsTerm two new id (nodes.Transformed f a) t spot
     → BehindOne r r0 → Consumes (FunctionPlaced v one f) r0 r1 → BehindOne r1 r2 → Consumes (TermPlaced v two a) r2 r3 → BehindOne r3 rest → Consumes (TermPlaced v new id) (spot ∷ r) rest
 transformed_read {v} {one} {two} {new} {id} {a} {f} {t} {spot} k added opening function between part closing =
     behind_opening opening (in_brackets_read function between part closing (λ comma closing xs ys p q.
     transformed_placed opening.at comma closing (term_stands two new id _ t spot added) (function_keeps v two new added.kept.trees f xs (function_keeps v one two k f xs p)) (term_keeps v two new added.kept.trees a ys q)))
 
 -- a term, a pattern and another term in brackets
-pub switching_read : {v : Version} {one two new : Program} {id a b : TermId} {w : Switching} {p : PlacedPattern} {q : PatternId} {t : Term} {spot : Spot} {r r0 r1 r2 r3 rest : List Spot} → KeepsTrees one two → AddsTerm two new id (nodes.Switching (record { form = w; source = a; pattern = q; body = b })) t spot
-    → HoldsPatternIn new q × (pattern_under new q ≡ p) → BehindOne r r0 → Consumes (TermPlaced v one a) r0 r1 → BehindOne r1 r2 → Consumes (Parted (PatternPlaced p) (TermPlaced v two b)) r2 r3 → BehindOne r3 rest
+pub switching_read : {v : Version} {one two new : Program} {id a b : TermId} {w : Switching} {p : PlacedPattern} {q : PatternId} {t : Term} {spot : Spot} {r r0 r1 r2 r3 rest : List Spot} → ExtendsTrees one two → AddsTerm two new id (nodes.Switching (record { form = w; source = a; pattern = q; body = b })) t spot
+    → ProgramHoldsPattern new q × (placed_pattern new q ≡ p) → BehindOne r r0 → Consumes (TermPlaced v one a) r0 r1 → BehindOne r1 r2 → Consumes (Parted (PatternPlaced p) (TermPlaced v two b)) r2 r3 → BehindOne r3 rest
     → Consumes (TermPlaced v new id) (spot ∷ r) rest
 switching_read {v} {one} {two} {new} {id} {a} {b} {w} {p} {q} {t} {spot} k added there opening source comma body closing =
     behind_opening opening (in_brackets_read source comma body closing (λ comma closing xs zs x n.
@@ -280,10 +280,10 @@ pub named_read : {v : Version} {old new : Program} {id : TermId} {w : Naming} {k
 named_read {v} {old} {new} {id} {w} {k} {t} {spot} {place} added name = record { front = spot ∷ place ∷ []; split = ap (λ ts. spot ∷ ts) name.split; holds = named_placed (term_stands old new id _ t spot added) }
 
 -- two terms, a name, a pattern and a third term in brackets
-pub keeping_read : {v : Version} {one two three new : Program} {id a b c : TermId} {w : Observation} {k : NameId} {p : PlacedPattern} {q : PatternId} {t : Term} {spot place : Spot} {r r0 r1 r2 r3 r4 r5 r6 r7 rest : List Spot} → KeepsTrees one two → KeepsTrees two three
-    → AddsTerm three new id (nodes.Keeping (record { shown = w; source = a; observer = b; name = k; place = place; pattern = q; body = c })) t spot → HoldsPatternIn new q × (pattern_under new q ≡ p) → BehindOne r r0 → Consumes (TermPlaced v one a) r0 r1 → BehindOne r1 r2 → Consumes (TermPlaced v two b) r2 r3 → BehindOne r3 r4
+pub continuing_read : {v : Version} {one two three new : Program} {id a b c : TermId} {w : Observation} {k : NameId} {p : PlacedPattern} {q : PatternId} {t : Term} {spot place : Spot} {r r0 r1 r2 r3 r4 r5 r6 r7 rest : List Spot} → ExtendsTrees one two → ExtendsTrees two three
+    → AddsTerm three new id (nodes.Continuation (record { shown = w; source = a; observer = b; name = k; place = place; pattern = q; body = c })) t spot → ProgramHoldsPattern new q × (placed_pattern new q ≡ p) → BehindOne r r0 → Consumes (TermPlaced v one a) r0 r1 → BehindOne r1 r2 → Consumes (TermPlaced v two b) r2 r3 → BehindOne r3 r4
     → NamePlaced place r4 r5 → BehindOne r5 r6 → Consumes (Parted (PatternPlaced p) (TermPlaced v three c)) r6 r7 → BehindOne r7 rest → Consumes (TermPlaced v new id) (spot ∷ r) rest
-keeping_read {v} {one} {two} {three} {new} {id} {a} {b} {c} {w} {k} {p} {q} {t} {spot} {place} {r2 = r2} {r7 = r7} K L added there opening source comma observer second name third body closing =
+continuing_read {v} {one} {two} {three} {new} {id} {a} {b} {c} {w} {k} {p} {q} {t} {spot} {place} {r2 = r2} {r7 = r7} K L added there opening source comma observer second name third body closing =
     let stays : (i : TermId) (xs : List Spot) → TermPlaced v three i xs → TermPlaced v new i xs = term_keeps v three new added.kept.trees in
     let behind : List Spot = observer.front ++ (second.at ∷ place ∷ third.at ∷ body.front) in
     let parts : Consumes (λ ts. ts ≡ behind) r2 r7 = record {
@@ -294,7 +294,7 @@ keeping_read {v} {one} {two} {three} {new} {id} {a} {b} {c} {w} {k} {p} {q} {t} 
     behind_opening opening (in_brackets_read source comma parts closing (λ comma closing xs ts x same.
     subst (λ (ts : List Spot). TermPlaced v new id (spot ∷ around opening.at xs comma ts closing)) (sym same)
     (parted (λ zs. TermPlaced v new id (spot ∷ around opening.at xs comma (observer.front ++ (second.at ∷ place ∷ third.at ∷ zs)) closing)) body.holds (λ leads ps zs placed z.
-    keeping_placed opening.at comma second.at third.at leads closing (term_stands three new id _ t spot added) (stays a xs (term_keeps v two three L a xs (term_keeps v one two K a xs x)))
+    continuing_placed opening.at comma second.at third.at leads closing (term_stands three new id _ t spot added) (stays a xs (term_keeps v two three L a xs (term_keeps v one two K a xs x)))
     (stays b observer.front (term_keeps v two three L b observer.front observer.holds)) (pattern_stands new q p ps there placed) (stays c zs z)))))
 
 -- ## Collections
@@ -330,7 +330,7 @@ used_read {v} {old} {new} {c} {n} {place} {at} added name = record {
 }
 
 -- a collection, an expression and a term in brackets
-pub added_read : {v : Version} {one two three : Program} {a : _} {c : CollExpr} {e : ExprId} {t : TermId} {at : Spot} {r r0 r1 r2 r3 r4 r5 rest : List Spot} → KeepsTrees one two → KeepsTrees two three
+pub added_read : {v : Version} {one two three : Program} {a : _} {c : CollExpr} {e : ExprId} {t : TermId} {at : Spot} {r r0 r1 r2 r3 r4 r5 rest : List Spot} → ExtendsTrees one two → ExtendsTrees two three
     → BehindOne r r0 → Consumes (CollectionPlaced v one c) r0 r1 → BehindOne r1 r2 → Consumes (ExpressionPlaced v two e) r2 r3 → BehindOne r3 r4 → Consumes (TermPlaced v three t) r4 r5 → BehindOne r5 rest
     → Consumes (CollectionPlaced v three (collections.Added' a c e t at)) (at ∷ r) rest
 added_read {v} {one} {two} {three} {a} {c} {e} {t} {at} {r2 = r2} {r5 = r5} K L opening others comma key second member closing =
@@ -345,19 +345,19 @@ added_read {v} {one} {two} {three} {a} {c} {e} {t} {at} {r2 = r2} {r5 = r5} K L 
     (added_placed opening.at comma second.at closing (collection_keeps v two three L c xs (collection_keeps v one two K c xs x)) (expression_keeps v two three L e key.front key.holds) member.holds)))
 
 -- a collection and an expression in brackets
-pub dropped_read : {v : Version} {one two : Program} {a : _} {c : CollExpr} {e : ExprId} {at : Spot} {r r0 r1 r2 r3 rest : List Spot} → KeepsTrees one two → BehindOne r r0 → Consumes (CollectionPlaced v one c) r0 r1 → BehindOne r1 r2
+pub dropped_read : {v : Version} {one two : Program} {a : _} {c : CollExpr} {e : ExprId} {at : Spot} {r r0 r1 r2 r3 rest : List Spot} → ExtendsTrees one two → BehindOne r r0 → Consumes (CollectionPlaced v one c) r0 r1 → BehindOne r1 r2
     → Consumes (ExpressionPlaced v two e) r2 r3 → BehindOne r3 rest → Consumes (CollectionPlaced v two (collections.Dropped' a c e at)) (at ∷ r) rest
 dropped_read {v} {one} {two} {a} {c} {e} {at} K opening others comma key closing =
     behind_opening opening (in_brackets_read others comma key closing (λ comma closing xs ys p q. dropped_placed opening.at comma closing (collection_keeps v one two K c xs p) q))
 
 -- a collection and a function in brackets
-pub kept_read : {v : Version} {one two : Program} {a : _} {c : CollExpr} {f : FunctionId} {at : Spot} {r r0 r1 r2 r3 rest : List Spot} → KeepsTrees one two → BehindOne r r0 → Consumes (CollectionPlaced v one c) r0 r1 → BehindOne r1 r2
+pub kept_read : {v : Version} {one two : Program} {a : _} {c : CollExpr} {f : FunctionId} {at : Spot} {r r0 r1 r2 r3 rest : List Spot} → ExtendsTrees one two → BehindOne r r0 → Consumes (CollectionPlaced v one c) r0 r1 → BehindOne r1 r2
     → Consumes (FunctionPlaced v two f) r2 r3 → BehindOne r3 rest → Consumes (CollectionPlaced v two (collections.Kept' a c f at)) (at ∷ r) rest
 kept_read {v} {one} {two} {a} {c} {f} {at} K opening others comma function closing =
     behind_opening opening (in_brackets_read others comma function closing (λ comma closing xs ys p q. kept_placed opening.at comma closing (collection_keeps v one two K c xs p) q))
 
 -- an expression, and a collection behind each of two words
-pub chosen_read : {v : Version} {one two three : Program} {a b : _} {e : ExprId} {c x : CollExpr} {at : Spot} {r r1 r2 r3 r4 rest : List Spot} → KeepsTrees one two → KeepsTrees two three → Consumes (ExpressionPlaced v one e) r r1 → BehindOne r1 r2
+pub chosen_read : {v : Version} {one two three : Program} {a b : _} {e : ExprId} {c x : CollExpr} {at : Spot} {r r1 r2 r3 r4 rest : List Spot} → ExtendsTrees one two → ExtendsTrees two three → Consumes (ExpressionPlaced v one e) r r1 → BehindOne r1 r2
     → Consumes (CollectionPlaced v two c) r2 r3 → BehindOne r3 r4 → Consumes (CollectionPlaced v three x) r4 rest → Consumes (CollectionPlaced v three (collections.Chosen' e a c b x at)) (at ∷ r) rest
 chosen_read {v} {one} {two} {three} {a} {b} {e} {c} {x} {at} {rest = rest} K L condition then_word first else_word second = record {
   front = at ∷ (condition.front ++ (then_word.at ∷ (first.front ++ (else_word.at ∷ second.front))));
@@ -387,8 +387,8 @@ gathered_read {v} {mid} {new} {id} {i} {t} {spot} added members =
     behind_first members (λ xs m. let n : MembersPlaced v new i xs = members_keep v mid new added.kept.trees i xs m in gathered_placed (term_stands mid new id _ t spot added) n.held n.placed)
 
 -- a collection, a term, a name, a pattern and another term in brackets
-pub releasing_read : {v : Version} {one two three new : Program} {id b c : TermId} {m : CollectionId} {w : Observation} {k : NameId} {p : PlacedPattern} {q : PatternId} {t : Term} {spot place : Spot} {r r0 r1 r2 r3 r4 r5 r6 r7 rest : List Spot} → KeepsTrees one two → KeepsTrees two three
-    → AddsTerm three new id (nodes.Releasing (record { shown = w; members = m; observer = b; name = k; place = place; pattern = q; body = c })) t spot → HoldsPatternIn new q × (pattern_under new q ≡ p) → BehindOne r r0 → Consumes (MembersPlaced v one m) r0 r1 → BehindOne r1 r2 → Consumes (TermPlaced v two b) r2 r3 → BehindOne r3 r4
+pub releasing_read : {v : Version} {one two three new : Program} {id b c : TermId} {m : CollectionId} {w : Observation} {k : NameId} {p : PlacedPattern} {q : PatternId} {t : Term} {spot place : Spot} {r r0 r1 r2 r3 r4 r5 r6 r7 rest : List Spot} → ExtendsTrees one two → ExtendsTrees two three
+    → AddsTerm three new id (nodes.Releasing (record { shown = w; members = m; observer = b; name = k; place = place; pattern = q; body = c })) t spot → ProgramHoldsPattern new q × (placed_pattern new q ≡ p) → BehindOne r r0 → Consumes (MembersPlaced v one m) r0 r1 → BehindOne r1 r2 → Consumes (TermPlaced v two b) r2 r3 → BehindOne r3 r4
     → NamePlaced place r4 r5 → BehindOne r5 r6 → Consumes (Parted (PatternPlaced p) (TermPlaced v three c)) r6 r7 → BehindOne r7 rest → Consumes (TermPlaced v new id) (spot ∷ r) rest
 releasing_read {v} {one} {two} {three} {new} {id} {b} {c} {m} {w} {k} {p} {q} {t} {spot} {place} {r2 = r2} {r7 = r7} K L added there opening members comma observer second name third body closing =
     let stays : (i : TermId) (xs : List Spot) → TermPlaced v three i xs → TermPlaced v new i xs = term_keeps v three new added.kept.trees in
@@ -406,8 +406,8 @@ releasing_read {v} {one} {two} {three} {new} {id} {b} {c} {m} {w} {k} {p} {q} {t
     (stays b observer.front (term_keeps v two three L b observer.front observer.holds)) (pattern_stands new q p ps there placed) (stays c zs z)))))
 
 -- a collection, a name, a pattern and another collection in brackets
-pub editing_read : {v : Version} {one two new : Program} {id : TermId} {m u : CollectionId} {w : Observation} {k : NameId} {p : PlacedPattern} {q : PatternId} {t : Term} {spot place : Spot} {r r0 r1 r2 r3 r4 r5 rest : List Spot} → KeepsTrees one two
-    → AddsTerm two new id (nodes.Editing (record { shown = w; members = m; name = k; place = place; pattern = q; edit = u })) t spot → HoldsPatternIn new q × (pattern_under new q ≡ p) → BehindOne r r0 → Consumes (MembersPlaced v one m) r0 r1 → BehindOne r1 r2
+pub editing_read : {v : Version} {one two new : Program} {id : TermId} {m u : CollectionId} {w : Observation} {k : NameId} {p : PlacedPattern} {q : PatternId} {t : Term} {spot place : Spot} {r r0 r1 r2 r3 r4 r5 rest : List Spot} → ExtendsTrees one two
+    → AddsTerm two new id (nodes.Editing (record { shown = w; members = m; name = k; place = place; pattern = q; edit = u })) t spot → ProgramHoldsPattern new q × (placed_pattern new q ≡ p) → BehindOne r r0 → Consumes (MembersPlaced v one m) r0 r1 → BehindOne r1 r2
     → NamePlaced place r2 r3 → BehindOne r3 r4 → Consumes (Parted (PatternPlaced p) (MembersPlaced v two u)) r4 r5 → BehindOne r5 rest → Consumes (TermPlaced v new id) (spot ∷ r) rest
 editing_read {v} {one} {two} {new} {id} {m} {u} {w} {k} {p} {q} {t} {spot} {place} {r2 = r2} {r5 = r5} K added there opening members comma name second edit closing =
     let behind : List Spot = place ∷ second.at ∷ edit.front in
@@ -420,7 +420,7 @@ editing_read {v} {one} {two} {new} {id} {m} {u} {w} {k} {p} {q} {t} {spot} {plac
     editing_placed opening.at comma second.at leads closing (term_stands two new id _ t spot added) source.held source.placed (pattern_stands new q p ps there placed) edited.held edited.placed))))
 
 -- a name, and arguments in brackets behind it
-pub call_read : {v : Version} {mid new : Program} {id : TermId} {g : NameId} {a : ArgumentsId} {bs : List Argument} {t : Term} {spot : Spot} {r r1 rest : List Spot} → AddsTerm mid new id (nodes.Call g a) t spot → HoldsArguments new a × (arguments_under new a ≡ bs)
+pub call_read : {v : Version} {mid new : Program} {id : TermId} {g : NameId} {a : ArgumentsId} {bs : List Argument} {t : Term} {spot : Spot} {r r1 rest : List Spot} → AddsTerm mid new id (nodes.Call g a) t spot → HoldsArguments new a × (argument_nodes new a ≡ bs)
     → BehindOne r r1 → Consumes (ArgumentsPlaced v mid bs) r1 rest → Consumes (TermPlaced v new id) (spot ∷ r) rest
 call_read {v} {mid} {new} {id} {g} {a} {bs} {t} {spot} added there opening actuals = record {
   front = spot ∷ opening.at ∷ actuals.front;
@@ -430,7 +430,7 @@ call_read {v} {mid} {new} {id} {g} {a} {bs} {t} {spot} added there opening actua
 }
 
 -- two terms joined
-pub joined_read : {v : Version} {one two new : Program} {id a b : TermId} {j : Join} {t : Term} {spot : Spot} {r0 r1 r2 r3 rest : List Spot} → KeepsTrees one two → AddsTerm two new id (nodes.Joined j a b) t spot
+pub joined_read : {v : Version} {one two new : Program} {id a b : TermId} {j : Join} {t : Term} {spot : Spot} {r0 r1 r2 r3 rest : List Spot} → ExtendsTrees one two → AddsTerm two new id (nodes.Joined j a b) t spot
     → Consumes (TermPlaced v one a) r0 r1 → BehindOne r1 r2 → Consumes (TermPlaced v two b) r2 r3 → BehindOne r3 rest → Consumes (TermPlaced v new id) (spot ∷ r0) rest
 joined_read {v} {one} {two} {new} {id} {a} {b} {j} {t} {spot} k added first between second closing =
     in_brackets_read first between second closing (λ between closing xs ys p q.
@@ -510,8 +510,8 @@ pub collection_read : {v : Version} {p : Program} {m : CollectionId} {tokens r0 
 collection_read word c = record { front = word.at ∷ c.front; split = rw (word.split, c.split) refl; holds = collection_argument_placed word.at c.holds.held c.holds.placed }
 
 -- the parts of a template, one behind the other
-pub template_read : {v : Version} {old mid new : Program} {h : Header} {r0 r1 r2 r3 rest : List Spot} → KeepsProgram old mid → AddsTemplate mid new h → HeadingPlaced v h.spot h.parameters r0 r1
-    → (s : BehindSome r1 r2) → length s.front ≡ length (spell_signature v (template_in new h)) → Consumes (TermPlaced v mid h.body) r2 r3 → BehindOne r3 rest → PlacesTemplate v old new r0 rest
+pub template_read : {v : Version} {old mid new : Program} {h : Header} {r0 r1 r2 r3 rest : List Spot} → ExtendsProgram old mid → AddsTemplate mid new h → HeadingPlaced v h.spot h.parameters r0 r1
+    → (s : BehindSome r1 r2) → length s.front ≡ length (spell_signature v (term_template new h)) → Consumes (TermPlaced v mid h.body) r2 r3 → BehindOne r3 rest → PlacesTemplate v old new r0 rest
 template_read {v} {old} {mid} {new} {h} {r0} {r1} {r2} {r3} {rest} kept added heading signature typed body end = record {
   header = h;
   headers = added.headers ∙ ap (λ (hs : List Header). hs ++ h ∷ []) kept.headers;
@@ -543,7 +543,7 @@ template_read {v} {old} {mid} {new} {h} {r0} {r1} {r2} {r3} {rest} kept added he
 }
 
 -- the places of tokens, as the code has them and as the bytes have them
-places_same : (bytes : List ℕ) (found : List PlacedToken) (ls : List Located) → map seen found ≡ map (shown bytes) ls → places found ≡ map (λ (l : Located). place_at bytes l.offset) ls
+places_same : (bytes : List ℕ) (found : List PlacedToken) (ls : List Located) → map seen found ≡ map (shown bytes) ls → places found ≡ map (λ (l : Located). offset_place bytes l.offset) ls
 places_same bytes [] [] same = refl
 places_same bytes [] (l ∷ ls) same = cc
 places_same bytes (p ∷ found) [] same = cc

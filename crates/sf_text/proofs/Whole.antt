@@ -6,7 +6,7 @@ use Rattle.sf_term.specs.declared.program.Program.{Program}
 use Rattle.sf_term.specs.Arena.{templates_of}
 use Rattle.sf_refusal.specs.declared.spot.Spot.{Spot}
 use Rattle.sf_lex.specs.declared.token.PlacedToken.{PlacedToken}
-use Rattle.sf_lex.specs.Tokens.{Tok, Located, seen, shown, place_at}
+use Rattle.sf_lex.specs.Tokens.{Tok, Located, seen, shown, offset_place}
 use Rattle.sf_lex.specs.Cutting.{AreTokensOf, BreaksLexis}
 use Rattle.sf_refusal.specs.declared.rule.Rule.{Rule}
 use Rattle.sf_refusal.specs.declared.refusal.Refusal.{Refusal}
@@ -19,7 +19,7 @@ use Rattle.sf_grammar.specs.Spelling.{spell, spell_templates, IsNetworkText}
 use Rattle.sf_grammar.specs.Reading.{got, parse_opening}
 use Rattle.sf_text.specs.Parsing.Answers.{StopsReading, toks}
 use Rattle.sf_text.specs.Progress.{Behind, StopsAfter, StopsNetwork, IsSpelled, first_place, stop_refusal}
-use Rattle.sf_grammar.specs.Stopping.{StopsIn, in_opening, in_template, StopsAt, offset_of, place_before, BreaksText, no_tokens, no_network}
+use Rattle.sf_grammar.specs.Stopping.{NetworkStops, in_opening, in_template, ReadingStops, offset_of, place_before, BreaksText, no_tokens, no_network}
 use Rattle.sf_grammar.proofs.Takes.{opening_takes}
 
 pub stops_opening : (e : Stop) (tokens : List Tok) → StopsReading e (parse_opening tokens) → StopsNetwork e tokens
@@ -41,17 +41,17 @@ network_stops Memory tokens rest v is stops = tt
 
 -- the first tokens, as the code has them and as the bytes have them
 first_same : (bytes : List ℕ) (found : List PlacedToken) (ls : List Located) → map seen found ≡ map (shown bytes) ls
-    → first_place (place_at bytes (length bytes)) found ≡ place_at bytes (offset_of (length bytes) ls)
+    → first_place (offset_place bytes (length bytes)) found ≡ offset_place bytes (offset_of (length bytes) ls)
 first_same bytes [] [] same = refl
 first_same bytes [] (l ∷ ls) same = cc
 first_same bytes (p ∷ found) [] same = cc
 first_same bytes (p ∷ found) (l ∷ ls) same = let one : seen p ≡ shown bytes l = cc in ap (λ (x : Tok × Spot). x.1) one
 
 pub place_same : (bytes : List ℕ) (found : List PlacedToken) (ls : List Located) (left : ℕ) → map seen found ≡ map (shown bytes) ls
-    → first_place (place_at bytes (length bytes)) (drop (length found - left) found) ≡ place_before bytes ls left
+    → first_place (offset_place bytes (length bytes)) (drop (length found - left) found) ≡ place_before bytes ls left
 place_same bytes found ls left same =
     let long : length found ≡ length ls = simp length-map at (ap length same) in
-    ap (λ n. first_place (place_at bytes (length bytes)) (drop (n - left) found)) long
+    ap (λ n. first_place (offset_place bytes (length bytes)) (drop (n - left) found)) long
     ∙ first_same bytes (drop (length ls - left) found) (drop (length ls - left) ls)
     (sym (drop-map seen (length ls - left) found) ∙ ap (drop (length ls - left)) same ∙ drop-map (shown bytes) (length ls - left) ls)
 
@@ -73,13 +73,13 @@ network_text bytes found v p a s = record {
   limited = s.limited;
 }
 
-stopped_at : (bytes : List ℕ) (found : List PlacedToken) (fault : Rule) (left : ℕ) → AreTokensOf bytes found → StopsIn (toks found) fault left
-    → StopsAt bytes fault (first_place (place_at bytes (length bytes)) (drop (length found - left) found))
+stopped_at : (bytes : List ℕ) (found : List PlacedToken) (fault : Rule) (left : ℕ) → AreTokensOf bytes found → NetworkStops (toks found) fault left
+    → ReadingStops bytes fault (first_place (offset_place bytes (length bytes)) (drop (length found - left) found))
 stopped_at bytes found fault left a s = record {
   located = a.located;
   cut = a.cut;
   left = left;
-  stops = subst (λ (ts : List Tok). StopsIn ts fault left) (toks_same bytes found a.located a.shows) s;
+  stops = subst (λ (ts : List Tok). NetworkStops ts fault left) (toks_same bytes found a.located a.shows) s;
   at = place_same bytes found a.located left a.shows;
 }
 

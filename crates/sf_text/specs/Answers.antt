@@ -18,21 +18,21 @@ use Rattle.sf_term.specs.declared.node.Argument.TheVariants as arguments
 use Rattle.sf_term.specs.declared.program.Program.{Program}
 use Rattle.sf_term.specs.Parameters.{PlacedParameter, Bindings, parameters_of}
 use Rattle.sf_term.specs.Trees.{Term, Collection, Arguments, no_arguments, Template, terms_in, terms_collected, terms_in_arguments, expressions_in, expressions_collected, expressions_in_arguments}
-use Rattle.sf_term.specs.Arena.{HoldsTerm, HoldsArgument, HoldsMembers, HoldsWhole, tree, collection_of, collection_at, expression_under, arguments_of, term_count, expression_count, templates_of, KeepsProgram}
+use Rattle.sf_term.specs.Arena.{HoldsTerm, HoldsArgument, HoldsMembers, HoldsWhole, tree, collection_of, collection_tree, program_expression, arguments_of, term_count, expression_count, templates_of, ExtendsProgram}
 use Rattle.sf_lex.specs.Tokens.{Tok}
 use Rattle.sf_text.specs.declared.parts.stop.Stop.{Stop}
 use Rattle.sf_text.specs.declared.parts.cursor.Cursor.{Cursor}
 use Rattle.sf_text.specs.declared.parts.reader.Reader.{Reader}
 use Rattle.sf_text.specs.declared.parts.mark.Mark.{Mark}
-use Rattle.sf_grammar.specs.Reading.{Read, got, Actual, actual_value, actual_process, actual_collection, with_actual, no_word, process_word, collection_word, argument_word, behind_first}
+use Rattle.sf_grammar.specs.Reading.{Read, got, Actual, actual_value, actual_process, actual_collection, leading_actual, no_word, process_word, collection_word, argument_word, behind_first}
 use Rattle.sf_text.specs.Parsing.Answers.{ahead, StopsReading, named_bytes}
 use Rattle.sf_text.specs.Parsing.Consuming.{spots_ahead, BehindOne}
 
-abbrev pub kinds_in : Types → Kind × Kind
-kinds_in s = (s.input, s.output)
+abbrev pub declared_kinds : Types → Kind × Kind
+declared_kinds s = (s.input, s.output)
 
-abbrev pub bindings_in : Vec PlacedParameter Global → Bindings
-bindings_in qs = parameters_of qs.items
+abbrev pub parameter_bindings : Vec PlacedParameter Global → Bindings
+parameter_bindings qs = parameters_of qs.items
 
 abbrev pub heading_in : Titled → Name × Bindings
 heading_in h = (named_bytes h.name, parameters_of h.parameters.items)
@@ -43,7 +43,7 @@ pub record FoundTerm (old new : Program) (id : TermId) (rest : List Tok) (read :
   pub is : read ≡ got term rest
   pub held : HoldsTerm new id
   pub tree : tree new id ≡ term
-  pub kept : KeepsProgram old new
+  pub kept : ExtendsProgram old new
   pub terms : term_count new ≡ term_count old + terms_in term
   pub expressions : expression_count new ≡ expression_count old + expressions_in term
 
@@ -66,7 +66,7 @@ pub record FoundBody (old new : Program) (p : Pattern) (id : TermId) (rest : Lis
   pub names : HasNames p
   pub held : HoldsTerm new id
   pub tree : tree new id ≡ term
-  pub kept : KeepsProgram old new
+  pub kept : ExtendsProgram old new
   pub terms : term_count new ≡ term_count old + terms_in term
   pub expressions : expression_count new ≡ expression_count old + expressions_in term
 
@@ -80,7 +80,7 @@ pub record FoundCollection (old new : Program) (c : CollExpr) (rest : List Tok) 
   pub is : read ≡ got members rest
   pub held : HoldsMembers new c
   pub made : collection_of new c ≡ members
-  pub kept : KeepsProgram old new
+  pub kept : ExtendsProgram old new
   pub terms : term_count new ≡ term_count old + terms_collected members
   pub expressions : expression_count new ≡ expression_count old + expressions_collected members
 
@@ -97,8 +97,8 @@ pub record FoundMembers (old new : Program) (i : CollectionId) (rest : List Tok)
   pub members : Collection
   pub is : read ≡ got members rest
   pub held : HoldsWhole new i
-  pub made : collection_at new i ≡ members
-  pub kept : KeepsProgram old new
+  pub made : collection_tree new i ≡ members
+  pub kept : ExtendsProgram old new
   pub terms : term_count new ≡ term_count old + terms_collected members
   pub expressions : expression_count new ≡ expression_count old + expressions_collected members
 
@@ -115,8 +115,8 @@ pub record FoundEdit (old new : Program) (p : Pattern) (i : CollectionId) (rest 
   pub is : read ≡ got (p, members) rest
   pub names : HasNames p
   pub held : HoldsWhole new i
-  pub made : collection_at new i ≡ members
-  pub kept : KeepsProgram old new
+  pub made : collection_tree new i ≡ members
+  pub kept : ExtendsProgram old new
   pub terms : term_count new ≡ term_count old + terms_collected members
   pub expressions : expression_count new ≡ expression_count old + expressions_collected members
 
@@ -132,9 +132,9 @@ BeginsArgument (fronts.Members rest) old = (argument_word (ahead old) ≡ collec
 
 -- the argument that one with ids stands for
 abbrev pub actual_of : Program → Argument → Actual
-actual_of p (arguments.Value e) = actual_value (expression_under p e)
+actual_of p (arguments.Value e) = actual_value (program_expression p e)
 actual_of p (arguments.Process t) = actual_process (tree p t)
-actual_of p (arguments.Collection i) = actual_collection (collection_at p i)
+actual_of p (arguments.Collection i) = actual_collection (collection_tree p i)
 
 -- an argument was read into the program
 pub record FoundArgument (old new : Program) (a : Argument) (rest : List Tok) (read : Read Actual) : Type 0 where
@@ -142,9 +142,9 @@ pub record FoundArgument (old new : Program) (a : Argument) (rest : List Tok) (r
   pub is : read ≡ got value rest
   pub held : HoldsArgument new a
   pub same : actual_of new a ≡ value
-  pub kept : KeepsProgram old new
-  pub terms : term_count new ≡ term_count old + terms_in_arguments (with_actual value no_arguments)
-  pub expressions : expression_count new ≡ expression_count old + expressions_in_arguments (with_actual value no_arguments)
+  pub kept : ExtendsProgram old new
+  pub terms : term_count new ≡ term_count old + terms_in_arguments (leading_actual value no_arguments)
+  pub expressions : expression_count new ≡ expression_count old + expressions_in_arguments (leading_actual value no_arguments)
 
 abbrev pub ReadsArgument : Reader → Reader → Result Argument Stop → Read Actual → Type 0
 ReadsArgument old new (Ok a) read = FoundArgument old.program new.program a (ahead new.cursor) read
@@ -156,7 +156,7 @@ pub record FoundArguments (old new : Program) (bs : List Argument) (rest : List 
   pub is : read ≡ got value rest
   pub held : All (HoldsArgument new) bs
   pub same : arguments_of new bs ≡ value
-  pub kept : KeepsProgram old new
+  pub kept : ExtendsProgram old new
   pub terms : term_count new ≡ term_count old + terms_in_arguments value
   pub expressions : expression_count new ≡ expression_count old + expressions_in_arguments value
 

@@ -14,7 +14,7 @@ use Rattle.sf_term.specs.declared.node.Node.TheVariants as nodes
 use Rattle.sf_term.specs.declared.program.Program.{Program}
 use Rattle.sf_term.specs.Parameters.{PlacedParameter}
 use Rattle.sf_term.specs.Headers.{Header}
-use Rattle.sf_term.specs.Arena.{KeepsTrees, HoldsCollection, collection_under, headers_of}
+use Rattle.sf_term.specs.Arena.{ExtendsTrees, HoldsCollection, collection_node, headers_of}
 use Rattle.sf_grammar.specs.declared.ty.Version.{Version}
 use Rattle.sf_grammar.specs.declared.head.Head.{Head}
 use Rattle.sf_grammar.specs.declared.head.Head.TheVariants as heads
@@ -41,13 +41,13 @@ pub record OpeningPlaced (tokens rest : List Spot) : Type 0 where
 pub record PlacesTemplate (v : Version) (old new : Program) (tokens rest : List Spot) : Type 0 where
   pub header : Header
   pub headers : headers_of new ≡ headers_of old ++ header ∷ []
-  pub kept : KeepsTrees old new
+  pub kept : ExtendsTrees old new
   pub placed : Consumes (TemplatePlaced v new header) tokens rest
 
 -- the collection at an id, whose tokens have these places
 pub record MembersPlaced (v : Version) (p : Program) (i : CollectionId) (places : List Spot) : Type 0 where
   pub held : HoldsCollection p i
-  pub placed : CollectionPlaced v p (collection_under p i) places
+  pub placed : CollectionPlaced v p (collection_node p i) places
 
 -- the node of a head, a value and a part of this node: behind `-->`, `pre` makes one primitive with the value
 abbrev pub headed_node : Heading → ExprId → TermId → Node → Node

@@ -6,7 +6,7 @@ ghost use Rattle.sf_value.specs.KindView.{key_kind_of};
 ghost use Rattle.sf_term.specs.Names.{AreNamed};
 ghost use Rattle.sf_term.specs.ParameterView.{kind_of_form};
 ghost use Rattle.sf_term.specs.Parameters.{binding_of};
-ghost use Rattle.sf_text.specs.Answers.{kinds_in, heading_in, bindings_in};
+ghost use Rattle.sf_text.specs.Answers.{declared_kinds, heading_in, parameter_bindings};
 ghost use Rattle.sf_text.specs.Parsing.Consuming.{spots_ahead, BehindOne, BehindSome, StandsOn};
 ghost use Rattle.sf_grammar.specs.Placing.{ParameterPlaced, EachParameterPlaced, ParametersPlaced};
 ghost use Rattle.sf_text.specs.Consuming.{HeadingPlaced, OpeningPlaced};
@@ -122,7 +122,7 @@ fn parameter(cursor: &mut Cursor, version: Version) -> Result<Parameter, Stop>
 
 /// Parameters, one at least, and the closing bracket behind them.
 fn some_parameters(cursor: &mut Cursor, version: Version) -> Result<Vec<Parameter>, Stop>
-    ensures reads { ReadsAs bindings_in result cursor.new (parse_parameters (suc (length (ahead cursor.old))) version (ahead cursor.old)) }
+    ensures reads { ReadsAs parameter_bindings result cursor.new (parse_parameters (suc (length (ahead cursor.old))) version (ahead cursor.old)) }
     ensures named { IfOk result (λ qs. AreNamed qs.items) }
     ensures some { IfOk result (λ qs. qs.items ≢ []) }
     ensures placed { StandsOn (λ qs. EachParameterPlaced version qs.items) result cursor.old cursor.new }
@@ -139,7 +139,7 @@ fn some_parameters(cursor: &mut Cursor, version: Version) -> Result<Vec<Paramete
 
 /// Parameters, if there are any, and the closing bracket behind them.
 fn parameters(cursor: &mut Cursor, version: Version) -> Result<Vec<Parameter>, Stop>
-    ensures reads { ReadsAs bindings_in result cursor.new (parse_listed [] (λ ts. parse_parameters (suc (length ts)) version ts) (ahead cursor.old)) }
+    ensures reads { ReadsAs parameter_bindings result cursor.new (parse_listed [] (λ ts. parse_parameters (suc (length ts)) version ts) (ahead cursor.old)) }
     ensures named { IfOk result (λ qs. AreNamed qs.items) }
     ensures placed { StandsOn (λ qs. ParametersPlaced version qs.items) result cursor.old cursor.new }
 {
@@ -183,7 +183,7 @@ pub(crate) struct Types {
 /// The types of a template's inputs and outputs, with what stands around them.
 #[tactic(auto, unfolding(sf_grammar::specs::Reading::parse_signature))]
 pub(crate) fn signature(cursor: &mut Cursor, version: Version) -> Result<Types, Stop>
-    ensures reads { ReadsAs kinds_in result cursor.new (parse_signature version (ahead cursor.old)) }
+    ensures reads { ReadsAs declared_kinds result cursor.new (parse_signature version (ahead cursor.old)) }
     ensures behind { IfOk result (λ s. BehindSome (spots_ahead cursor.old) (spots_ahead cursor.new)) }
 {
     cursor.symbol(Symbol::Colon)?;

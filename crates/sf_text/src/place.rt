@@ -1,7 +1,7 @@
 //! Places of faults.
 ghost use Rattle.std.specs.Prelude.{◌≡◌, ◌≤◌, ◌-◌, length, drop};
 ghost use Rattle.std.specs.List.{count_by, suffix_len};
-ghost use Rattle.sf_lex.specs.Tokens.{place_at, is_line_feed, is_in_line};
+ghost use Rattle.sf_lex.specs.Tokens.{offset_place, is_line_feed, is_in_line};
 ghost use Rattle.sf_lex.specs.Cutting.{byte_limit};
 ghost use Rattle.sf_text.specs.Progress.{first_place, stop_refusal};
 
@@ -27,7 +27,7 @@ fn last_line_len(bytes: &[u8]) -> usize
 #[tactic(auto, using(crate::proofs::Places::end_at))]
 fn end_place(bytes: &[u8]) -> Spot
     requires { length bytes.now ≤ byte_limit }
-    ensures { result ≡ place_at bytes.now (length bytes.now) }
+    ensures { result ≡ offset_place bytes.now (length bytes.now) }
 {
     Spot {
         line: line_feeds(bytes) as u32 + 1,
@@ -38,7 +38,7 @@ fn end_place(bytes: &[u8]) -> Spot
 /// The place of the token that stands so many tokens before the end, or of the end.
 fn place_before(tokens: &[PlacedToken], left: usize, bytes: &[u8]) -> Spot
     requires { length bytes.now ≤ byte_limit }
-    ensures { result ≡ first_place (place_at bytes.now (length bytes.now)) (drop (length tokens.now - left) tokens.now) }
+    ensures { result ≡ first_place (offset_place bytes.now (length bytes.now)) (drop (length tokens.now - left) tokens.now) }
 {
     match &tokens[tokens.len().saturating_sub(left)..] {
         [first, ..] => first.spot,

@@ -1,13 +1,15 @@
 //! Terms.
 ghost use Rattle.std.specs.Prelude.{◌≡◌, ◌≢◌, ◌≤◌, IfOk, IfErr, List, suc, [], ◌∷◌, length, false};
-ghost use Rattle.sf_term.specs.Trees.{Term, Collection, no_arguments, primitive as primitive_form, bare as bare_form};
-ghost use Rattle.sf_lex.specs.Tokens.{Tok, token_of, name as name_token, name_bytes};
+ghost use Rattle.sf_term.specs.Trees.{Term, Collection, no_arguments};
+ghost use Rattle.sf_term.specs.Trees;
+ghost use Rattle.sf_lex.specs.Tokens.{Tok, token_of, name_bytes};
+ghost use Rattle.sf_lex.specs.Tokens;
 ghost use Rattle.sf_text.specs.Parsing.Answers.{toks, ahead, StopsReading, ReadsAs, counts_of};
 ghost use Rattle.sf_text.specs.Answers.{ReadsTerm, ReadsTermForm, ReadsCollection, ReadsMembers, ReadsEdit, ReadsBody, ReadsArgument, ReadsArguments};
 ghost use Rattle.sf_grammar.specs.Placing.{PatternPlaced, TermPlaced, CollectionPlaced, ArgumentPlaced, EachArgumentPlaced, ArgumentsPlaced};
-ghost use Rattle.sf_text.specs.Parsing.Consuming.{spots_ahead, BehindOne, StandsOn, StandsFrom, Parted};
+ghost use Rattle.sf_text.specs.Parsing.Consuming.{spots_ahead, BehindOne, StandsOn, ReadStands, Parted};
 ghost use Rattle.sf_text.specs.Consuming.{headed_node, HasValueSo, MembersPlaced};
-ghost use Rattle.sf_grammar.specs.Reading.{begins_term, begins_collection, begins_fresh, head_at, parse_empty, parse_used, parse_added, parse_dropped, parse_kept, parse_chosen, parse_behind_collection_head, parse_collection_form, parse_collection, parse_gathered, parse_releasing, parse_edit, parse_editing, too_deep, term_read, parse_never, parse_value, parse_timed, parse_selected, parse_arrow, parse_accumulated, parse_sided, parse_headed, parse_transformed, parse_body, parse_switching, parse_named, parse_keeping, parse_argument, parse_arguments, parse_listed, parse_call, parse_join, parse_joined, parse_form, parse_behind_head, parse_term};
+ghost use Rattle.sf_grammar.specs.Reading.{begins_term, begins_collection, begins_fresh, tokens_head, parse_empty, parse_used, parse_added, parse_dropped, parse_kept, parse_chosen, parse_behind_collection_head, parse_collection_form, parse_collection, parse_gathered, parse_releasing, parse_edit, parse_editing, too_deep, term_read, parse_never, parse_value, parse_timed, parse_selected, parse_arrow, parse_accumulated, parse_sided, parse_headed, parse_transformed, parse_body, parse_switching, parse_named, parse_continuing, parse_argument, parse_arguments, parse_listed, parse_call, parse_join, parse_joined, parse_form, parse_behind_head, parse_term};
 ghost use Rattle.sf_term.specs.Arena.{HoldsExpression, HoldsTerm, HoldsTermParts, term_node_at};
 ghost use Rattle.sf_grammar.specs.Spelling.{stands_initially};
 
@@ -61,7 +63,7 @@ fn begins_fresh(version: Version, tokens: &[PlacedToken]) -> bool
 
 /// The form that these tokens begin.
 fn head_at(version: Version, tokens: &[PlacedToken]) -> Option<Head>
-    ensures { result ≡ head_at version (toks tokens.now) }
+    ensures { result ≡ tokens_head version (toks tokens.now) }
 {
     let [first, ..] = tokens else {
         return None;
@@ -74,8 +76,8 @@ fn head_at(version: Version, tokens: &[PlacedToken]) -> Option<Head>
 
 /// A primitive without constants, behind its word.
 fn bare(reader: &mut Reader, start: Mark, kind: Bare) -> Result<TermId, Stop>
-    ensures reads { ReadsTermForm reader.old reader.new start result (term_read (counts_of reader.old.program) (primitive_form (bare_form kind))) }
-    ensures placed { (version : Version) → StandsFrom start (TermPlaced version reader.new.program) result reader.old.cursor reader.new.cursor }
+    ensures reads { ReadsTermForm reader.old reader.new start result (term_read (counts_of reader.old.program) (Trees.primitive (Trees.bare kind))) }
+    ensures placed { (version : Version) → ReadStands start (TermPlaced version reader.new.program) result reader.old.cursor reader.new.cursor }
 {
     let node = Node::Primitive(Primitive::Bare(kind));
     start.built(reader.program.add(node, start.spot))
@@ -86,7 +88,7 @@ fn bare(reader: &mut Reader, start: Mark, kind: Bare) -> Result<TermId, Stop>
 fn never(reader: &mut Reader, version: Version, start: Mark, left: u32) -> Result<TermId, Stop>
     requires shallow { left ≤ 63 }
     ensures reads { ReadsTermForm reader.old reader.new start result (parse_never left version (counts_of reader.old.program)) }
-    ensures placed { StandsFrom start (TermPlaced version reader.new.program) result reader.old.cursor reader.new.cursor }
+    ensures placed { ReadStands start (TermPlaced version reader.new.program) result reader.old.cursor reader.new.cursor }
 {
     let payload = reader.cursor.type_within(version, left)?;
     start.built(reader.program.never(payload, start.spot))
@@ -104,7 +106,7 @@ fn with_value(
     requires shallow { left ≤ 63 }
     requires behind { stands_initially kind ≡ false }
     ensures reads { ReadsTermForm reader.old reader.new start result (parse_value left version (counts_of reader.old.program) kind) }
-    ensures placed { StandsFrom start (TermPlaced version reader.new.program) result reader.old.cursor reader.new.cursor }
+    ensures placed { ReadStands start (TermPlaced version reader.new.program) result reader.old.cursor reader.new.cursor }
 {
     let value = reader.expression(version, left)?;
     let node = Node::Primitive(Primitive::WithValue(kind, value));
@@ -122,7 +124,7 @@ fn timed(
 ) -> Result<TermId, Stop>
     requires shallow { left ≤ 63 }
     ensures reads { ReadsTermForm reader.old reader.new start result (parse_timed left version (counts_of reader.old.program) kind) }
-    ensures placed { StandsFrom start (TermPlaced version reader.new.program) result reader.old.cursor reader.new.cursor }
+    ensures placed { ReadStands start (TermPlaced version reader.new.program) result reader.old.cursor reader.new.cursor }
 {
     let time = reader.cursor.number()?;
     let value = reader.expression(version, left)?;
@@ -134,7 +136,7 @@ fn timed(
 #[tactic(auto, unfolding(sf_grammar::specs::Reading::parse_selected))]
 fn selected(reader: &mut Reader, start: Mark, kind: Selection) -> Result<TermId, Stop>
     ensures reads { ReadsTermForm reader.old reader.new start result (parse_selected (counts_of reader.old.program) kind) }
-    ensures placed { (version : Version) → StandsFrom start (TermPlaced version reader.new.program) result reader.old.cursor reader.new.cursor }
+    ensures placed { (version : Version) → ReadStands start (TermPlaced version reader.new.program) result reader.old.cursor reader.new.cursor }
 {
     let count = reader.cursor.number()?;
     let node = Node::Primitive(Primitive::Selected(kind, count));
@@ -146,7 +148,7 @@ fn selected(reader: &mut Reader, start: Mark, kind: Selection) -> Result<TermId,
 fn arrow(reader: &mut Reader, version: Version, start: Mark, left: u32) -> Result<TermId, Stop>
     requires shallow { left ≤ 63 }
     ensures reads { ReadsTermForm reader.old reader.new start result (parse_arrow left version (counts_of reader.old.program)) }
-    ensures placed { StandsFrom start (TermPlaced version reader.new.program) result reader.old.cursor reader.new.cursor }
+    ensures placed { ReadStands start (TermPlaced version reader.new.program) result reader.old.cursor reader.new.cursor }
 {
     let function = reader.function(version, left)?;
     let node = Node::Primitive(Primitive::Arrow(function));
@@ -164,7 +166,7 @@ fn accumulated(
 ) -> Result<TermId, Stop>
     requires shallow { left ≤ 63 }
     ensures reads { ReadsTermForm reader.old reader.new start result (parse_accumulated left version (counts_of reader.old.program) kind) }
-    ensures placed { StandsFrom start (TermPlaced version reader.new.program) result reader.old.cursor reader.new.cursor }
+    ensures placed { ReadStands start (TermPlaced version reader.new.program) result reader.old.cursor reader.new.cursor }
 {
     reader.cursor.symbol(Symbol::Open)?;
     let value = reader.expression(version, left)?;
@@ -179,7 +181,7 @@ fn accumulated(
 #[tactic(auto, unfolding(sf_grammar::specs::Reading::parse_named))]
 fn named(reader: &mut Reader, start: Mark, form: Naming) -> Result<TermId, Stop>
     ensures reads { ReadsTermForm reader.old reader.new start result (parse_named form (counts_of reader.old.program)) }
-    ensures placed { (version : Version) → StandsFrom start (TermPlaced version reader.new.program) result reader.old.cursor reader.new.cursor }
+    ensures placed { (version : Version) → ReadStands start (TermPlaced version reader.new.program) result reader.old.cursor reader.new.cursor }
 {
     let label = reader.cursor.name()?;
     let known = String::from_str(reader.cursor.alloc, label.name.as_str())?;
@@ -204,7 +206,7 @@ fn empty(
 ) -> Result<Rc<CollExpr>, Stop>
     requires shallow { left ≤ 63 }
     ensures reads { ReadsCollection reader.old reader.new result (parse_empty left version (ahead reader.old.cursor)) }
-    ensures placed { StandsFrom start (λ c. CollectionPlaced version reader.new.program c.value) result reader.old.cursor reader.new.cursor }
+    ensures placed { ReadStands start (λ c. CollectionPlaced version reader.new.program c.value) result reader.old.cursor reader.new.cursor }
 {
     let keys = reader.cursor.keys(version)?;
     let values = reader.cursor.type_within(version, left)?;
@@ -216,7 +218,7 @@ fn empty(
 #[tactic(auto, unfolding(sf_grammar::specs::Reading::parse_used))]
 fn used(reader: &mut Reader, start: Mark) -> Result<Rc<CollExpr>, Stop>
     ensures reads { ReadsCollection reader.old reader.new result (parse_used (ahead reader.old.cursor)) }
-    ensures placed { (version : Version) → StandsFrom start (λ c. CollectionPlaced version reader.new.program c.value) result reader.old.cursor reader.new.cursor }
+    ensures placed { (version : Version) → ReadStands start (λ c. CollectionPlaced version reader.new.program c.value) result reader.old.cursor reader.new.cursor }
 {
     let label = reader.cursor.name()?;
     let known = String::from_str(reader.cursor.alloc, label.name.as_str())?;
@@ -284,7 +286,7 @@ fn behind_head<'a>(
     requires stands { HasValueSo head }
     ensures reads { let whole = token_of first.entry.token.now ∷ ahead reader.old.cursor in length whole ≡ first.entry.start.ahead →
         ReadsTerm reader.old reader.new result (parse_behind_head left version (parse_term left version) (parse_collection left version) (counts_of reader.old.program) (Some head) whole (ahead reader.old.cursor)) }
-    ensures placed { StandsFrom first.entry.start (TermPlaced version reader.new.program) result reader.old.cursor reader.new.cursor }
+    ensures placed { ReadStands first.entry.start (TermPlaced version reader.new.program) result reader.old.cursor reader.new.cursor }
 {
     let First { token, start } = first;
     match head {
@@ -301,7 +303,7 @@ fn behind_head<'a>(
         Head::Transformed => transformed(reader, version, start, left),
         Head::Switching(kind) => switching(reader, version, start, kind, left),
         Head::Named(form) => named(reader, start, form),
-        Head::Keeping(kind) => keeping(reader, version, start, kind, left),
+        Head::Continuation(kind) => continuing(reader, version, start, kind, left),
         Head::Gathered => gathered(reader, version, start, left),
         Head::Releasing(kind) => releasing(reader, version, start, kind, left),
         Head::Editing(kind) => editing(reader, version, start, kind, left),
@@ -324,7 +326,7 @@ fn sided(
 ) -> Result<TermId, Stop>
     requires shallow { left ≤ 63 }
     ensures reads { ReadsTermForm reader.old reader.new start result (parse_sided (parse_term left version) (counts_of reader.old.program) side) }
-    ensures placed { StandsFrom start (TermPlaced version reader.new.program) result reader.old.cursor reader.new.cursor }
+    ensures placed { ReadStands start (TermPlaced version reader.new.program) result reader.old.cursor reader.new.cursor }
 {
     let part = term(reader, version, left)?;
     start.built(reader.program.add(Node::Sided(side, part), start.spot))
@@ -362,7 +364,7 @@ fn headed(
 ) -> Result<TermId, Stop>
     requires shallow { left ≤ 63 }
     ensures reads { ReadsTermForm reader.old reader.new start result (parse_headed left version (parse_term left version) (counts_of reader.old.program) heading) }
-    ensures placed { StandsFrom start (TermPlaced version reader.new.program) result reader.old.cursor reader.new.cursor }
+    ensures placed { ReadStands start (TermPlaced version reader.new.program) result reader.old.cursor reader.new.cursor }
 {
     reader.cursor.symbol(Symbol::Open)?;
     let value = reader.expression(version, left)?;
@@ -384,7 +386,7 @@ fn transformed(
 ) -> Result<TermId, Stop>
     requires shallow { left ≤ 63 }
     ensures reads { ReadsTermForm reader.old reader.new start result (parse_transformed left version (parse_term left version) (counts_of reader.old.program)) }
-    ensures placed { StandsFrom start (TermPlaced version reader.new.program) result reader.old.cursor reader.new.cursor }
+    ensures placed { ReadStands start (TermPlaced version reader.new.program) result reader.old.cursor reader.new.cursor }
 {
     reader.cursor.symbol(Symbol::Open)?;
     let function = reader.function(version, left)?;
@@ -420,7 +422,7 @@ fn switching(
 ) -> Result<TermId, Stop>
     requires shallow { left ≤ 63 }
     ensures reads { ReadsTermForm reader.old reader.new start result (parse_switching left (parse_term left version) (counts_of reader.old.program) kind) }
-    ensures placed { StandsFrom start (TermPlaced version reader.new.program) result reader.old.cursor reader.new.cursor }
+    ensures placed { ReadStands start (TermPlaced version reader.new.program) result reader.old.cursor reader.new.cursor }
 {
     reader.cursor.symbol(Symbol::Open)?;
     let source = term(reader, version, left)?;
@@ -435,8 +437,8 @@ fn switching(
 
 /// A term that gives way to another, which knows it by a name, behind its word.
 #[cycle(term)]
-#[tactic(auto, unfolding(sf_grammar::specs::Reading::parse_keeping))]
-fn keeping(
+#[tactic(auto, unfolding(sf_grammar::specs::Reading::parse_continuing))]
+fn continuing(
     reader: &mut Reader,
     version: Version,
     start: Mark,
@@ -444,8 +446,8 @@ fn keeping(
     left: u32,
 ) -> Result<TermId, Stop>
     requires shallow { left ≤ 63 }
-    ensures reads { ReadsTermForm reader.old reader.new start result (parse_keeping left (parse_term left version) (counts_of reader.old.program) kind) }
-    ensures placed { StandsFrom start (TermPlaced version reader.new.program) result reader.old.cursor reader.new.cursor }
+    ensures reads { ReadsTermForm reader.old reader.new start result (parse_continuing left (parse_term left version) (counts_of reader.old.program) kind) }
+    ensures placed { ReadStands start (TermPlaced version reader.new.program) result reader.old.cursor reader.new.cursor }
 {
     reader.cursor.symbol(Symbol::Open)?;
     let source = term(reader, version, left)?;
@@ -457,7 +459,7 @@ fn keeping(
     let (pattern, body) = body(reader, version, left)?;
     reader.cursor.symbol(Symbol::Close)?;
     let known = String::from_str(reader.cursor.alloc, process.name.as_str())?;
-    let added = reader.program.keeping(
+    let added = reader.program.continuing(
         kind,
         source,
         observer,
@@ -508,7 +510,7 @@ fn collection_behind(
 ) -> Result<Rc<CollExpr>, Stop>
     requires shallow { left ≤ 63 }
     ensures reads { (whole : List Tok) → ReadsCollection reader.old reader.new result (parse_behind_collection_head left version (parse_term left version) (parse_collection left version) (counts_of reader.old.program) (Some head) whole (ahead reader.old.cursor)) }
-    ensures placed { StandsFrom start (λ c. CollectionPlaced version reader.new.program c.value) result reader.old.cursor reader.new.cursor }
+    ensures placed { ReadStands start (λ c. CollectionPlaced version reader.new.program c.value) result reader.old.cursor reader.new.cursor }
 {
     match head {
         CollectionHead::Empty => empty(reader, version, start, left),
@@ -531,7 +533,7 @@ fn added(
 ) -> Result<Rc<CollExpr>, Stop>
     requires shallow { left ≤ 63 }
     ensures reads { ReadsCollection reader.old reader.new result (parse_added left version (parse_term left version) (parse_collection left version) (counts_of reader.old.program) (ahead reader.old.cursor)) }
-    ensures placed { StandsFrom start (λ c. CollectionPlaced version reader.new.program c.value) result reader.old.cursor reader.new.cursor }
+    ensures placed { ReadStands start (λ c. CollectionPlaced version reader.new.program c.value) result reader.old.cursor reader.new.cursor }
 {
     reader.cursor.symbol(Symbol::Open)?;
     let rest = collection(reader, version, left)?;
@@ -555,7 +557,7 @@ fn dropped(
 ) -> Result<Rc<CollExpr>, Stop>
     requires shallow { left ≤ 63 }
     ensures reads { ReadsCollection reader.old reader.new result (parse_dropped left version (parse_collection left version) (counts_of reader.old.program) (ahead reader.old.cursor)) }
-    ensures placed { StandsFrom start (λ c. CollectionPlaced version reader.new.program c.value) result reader.old.cursor reader.new.cursor }
+    ensures placed { ReadStands start (λ c. CollectionPlaced version reader.new.program c.value) result reader.old.cursor reader.new.cursor }
 {
     reader.cursor.symbol(Symbol::Open)?;
     let rest = collection(reader, version, left)?;
@@ -572,7 +574,7 @@ fn dropped(
 fn kept(reader: &mut Reader, version: Version, start: Mark, left: u32) -> Result<Rc<CollExpr>, Stop>
     requires shallow { left ≤ 63 }
     ensures reads { ReadsCollection reader.old reader.new result (parse_kept left version (parse_collection left version) (counts_of reader.old.program) (ahead reader.old.cursor)) }
-    ensures placed { StandsFrom start (λ c. CollectionPlaced version reader.new.program c.value) result reader.old.cursor reader.new.cursor }
+    ensures placed { ReadStands start (λ c. CollectionPlaced version reader.new.program c.value) result reader.old.cursor reader.new.cursor }
 {
     reader.cursor.symbol(Symbol::Open)?;
     let rest = collection(reader, version, left)?;
@@ -594,7 +596,7 @@ fn chosen(
 ) -> Result<Rc<CollExpr>, Stop>
     requires shallow { left ≤ 63 }
     ensures reads { ReadsCollection reader.old reader.new result (parse_chosen left version (parse_collection left version) (counts_of reader.old.program) (ahead reader.old.cursor)) }
-    ensures placed { StandsFrom start (λ c. CollectionPlaced version reader.new.program c.value) result reader.old.cursor reader.new.cursor }
+    ensures placed { ReadStands start (λ c. CollectionPlaced version reader.new.program c.value) result reader.old.cursor reader.new.cursor }
 {
     let condition = reader.expression(version, left)?;
     reader.cursor.keyword(Keyword::Then)?;
@@ -626,7 +628,7 @@ fn members(reader: &mut Reader, version: Version, left: u32) -> Result<Collectio
 fn gathered(reader: &mut Reader, version: Version, start: Mark, left: u32) -> Result<TermId, Stop>
     requires shallow { left ≤ 63 }
     ensures reads { ReadsTermForm reader.old reader.new start result (parse_gathered (parse_collection left version) (counts_of reader.old.program)) }
-    ensures placed { StandsFrom start (TermPlaced version reader.new.program) result reader.old.cursor reader.new.cursor }
+    ensures placed { ReadStands start (TermPlaced version reader.new.program) result reader.old.cursor reader.new.cursor }
 {
     let collection = members(reader, version, left)?;
     start.built(reader.program.add(Node::Gathered(collection), start.spot))
@@ -644,7 +646,7 @@ fn releasing(
 ) -> Result<TermId, Stop>
     requires shallow { left ≤ 63 }
     ensures reads { ReadsTermForm reader.old reader.new start result (parse_releasing left (parse_term left version) (parse_collection left version) (counts_of reader.old.program) kind) }
-    ensures placed { StandsFrom start (TermPlaced version reader.new.program) result reader.old.cursor reader.new.cursor }
+    ensures placed { ReadStands start (TermPlaced version reader.new.program) result reader.old.cursor reader.new.cursor }
 {
     reader.cursor.symbol(Symbol::Open)?;
     let source = members(reader, version, left)?;
@@ -687,7 +689,7 @@ fn editing(
 ) -> Result<TermId, Stop>
     requires shallow { left ≤ 63 }
     ensures reads { ReadsTermForm reader.old reader.new start result (parse_editing left (parse_collection left version) (counts_of reader.old.program) kind) }
-    ensures placed { StandsFrom start (TermPlaced version reader.new.program) result reader.old.cursor reader.new.cursor }
+    ensures placed { ReadStands start (TermPlaced version reader.new.program) result reader.old.cursor reader.new.cursor }
 {
     reader.cursor.symbol(Symbol::Open)?;
     let source = members(reader, version, left)?;
@@ -709,7 +711,7 @@ fn editing(
 fn joined(reader: &mut Reader, version: Version, start: Mark, left: u32) -> Result<TermId, Stop>
     requires shallow { left ≤ 63 }
     ensures reads { ReadsTermForm reader.old reader.new start result (parse_joined (parse_term left version) (counts_of reader.old.program)) }
-    ensures placed { StandsFrom start (TermPlaced version reader.new.program) result reader.old.cursor reader.new.cursor }
+    ensures placed { ReadStands start (TermPlaced version reader.new.program) result reader.old.cursor reader.new.cursor }
 {
     let one = term(reader, version, left)?;
     let join = join(&mut reader.cursor)?;
@@ -789,9 +791,9 @@ fn call<'a>(
     left: u32,
 ) -> Result<TermId, Stop>
     requires shallow { left ≤ 63 }
-    ensures reads { let whole = name_token (name_bytes name.entry) ∷ ahead reader.old.cursor in length whole ≡ start.ahead →
+    ensures reads { let whole = Tokens.name (name_bytes name.entry) ∷ ahead reader.old.cursor in length whole ≡ start.ahead →
         ReadsTerm reader.old reader.new result (parse_call left version (parse_term left version) (parse_collection left version) (counts_of reader.old.program) whole) }
-    ensures placed { StandsFrom start (TermPlaced version reader.new.program) result reader.old.cursor reader.new.cursor }
+    ensures placed { ReadStands start (TermPlaced version reader.new.program) result reader.old.cursor reader.new.cursor }
 {
     reader.cursor.symbol(Symbol::Open)?;
     let arguments = arguments(reader, version, left)?;

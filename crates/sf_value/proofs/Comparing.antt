@@ -3,7 +3,7 @@ use Rattle.std.proofs.Common.{◌≡◌, ◌<◌, ◌≤◌, ◌-◌, ◌+◌, �
 use Rattle.std.proofs.lemmas.List.{length-map}
 use Rattle.std.specs.List.{AllByRecursion}
 use Rattle.sf_value.specs.Values.{KeyData, Data, table, no_rows, count, count_of_rows}
-use Rattle.sf_value.specs.View.{rows_under}
+use Rattle.sf_value.specs.View.{keyed_rows}
 
 abbrev pub Same : Type 0 → Type 0 → Type 0
 Same A B = (A → B) × (B → A)
@@ -13,13 +13,13 @@ abbrev pub count_of_values : List Data → ℕ
 count_of_values [] = 0
 count_of_values (d ∷ ds) = suc (count d + count_of_values ds)
 
-pub values_below : (ks : List KeyData) (ds : List Data) → length ks ≡ length ds → count_of_values ds ≤ count_of_rows (rows_under ks ds)
+pub values_below : (ks : List KeyData) (ds : List Data) → length ks ≡ length ds → count_of_values ds ≤ count_of_rows (keyed_rows ks ds)
 values_below [] [] h = omega arith
 values_below [] (d ∷ ds) h = absurd cc
 values_below (k ∷ ks) [] h = omega arith
 values_below (k ∷ ks) (d ∷ ds) h = let rest : length ks ≡ length ds = cc in omega (arith, values_below ks ds rest)
 
-pub values_fewer : (ks : List KeyData) (ds : List Data) → length ks ≡ length ds → count_of_values ds < count (table (rows_under ks ds))
+pub values_fewer : (ks : List KeyData) (ds : List Data) → length ks ≡ length ds → count_of_values ds < count (table (keyed_rows ks ds))
 values_fewer ks ds h = omega (arith, values_below ks ds h)
 
 -- ## Lists
@@ -63,10 +63,10 @@ record Parts (ks ls : List KeyData) (ds es : List Data) : Type 0 where
   pub keys : ks ≡ ls
   pub values : ds ≡ es
 
-parts_of : (ks ls : List KeyData) (ds es : List Data) → length ks ≡ length ds → length ls ≡ length es → rows_under ks ds ≡ rows_under ls es → Parts ks ls ds es
+parts_of : (ks ls : List KeyData) (ds es : List Data) → length ks ≡ length ds → length ls ≡ length es → keyed_rows ks ds ≡ keyed_rows ls es → Parts ks ls ds es
 parts_of [] ls [] es g h e = none ls es h e
   where
-    none : (ls : List KeyData) (es : List Data) → length ls ≡ length es → no_rows ≡ rows_under ls es → Parts [] ls [] es
+    none : (ls : List KeyData) (es : List Data) → length ls ≡ length es → no_rows ≡ keyed_rows ls es → Parts [] ls [] es
     none [] [] h e = record { keys = refl; values = refl }
     none [] (y ∷ es) h e = absurd cc
     none (l ∷ ls) [] h e = absurd cc
@@ -80,19 +80,19 @@ parts_of (k ∷ ks) (l ∷ ls) (d ∷ ds) (y ∷ es) g h e =
     let many : length ls ≡ length es = cc in
     let first : k ≡ l = cc in
     let value : d ≡ y = cc in
-    let others : rows_under ks ds ≡ rows_under ls es = cc in
+    let others : keyed_rows ks ds ≡ keyed_rows ls es = cc in
     let p = parts_of ks ls ds es few many others in
     record { keys = ap (λ x. x ∷ ks) first ∙ ap (λ xs. l ∷ xs) p.keys; values = ap (λ x. x ∷ ds) value ∙ ap (λ xs. y ∷ xs) p.values }
 
-same_rows : (ks ls : List KeyData) (ds es : List Data) → table (rows_under ks ds) ≡ table (rows_under ls es) → rows_under ks ds ≡ rows_under ls es
+same_rows : (ks ls : List KeyData) (ds es : List Data) → table (keyed_rows ks ds) ≡ table (keyed_rows ls es) → keyed_rows ks ds ≡ keyed_rows ls es
 same_rows ks ls ds es e = cc
 
 pub same_tables : (ks ls : List KeyData) (ds es : List Data) (a b : Bool) → length ks ≡ length ds → length ls ≡ length es → a ≡ true → Same (IsTrue a) (ks ≡ ls) → Same (IsTrue b) (ds ≡ es)
-    → Same (IsTrue b) (table (rows_under ks ds) ≡ table (rows_under ls es))
+    → Same (IsTrue b) (table (keyed_rows ks ds) ≡ table (keyed_rows ls es))
 same_tables ks ls ds es a b g h is keys values = (
-  λ t. ap (λ ks. table (rows_under ks ds)) (keys.0 is) ∙ ap (λ ds. table (rows_under ls ds)) (values.0 t),
+  λ t. ap (λ ks. table (keyed_rows ks ds)) (keys.0 is) ∙ ap (λ ds. table (keyed_rows ls ds)) (values.0 t),
   λ e. values.1 (parts_of ks ls ds es g h (same_rows ks ls ds es e)).values,
 )
 
-pub other_keys : (ks ls : List KeyData) (ds es : List Data) (a : Bool) → length ks ≡ length ds → length ls ≡ length es → a ≡ false → Same (IsTrue a) (ks ≡ ls) → Same (IsTrue a) (table (rows_under ks ds) ≡ table (rows_under ls es))
+pub other_keys : (ks ls : List KeyData) (ds es : List Data) (a : Bool) → length ks ≡ length ds → length ls ≡ length es → a ≡ false → Same (IsTrue a) (ks ≡ ls) → Same (IsTrue a) (table (keyed_rows ks ds) ≡ table (keyed_rows ls es))
 other_keys ks ls ds es a g h isnt keys = (λ t. absurd (true≢false (sym t ∙ isnt)), λ e. keys.1 (parts_of ks ls ds es g h (same_rows ks ls ds es e)).keys)

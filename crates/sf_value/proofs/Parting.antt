@@ -5,7 +5,7 @@ use Rattle.std.specs.Prelude.{not}
 use Rattle.std.specs.List.{list_any}
 use Rattle.sf_value.specs.Values.{KeyData, Data, row, IsOneOf}
 use Rattle.sf_value.specs.Keys.{key_of, equal_keys, AreDifferentKeys}
-use Rattle.sf_value.specs.View.{rows_of, rows_under}
+use Rattle.sf_value.specs.View.{rows_of, keyed_rows}
 use Rattle.sf_value.specs.Tables.{IsFirstRepeatedKey}
 use Rattle.sf_value.specs.declared.value.Key.{Key}
 use Rattle.sf_value.proofs.Under.{rows_new}
@@ -20,7 +20,7 @@ keys_of es = map (λ (e : Entry). key_of e.0) es
 abbrev values_of : List Entry → List Data
 values_of es = map (λ (e : Entry). e.1) es
 
-rows_parted : (es : List Entry) → rows_under (keys_of es) (values_of es) ≡ rows_of es
+rows_parted : (es : List Entry) → keyed_rows (keys_of es) (values_of es) ≡ rows_of es
 rows_parted [] = refl
 rows_parted (e ∷ es) = ap (row (key_of e.0) e.1) (rows_parted es)
 
@@ -49,9 +49,9 @@ one_parted {more = more} k d p is keys values = record {
 pub as_many : {es left : List Entry} {ks : List KeyData} {ds : List Data} → Parted es left ks ds → length ks ≡ length ds
 as_many p = ap length p.keys ∙ length-map p.taken (λ (e : Entry). key_of e.0) ∙ sym (length-map p.taken (λ (e : Entry). e.1)) ∙ ap length (sym p.values)
 
-pub all_parted : {es left : List Entry} {ks : List KeyData} {ds : List Data} → Parted es left ks ds → length left ≡ 0 → rows_under ks ds ≡ rows_of es
+pub all_parted : {es left : List Entry} {ks : List KeyData} {ds : List Data} → Parted es left ks ds → length left ≡ 0 → keyed_rows ks ds ≡ rows_of es
 all_parted {es = es} {left = left} {ks = ks} {ds = ds} p none =
-    ap (λ ks. rows_under ks ds) p.keys ∙ ap (rows_under (keys_of p.taken)) p.values ∙ rows_parted p.taken ∙ ap rows_of (sym (p.cut ∙ ap (λ xs. p.taken ++ xs) (empty left none) ∙ append-nil p.taken))
+    ap (λ ks. keyed_rows ks ds) p.keys ∙ ap (keyed_rows (keys_of p.taken)) p.values ∙ rows_parted p.taken ∙ ap rows_of (sym (p.cut ∙ ap (λ xs. p.taken ++ xs) (empty left none) ∙ append-nil p.taken))
   where
     empty : (xs : List Entry) → length xs ≡ 0 → xs ≡ []
     empty [] h = refl

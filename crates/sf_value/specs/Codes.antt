@@ -52,15 +52,15 @@ abbrev pub values : List Mark → List Data
 values [] = []
 values (m ∷ ms) = put m (values ms)
 
-abbrev first : List Data → Data
-first [] = unit
-first (d ∷ ds) = d
+abbrev foremost : List Data → Data
+foremost [] = unit
+foremost (d ∷ ds) = d
 
 abbrev pub marks_of : Data → List Mark
 marks_of d = marks d []
 
-abbrev pub data_from : List Mark → Data
-data_from ms = first (values ms)
+abbrev pub decoded_data : List Mark → Data
+decoded_data ms = foremost (values ms)
 
 put-row_mark : (k : KeyData) (x : Data) (rs : Rows) (ds : List Data) → put (row_mark k) (x ∷ table rs ∷ ds) ≡ table (row k x rs) ∷ ds
 put-row_mark (number_key z) x rs ds = refl
@@ -81,5 +81,5 @@ mutual
   values-rows_marks no_rows more = refl
   values-rows_marks (row k x rs) more = ap (put (row_mark k)) (values-marks x (rows_marks rs more) ∙ ap (λ ds. x ∷ ds) (values-rows_marks rs more)) ∙ put-row_mark k x rs (values more)
 
-pub data_from-marks_of : (d : Data) → data_from (marks_of d) ≡ d
-data_from-marks_of d = ap first (values-marks d [])
+pub decoded_data-marks_of : (d : Data) → decoded_data (marks_of d) ≡ d
+decoded_data-marks_of d = ap foremost (values-marks d [])

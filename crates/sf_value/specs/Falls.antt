@@ -3,12 +3,12 @@ use Rattle.std.specs.Prelude.{◌≡◌, ◌+◌, ◌≤◌, max, List, [], ◌�
 use Rattle.std.proofs.Common.{arith}
 use denote.Param.Weighed.{most}
 use Rattle.sf_value.specs.Values.{KeyData, Data, count, count_of_rows}
-use Rattle.sf_value.specs.View.{data_of, rows_under, IsFilled}
+use Rattle.sf_value.specs.View.{data_of, keyed_rows, IsFilled}
 use Rattle.sf_value.specs.declared.value.Form.{Form}
 use Rattle.sf_value.specs.declared.value.Form.TheVariants.{Unit, Bool, Int, Text, Pair, NoEvent, Event, Table}
 use Rattle.sf_value.specs.declared.value.Value.TheDeep.{deep-Form}
 
-values_fit : (ks : List KeyData) (ds : List Data) → length ks ≡ length ds → most (λ d. count d + 1) ds ≤ count_of_rows (rows_under ks ds) + 1
+values_fit : (ks : List KeyData) (ds : List Data) → length ks ≡ length ds → most (λ d. count d + 1) ds ≤ count_of_rows (keyed_rows ks ds) + 1
 values_fit [] [] h = omega arith
 values_fit [] (d ∷ ds) h = absurd cc
 values_fit (k ∷ ks) [] h = omega arith

@@ -17,14 +17,14 @@ abbrev pub table_mark : KeyKind → KindMark
 table_mark int_keys = is_int_table
 table_mark text_keys = is_text_table
 
-abbrev pub kind_marks : Kind → List KindMark → List KindMark
-kind_marks unit_kind more = is_unit ∷ more
-kind_marks bool_kind more = is_bool ∷ more
-kind_marks int_kind more = is_int ∷ more
-kind_marks text_kind more = is_text ∷ more
-kind_marks (pair_kind t u) more = is_pair ∷ kind_marks t (kind_marks u more)
-kind_marks (event_kind t) more = is_event ∷ kind_marks t more
-kind_marks (table_kind k t) more = table_mark k ∷ kind_marks t more
+abbrev pub marked_kind : Kind → List KindMark → List KindMark
+marked_kind unit_kind more = is_unit ∷ more
+marked_kind bool_kind more = is_bool ∷ more
+marked_kind int_kind more = is_int ∷ more
+marked_kind text_kind more = is_text ∷ more
+marked_kind (pair_kind t u) more = is_pair ∷ marked_kind t (marked_kind u more)
+marked_kind (event_kind t) more = is_event ∷ marked_kind t more
+marked_kind (table_kind k t) more = table_mark k ∷ marked_kind t more
 
 -- the types of the marks after this one, and this one's
 abbrev pub put_kind : KindMark → List Kind → List Kind
@@ -47,23 +47,23 @@ first_kind [] = unit_kind
 first_kind (t ∷ ts) = t
 
 abbrev pub kind_marks_of : Kind → List KindMark
-kind_marks_of t = kind_marks t []
+kind_marks_of t = marked_kind t []
 
-abbrev pub kind_from : List KindMark → Kind
-kind_from ms = first_kind (kinds ms)
+abbrev pub decoded_kind : List KindMark → Kind
+decoded_kind ms = first_kind (kinds ms)
 
 put_kind-table_mark : (k : KeyKind) (t : Kind) (ts : List Kind) → put_kind (table_mark k) (t ∷ ts) ≡ table_kind k t ∷ ts
 put_kind-table_mark int_keys t ts = refl
 put_kind-table_mark text_keys t ts = refl
 
-kinds-kind_marks : (t : Kind) (more : List KindMark) → kinds (kind_marks t more) ≡ t ∷ kinds more
-kinds-kind_marks unit_kind more = refl
-kinds-kind_marks bool_kind more = refl
-kinds-kind_marks int_kind more = refl
-kinds-kind_marks text_kind more = refl
-kinds-kind_marks (pair_kind t u) more = ap (put_kind is_pair) (kinds-kind_marks t (kind_marks u more) ∙ ap (λ ts. t ∷ ts) (kinds-kind_marks u more))
-kinds-kind_marks (event_kind t) more = ap (put_kind is_event) (kinds-kind_marks t more)
-kinds-kind_marks (table_kind k t) more = ap (put_kind (table_mark k)) (kinds-kind_marks t more) ∙ put_kind-table_mark k t (kinds more)
+kinds-marked_kind : (t : Kind) (more : List KindMark) → kinds (marked_kind t more) ≡ t ∷ kinds more
+kinds-marked_kind unit_kind more = refl
+kinds-marked_kind bool_kind more = refl
+kinds-marked_kind int_kind more = refl
+kinds-marked_kind text_kind more = refl
+kinds-marked_kind (pair_kind t u) more = ap (put_kind is_pair) (kinds-marked_kind t (marked_kind u more) ∙ ap (λ ts. t ∷ ts) (kinds-marked_kind u more))
+kinds-marked_kind (event_kind t) more = ap (put_kind is_event) (kinds-marked_kind t more)
+kinds-marked_kind (table_kind k t) more = ap (put_kind (table_mark k)) (kinds-marked_kind t more) ∙ put_kind-table_mark k t (kinds more)
 
-pub kind_from-kind_marks_of : (t : Kind) → kind_from (kind_marks_of t) ≡ t
-kind_from-kind_marks_of t = ap first_kind (kinds-kind_marks t [])
+pub decoded_kind-kind_marks_of : (t : Kind) → decoded_kind (kind_marks_of t) ≡ t
+decoded_kind-kind_marks_of t = ap first_kind (kinds-marked_kind t [])

@@ -13,10 +13,10 @@ rows_of [] = no_rows
 rows_of (e ∷ es) = row (key_of e.0) e.1 (rows_of es)
 
 -- each value under the key at its place, as far as both lists go
-abbrev pub rows_under : List KeyData → List Data → Rows
-rows_under [] ds = no_rows
-rows_under (k ∷ ks) [] = no_rows
-rows_under (k ∷ ks) (d ∷ ds) = row k d (rows_under ks ds)
+abbrev pub keyed_rows : List KeyData → List Data → Rows
+keyed_rows [] ds = no_rows
+keyed_rows (k ∷ ks) [] = no_rows
+keyed_rows (k ∷ ks) (d ∷ ds) = row k d (keyed_rows ks ds)
 
 -- what a form means
 abbrev pub data_of : Form → Data
@@ -27,7 +27,7 @@ data_of (Text s) = text (string_bytes s.value)
 data_of (Pair x) = pair x.value.first x.value.second
 data_of NoEvent = no_event
 data_of (Event x) = event x.value
-data_of (Table t) = table (rows_under t.value.keys.value t.value.values.items)
+data_of (Table t) = table (keyed_rows t.value.keys.value t.value.values.items)
 
 -- a number is within signed 64 bits, a text is UTF-8, the keys of a table are different; this holds of each value that a value is made of
 abbrev pub IsProper : Data → Type 0

@@ -2,9 +2,9 @@
 ghost use Rattle.std.specs.Prelude.{◌≡◌, IfOk, IfErr, length, map};
 ghost use Rattle.std.specs.Option.{option_map};
 ghost use Rattle.sf_value.specs.Values.{table};
-ghost use Rattle.sf_value.specs.View.{key_of, rows_of, rows_under};
+ghost use Rattle.sf_value.specs.View.{key_of, rows_of, keyed_rows};
 ghost use Rattle.sf_value.specs.Tables.{RefusesRows};
-ghost use Rattle.sf_value.specs.Lookups.{value_under};
+ghost use Rattle.sf_value.specs.Lookups.{row_value};
 ghost use Rattle.sf_value.specs.declared.table.TableRefusal.TheVariants.{Memory};
 
 use crate::keys::Keys;
@@ -62,7 +62,7 @@ impl Value {
     /// A table of as many values as keys, each under the key at its place. It shares the keys, and takes memory for one node.
     pub fn under(alloc: Global, keys: Rc<Keys>, values: Vec<Value>) -> Result<Value, AllocError>
         requires { length keys.value ≡ length values.items }
-        ensures { IfOk result (λ v. v ≡ table (rows_under keys.value values.items)) }
+        ensures { IfOk result (λ v. v ≡ table (keyed_rows keys.value values.items)) }
     {
         let _different = keys.all();
         let table = Rc::new(alloc, Table { keys, values })?;
@@ -87,7 +87,7 @@ impl Table {
     /// The value under a key.
     pub(crate) fn get(&self, key: &Key) -> Option<&Value>
         requires { length self.now.keys.value ≡ length self.now.values.items }
-        ensures { option_map (λ v. v.now) result ≡ value_under (key_of key.now) (rows_under self.now.keys.value self.now.values.items) }
+        ensures { option_map (λ v. v.now) result ≡ row_value (key_of key.now) (keyed_rows self.now.keys.value self.now.values.items) }
     {
         let place = self.keys.place(key)?;
         Some(&self.values[place])

@@ -78,11 +78,11 @@ impl Model for Ty {
     ghost use Rattle.std.specs.Prelude.{◌≤◌, List};
     ghost use Rattle.sf_value.specs.Values.{Kind, nodes};
     ghost use Rattle.std.specs.Coded.{code_by, codes};
-    ghost use Rattle.sf_value.specs.KindCodes.{KindMark, kind_marks_of, kind_from, kind_from-kind_marks_of};
+    ghost use Rattle.sf_value.specs.KindCodes.{KindMark, kind_marks_of, decoded_kind, decoded_kind-kind_marks_of};
 
     ghost Value = { Kind };
 
-    ghost coded = { code_by (List KindMark) (Prim.hlevel codes) kind_marks_of kind_from kind_from-kind_marks_of };
+    ghost coded = { code_by (List KindMark) (Prim.hlevel codes) kind_marks_of decoded_kind decoded_kind-kind_marks_of };
 
     ghost use Rattle.sf_value.specs.KindView.{kind_of};
 

@@ -12,8 +12,8 @@ use Rattle.sf_mean.proofs.Once.{once}
 use Rattle.sf_optimise.specs.Optimised.{IsOptimisedPlan}
 use Rattle.sf_state.specs.declared.state.State.{State}
 use Rattle.sf_state.specs.Standing.{Stands}
-use Rattle.sf_parts.specs.declared.meter.Meter.{Meter}
-use Rattle.sf_parts.specs.Meters.{entered_of}
+use Rattle.sf_meter.specs.declared.meter.Meter.{Meter}
+use Rattle.sf_meter.specs.Meters.{entered_of}
 use Rattle.sf_step.specs.Stepping.{Steps, stepped}
 use Rattle.sf_engine.specs.Planned.{main_of_plan, MeansTheSame}
 use Rattle.sf_engine.proofs.Planned.{optimised_runs}

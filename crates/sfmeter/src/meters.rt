@@ -1,7 +1,7 @@
 //! The two plans of a network, side by side.
 ghost use Rattle.std.specs.Prelude.{◌≡◌, ◌≤◌, [], ◌∷◌, IfOk};
 ghost use Rattle.sf_func.specs.Registries.{AnswersByName};
-ghost use Rattle.sf_law.specs.declared.plan.Plan.{Plan as PlanOf};
+ghost use Rattle.sf_law.specs.declared.plan.Plan as plan_forms;
 ghost use Rattle.sf_mean.specs.Lives.{step, Life};
 ghost use Rattle.sfmeter.specs.Abreast.{HaveComeTo, AreAbreast};
 
@@ -39,7 +39,7 @@ struct Moment {
 impl Moment {
     /// The same, over the same nodes of the states.
     fn share(&self, alloc: Global) -> Result<Moment, AllocError>
-        ensures { IfOk result (λ same. (φ : AnswersByName) (p q : PlanOf) (L : Life) → HaveComeTo φ p q self.now L → HaveComeTo φ p q same L) }
+        ensures { IfOk result (λ same. (φ : AnswersByName) (p q : plan_forms.Plan) (L : Life) → HaveComeTo φ p q self.now L → HaveComeTo φ p q same L) }
     {
         Ok(Moment {
             plain: self.plain.share(alloc)?,

@@ -21,7 +21,7 @@ impl<F: Holds> Engine<F> {
     ghost use Rattle.sf_mean.specs.Meaning.{Network};
     ghost use Rattle.sf_engine.specs.declared.engine.Sample.{Sample};
     ghost use Rattle.sf_engine.specs.Histories.{Saves};
-    ghost use Rattle.sf_engine.specs.Running.{Runs, IsStopped, StopsWith};
+    ghost use Rattle.sf_engine.specs.Running.{Runs, IsStopped, EngineStops};
     ghost use Rattle.sf_engine.specs.Embedding.{Embeds, Follows};
 
     /// The samples of a start and of each step after it, up to the first error. An error of a step ends them; one of the
@@ -35,7 +35,7 @@ impl<F: Holds> Engine<F> {
     ) -> Result<Embedded, EngineError>
         ensures running { (n : Network) (m : Template) (L : Life) (S : Saves) → Runs self.old n m L S →
             Embeds n m L S value steps.items result self.new }
-        ensures stopped { (f : Fault) → IsStopped self.old f → StopsWith f result self.new }
+        ensures stopped { (f : Fault) → IsStopped self.old f → EngineStops f result self.new }
     {
         self.look_at_start(&value)?;
         let Ok(mut samples) = Vec::with_capacity(self.alloc, steps.len() + 1) else {

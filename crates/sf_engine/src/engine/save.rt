@@ -45,8 +45,8 @@ impl<F: Holds> Engine<F> {
     ghost use Rattle.sf_term.specs.Trees.{Template};
     ghost use Rattle.sf_mean.specs.Lives.{Life};
     ghost use Rattle.sf_mean.specs.Meaning.{Network};
-    ghost use Rattle.sf_engine.specs.Histories.{Saves, MaySave, keep_under};
-    ghost use Rattle.sf_engine.specs.Running.{Runs, IsStopped, StopsWith, last_of};
+    ghost use Rattle.sf_engine.specs.Histories.{Saves, MaySave, save_kept};
+    ghost use Rattle.sf_engine.specs.Running.{Runs, IsStopped, EngineStops, last_of};
     ghost use Rattle.sf_engine.specs.Saving.{Saved, Returned};
 
     /// Keeps the state, the time and the last input under a name, in place of what was kept under it.
@@ -55,7 +55,7 @@ impl<F: Holds> Engine<F> {
     pub fn save(&mut self, name: &str) -> Result<(), EngineError>
         ensures running { (n : Network) (m : Template) (L : Life) (S : Saves) → Runs self.old n m L S →
             Saved n m L S name.now result self.new }
-        ensures stopped { (f : Fault) → IsStopped self.old f → StopsWith f result self.new }
+        ensures stopped { (f : Fault) → IsStopped self.old f → EngineStops f result self.new }
     {
         if let Some(fault) = self.stopped {
             return Err(EngineError::Stopped(fault));
@@ -78,7 +78,7 @@ impl<F: Holds> Engine<F> {
     pub fn back(&mut self, name: &str) -> Result<(), EngineError>
         ensures running { (n : Network) (m : Template) (L : Life) (S : Saves) → Runs self.old n m L S →
             Returned n m L S name.now result self.new }
-        ensures stopped { (f : Fault) → IsStopped self.old f → StopsWith f result self.new }
+        ensures stopped { (f : Fault) → IsStopped self.old f → EngineStops f result self.new }
     {
         if let Some(fault) = self.stopped {
             return Err(EngineError::Stopped(fault));
@@ -108,7 +108,7 @@ impl<F: Holds> Engine<F> {
     /// Keeps what the engine has come to under a name. For want of memory it is left as it was.
     fn keep(&mut self, name: &str) -> Result<(), AllocError>
         requires { last_of self.old ≢ None }
-        ensures kept { OnOk result ((n : Network) (m : Template) (L : Life) (S : Saves) → Runs self.old n m L S → Runs self.new n m L (keep_under name.now L S)) }
+        ensures kept { OnOk result ((n : Network) (m : Template) (L : Life) (S : Saves) → Runs self.old n m L S → Runs self.new n m L (save_kept name.now L S)) }
         ensures unchanged { OnErr result ((n : Network) (m : Template) (L : Life) (S : Saves) → Runs self.old n m L S → Runs self.new n m L S) }
     {
         let key = String::from_str(self.alloc, name)?;

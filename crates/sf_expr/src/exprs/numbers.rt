@@ -2,7 +2,7 @@
 ghost use Rattle.std.specs.Prelude.{◌≡◌, IfOk, OnOk};
 ghost use Rattle.std.specs.List.{AllZip};
 ghost use Rattle.sf_expr.specs.Patterns.{pattern_of};
-ghost use Rattle.sf_expr.specs.Numbered.{number_at, numbered_at, AreNumbers, IsNumber, KeepsNumbers, IsNumbered};
+ghost use Rattle.sf_expr.specs.Numbered.{number_at, numbered_pattern, AreNumbers, IsNumber, ExtendsNumbers, IsNumbered};
 
 use super::{Exprs, NameId, PatternId};
 use crate::pat::{Pat, PatForm};
@@ -74,9 +74,9 @@ impl Numbers {
     }
 
     /// A pattern, of which each name is its number.
-    #[tactic(auto, unfolding(crate::specs::Numbered::numbered_at))]
+    #[tactic(auto, unfolding(crate::specs::Numbered::numbered_pattern))]
     pub fn pattern(&self, pattern: PatternId) -> &NumberedPattern
-        ensures { result.now ≡ numbered_at self.now pattern }
+        ensures { result.now ≡ numbered_pattern self.now pattern }
     {
         match self.patterns.get(pattern.0) {
             Some(numbered) => numbered,
@@ -87,7 +87,7 @@ impl Numbers {
 
 // The number of a text.
 fn number_of<'a>(texts: &mut IndexSet<&'a str>, text: &'a str) -> Result<usize, AllocError>
-    ensures kept { OnOk result (KeepsNumbers texts.old.keys texts.new.keys) }
+    ensures kept { OnOk result (ExtendsNumbers texts.old.keys texts.new.keys) }
     ensures given { IfOk result (λ number. IsNumber texts.new.keys text.now number) }
 {
     let (number, _) = texts.insert_full(text)?;
@@ -100,7 +100,7 @@ fn numbers_of<'a>(
     texts: &mut IndexSet<&'a str>,
     names: &'a [StoredName],
 ) -> Result<Vec<usize>, AllocError>
-    ensures kept { OnOk result (KeepsNumbers texts.old.keys texts.new.keys) }
+    ensures kept { OnOk result (ExtendsNumbers texts.old.keys texts.new.keys) }
     ensures given { IfOk result (λ numbers. AllZip (IsNumber texts.new.keys) names.now numbers.items) }
 {
     let mut numbers = Vec::with_capacity(alloc, names.len())?;
@@ -117,7 +117,7 @@ fn numbered<'a>(
     texts: &mut IndexSet<&'a str>,
     pattern: &'a Pat,
 ) -> Result<NumberedPattern, AllocError>
-    ensures kept { OnOk result (KeepsNumbers texts.old.keys texts.new.keys) }
+    ensures kept { OnOk result (ExtendsNumbers texts.old.keys texts.new.keys) }
     ensures given { IfOk result (λ numbers. IsNumbered texts.new.keys (pattern_of pattern.now) numbers) }
 {
     match pattern.form() {
@@ -142,7 +142,7 @@ fn numbered_each<'a>(
     texts: &mut IndexSet<&'a str>,
     patterns: &'a [Pat],
 ) -> Result<Vec<NumberedPattern>, AllocError>
-    ensures kept { OnOk result (KeepsNumbers texts.old.keys texts.new.keys) }
+    ensures kept { OnOk result (ExtendsNumbers texts.old.keys texts.new.keys) }
     ensures given { IfOk result (λ each. AllZip (λ p numbers. IsNumbered texts.new.keys (pattern_of p) numbers) patterns.now each.items) }
 {
     let mut each = Vec::with_capacity(alloc, patterns.len())?;

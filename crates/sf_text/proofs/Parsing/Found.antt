@@ -13,14 +13,15 @@ use Rattle.sf_operator.specs.declared.operator.Mapping.TheVariants as mappings
 use Rattle.sf_operator.specs.declared.operator.Folding.{Folding}
 use Rattle.sf_expr.specs.declared.exprs.ExprId.{ExprId}
 use Rattle.sf_expr.specs.declared.exprs.ExprNode.{ExprNode}
-use Rattle.sf_expr.specs.Expressions.{Literal, Pattern, Expression, variable, literal, none_literal, paired, applied, operation, conditional, mapped, folded, called, depth as expression_depth, size, function, function_depth}
+use Rattle.sf_expr.specs.Expressions.{Literal, Pattern, Expression, variable, literal, none_literal, paired, applied, operation, conditional, mapped, folded, called, size, function, function_depth}
+use Rattle.sf_expr.specs.Expressions
 use Rattle.sf_term.specs.declared.program.Program.{Program}
 use Rattle.sf_term.specs.declared.refusal.BuildRefusal.{BuildRefusal}
 use Rattle.sf_term.specs.declared.refusal.BuildRefusal.TheVariants as refusals
 use Rattle.sf_term.specs.Names.{HasNames}
 use Rattle.sf_term.specs.Building.{IsDue, BuildsExpression}
-use Rattle.sf_term.specs.Arena.{expression_under as expression_in, term_count, expression_count, KeepsTrees, KeepsProgram, AddsExpression}
-use Rattle.sf_term.proofs.Kept.{few_program_expressions, keeps_trans}
+use Rattle.sf_term.specs.Arena.{term_count, expression_count, ExtendsTrees, ExtendsProgram, AddsExpression, program_expression}
+use Rattle.sf_term.proofs.Extended.{few_program_expressions, keeps_trans}
 use Rattle.sf_refusal.specs.declared.spot.Spot.{Spot}
 use Rattle.sf_lex.specs.declared.symbol.Symbol.TheVariants as symbols
 use Rattle.sf_lex.specs.declared.word.Keyword.TheVariants as words
@@ -35,7 +36,7 @@ use Rattle.sf_text.specs.Parsing.Answers.{StopsReading, FoundExpression, FoundMa
 use Rattle.sf_grammar.proofs.Takes.{TookType, TookPattern, TookExpression, TookFunction, inner_type_takes, pattern_takes, expression_takes, function_takes}
 
 -- a program keeps what is in it
-keeps_trees_self : (p : Program) → KeepsTrees p p
+keeps_trees_self : (p : Program) → ExtendsTrees p p
 keeps_trees_self p = record {
   terms = λ t h. h;
   nodes = λ t h. refl;
@@ -59,7 +60,7 @@ keeps_trees_self p = record {
   collections = λ c h. refl;
 }
 
-pub keeps_self : (p : Program) → KeepsProgram p p
+pub keeps_self : (p : Program) → ExtendsProgram p p
 keeps_self p = record { trees = keeps_trees_self p; headers = refl; templates = refl; spots = refl }
 
 past : {A : Type 0} (n : ℕ) (a : A) (start rest : List Tok) → 100000 < n → (if nat_le n 100000 then got a rest else stop TooMany start) ≡ stop TooMany start
@@ -85,7 +86,7 @@ pub record ReadyExpression (old mid : Program) (built : Expression) (start rest 
   pub value : Expression
   pub is : read ≡ expression_read (counts_of old) value start rest
   pub same : built ≡ value
-  pub shallow : expression_depth value ≤ 64
+  pub shallow : Expressions.depth value ≤ 64
   pub expressions : expression_count mid + 1 ≡ expression_count old + size value
 
 pub read_within : {A : Type 0} (n : ℕ) (a : A) (start rest : List Tok) → n ≤ 100000 → (if nat_le n 100000 then got a rest else stop TooMany start) ≡ got a rest
@@ -93,7 +94,7 @@ read_within n a start rest h = elim (leb_tells n 100000) [ inl p ↦ ap (λ (b :
 
 -- an expression whose parts were read was added to the program
 pub expression_found : {old mid new : Program} {id : ExprId} {node : ExprNode} {built : Expression} {spot : Spot} {start rest : List Tok} {read : Read Expression}
-    → ReadyExpression old mid built start rest read → KeepsProgram old mid → term_count mid ≡ term_count old → AddsExpression mid new id node built spot → FoundExpression old new id rest read
+    → ReadyExpression old mid built start rest read → ExtendsProgram old mid → term_count mid ≡ term_count old → AddsExpression mid new id node built spot → FoundExpression old new id rest read
 expression_found {old} {mid} {new} {start = start} {rest = rest} ready kept terms added = record {
   value = ready.value;
   is = ready.is ∙ read_within (expression_count old + size ready.value) ready.value start rest (omega (arith, few_program_expressions new, ready.expressions, added.expression_counted));
@@ -106,13 +107,13 @@ expression_found {old} {mid} {new} {start = start} {rest = rest} ready kept term
 
 -- an expression whose parts were read was given to the program
 pub expression_built : {old mid : Program} {built : Expression} {start rest : List Tok} {read : Read Expression} {Named : Type 0} (new : Program) (node : ExprNode) (spot : Spot) (left : ℕ) (added : Result ExprId BuildRefusal) (answer : Result ExprId Stop)
-    → ReadyExpression old mid built start rest read → KeepsProgram old mid → term_count mid ≡ term_count old → length start ≡ left → answer ≡ built_as left added → BuildsExpression mid new added node built spot Named → Named → ReadsInto old new rest answer read
+    → ReadyExpression old mid built start rest read → ExtendsProgram old mid → term_count mid ≡ term_count old → length start ≡ left → answer ≡ built_as left added → BuildsExpression mid new added node built spot Named → Named → ReadsInto old new rest answer read
 expression_built {old = old} {rest = rest} {read = read} new node spot left (Ok id) answer ready kept terms counted is builds named =
     subst (λ (a : Result ExprId Stop). ReadsInto old new rest a read) (sym is) (expression_found ready kept terms builds.ok)
 expression_built {old = old} {mid = mid} {built = built} {start = start} {rest = rest} {read = read} new node spot left (Err refusal) answer ready kept terms counted is builds named =
-    let deep : expression_depth built ≡ expression_depth ready.value = ap expression_depth ready.same in
+    let deep : Expressions.depth built ≡ Expressions.depth ready.value = ap Expressions.depth ready.same in
     subst (λ (a : Result ExprId Stop). ReadsInto old new rest a read) (sym is)
-    (refused_as_read (expression_count mid) (expression_depth built) (expression_count old + size ready.value) ready.value start left rest read refusal counted ready.is builds.refused.due (λ full. omega (arith, full, ready.expressions)) (omega (arith, ready.shallow)) named)
+    (refused_as_read (expression_count mid) (Expressions.depth built) (expression_count old + size ready.value) ready.value start left rest read refusal counted ready.is builds.refused.due (λ full. omega (arith, full, ready.expressions)) (omega (arith, ready.shallow)) named)
 
 -- what holds of what a program took holds of what is answered
 pub if_built : {X : Type 0} (P Q : X → Type 0) (left : ℕ) (added : Result X BuildRefusal) (answer : Result X Stop) → answer ≡ built_as left added → IfOk added P → ((x : X) → P x → Q x) → IfOk answer Q
@@ -149,8 +150,8 @@ behind_expression old mid e terms expressions = rw (terms, expressions) refl
 -- a part of an expression was read into the program, which had so many before
 record Part (v : Version) (d : ℕ) (c : Counts) (new : Program) (id : ExprId) (tokens rest : List Tok) (value : Expression) : Type 0 where
   pub is : parse_expression d v c tokens ≡ got value rest
-  pub same : expression_in new id ≡ value
-  pub shallow : expression_depth value ≤ d
+  pub same : program_expression new id ≡ value
+  pub shallow : Expressions.depth value ≤ d
   pub expressions : expression_count new ≡ c.expressions + size value
   pub counted : counts_of new ≡ counts_with_expression c value
 
@@ -168,29 +169,29 @@ part v {old} {new} {id} {rest} d c tokens same f =
 
 -- an operator on one expression
 applied_ready : (v : Version) {old mid : Program} {start rest r : List Tok} {a : ExprId} {read : Read Expression} (d : ℕ) (tokens : List Tok) (o : Unary) → d ≤ 63 → (f : FoundExpression old mid a r (parse_expression d v (counts_of old) tokens))
-    → read ≡ expression_read (counts_of old) (applied o f.value) start rest → ReadyExpression old mid (applied o (expression_in mid a)) start rest read
+    → read ≡ expression_read (counts_of old) (applied o f.value) start rest → ReadyExpression old mid (applied o (program_expression mid a)) start rest read
 applied_ready v {old} {mid} {start} {rest} {r} {a} {read} d tokens o small f is =
     let one = part v d (counts_of old) tokens refl f in
     record { value = applied o f.value; is = is; same = ap (applied o) one.same; shallow = omega (arith, one.shallow); expressions = omega (arith, one.expressions) }
 
 pub prefixed_ready : (v : Version) {old mid : Program} {start rest : List Tok} {a : ExprId} {o : Unary} (d : ℕ) (tokens : List Tok) → d ≤ 63 → FoundExpression old mid a rest (parse_expression d v (counts_of old) tokens)
-    → ReadyExpression old mid (applied o (expression_in mid a)) start rest (parse_prefixed (parse_expression d v) (counts_of old) o start tokens)
+    → ReadyExpression old mid (applied o (program_expression mid a)) start rest (parse_prefixed (parse_expression d v) (counts_of old) o start tokens)
 unfolding parse_prefixed
 prefixed_ready v {o = o} d tokens small f = applied_ready v d tokens o small f (rw f.is refl)
 
 pub one_in_brackets_ready : (v : Version) {old mid : Program} {start r0 r1 rest : List Tok} {a : ExprId} {o : Unary} (d : ℕ) (tokens : List Tok) → d ≤ 63 → parse_symbol symbols.Open tokens ≡ got tt r0
     → FoundExpression old mid a r1 (parse_expression d v (counts_of old) r0) → parse_symbol symbols.Close r1 ≡ got tt rest
-    → ReadyExpression old mid (applied o (expression_in mid a)) start rest (parse_one_in_brackets (parse_expression d v) (counts_of old) o start tokens)
+    → ReadyExpression old mid (applied o (program_expression mid a)) start rest (parse_one_in_brackets (parse_expression d v) (counts_of old) o start tokens)
 unfolding parse_one_in_brackets
 one_in_brackets_ready v {r0 = r0} {o = o} d tokens small opening f closing = applied_ready v d r0 o small f (rw (opening, f.is, closing) refl)
 
 -- two expressions were read, one behind the other
 record Two (v : Version) (d : ℕ) (c : Counts) (new : Program) (a b : ExprId) (r2 r3 : List Tok) (x y : Expression) : Type 0 where
   pub second : parse_expression d v (counts_with_expression c x) r2 ≡ got y r3
-  pub first_same : expression_in new a ≡ x
-  pub second_same : expression_in new b ≡ y
-  pub first_shallow : expression_depth x ≤ d
-  pub second_shallow : expression_depth y ≤ d
+  pub first_same : program_expression new a ≡ x
+  pub second_same : program_expression new b ≡ y
+  pub first_shallow : Expressions.depth x ≤ d
+  pub second_shallow : Expressions.depth y ≤ d
   pub expressions : expression_count new ≡ c.expressions + size x + size y
   pub counted : counts_of new ≡ counts_with_expression (counts_with_expression c x) y
 
@@ -212,14 +213,14 @@ two_parts v {old} {one} {two} {r1} {r3} {a} {b} d tokens r2 f g =
 -- two expressions, of which one is made
 two_ready : (v : Version) {old one two : Program} {start r1 r3 rest : List Tok} {a b : ExprId} {read : Read Expression} (d : ℕ) (tokens r2 : List Tok) (l : Link) → d ≤ 63
     → (f : FoundExpression old one a r1 (parse_expression d v (counts_of old) tokens)) → (g : FoundExpression one two b r3 (parse_expression d v (counts_of one) r2))
-    → read ≡ expression_read (counts_of old) (linked l f.value g.value) start rest → ReadyExpression old two (linked l (expression_in two a) (expression_in two b)) start rest read
+    → read ≡ expression_read (counts_of old) (linked l f.value g.value) start rest → ReadyExpression old two (linked l (program_expression two a) (program_expression two b)) start rest read
 two_ready v {old} {one} {two} {start} {r1} {r3} {rest} {a} {b} {read} d tokens r2 l small f g is =
     let parts = two_parts v d tokens r2 f g in
     of_link l is parts.first_same parts.second_same parts.first_shallow parts.second_shallow parts.expressions
   where
-    of_link : (l : Link) → read ≡ expression_read (counts_of old) (linked l f.value g.value) start rest → expression_in two a ≡ f.value → expression_in two b ≡ g.value
-        → expression_depth f.value ≤ d → expression_depth g.value ≤ d → expression_count two ≡ expression_count old + size f.value + size g.value
-        → ReadyExpression old two (linked l (expression_in two a) (expression_in two b)) start rest read
+    of_link : (l : Link) → read ≡ expression_read (counts_of old) (linked l f.value g.value) start rest → program_expression two a ≡ f.value → program_expression two b ≡ g.value
+        → Expressions.depth f.value ≤ d → Expressions.depth g.value ≤ d → expression_count two ≡ expression_count old + size f.value + size g.value
+        → ReadyExpression old two (linked l (program_expression two a) (program_expression two b)) start rest read
     of_link links.Pair is first second shallow other expressions =
         record { value = paired f.value g.value; is = is; same = rw (first, second) refl; shallow = omega (arith, shallow, other); expressions = omega (arith, expressions) }
     of_link (links.Operation o) is first second shallow other expressions =
@@ -228,14 +229,14 @@ two_ready v {old} {one} {two} {start} {r1} {r3} {rest} {a} {b} {read} d tokens r
 -- two expressions in brackets
 pub linked_ready : (v : Version) {old one two : Program} {start r1 r2 r3 rest : List Tok} {a b : ExprId} {l : Link} (d : ℕ) (tokens : List Tok) → d ≤ 63 → FoundExpression old one a r1 (parse_expression d v (counts_of old) tokens)
     → parse_link r1 ≡ got l r2 → FoundExpression one two b r3 (parse_expression d v (counts_of one) r2) → parse_symbol symbols.Close r3 ≡ got tt rest
-    → ReadyExpression old two (linked l (expression_in two a) (expression_in two b)) start rest (parse_linked (parse_expression d v) (counts_of old) start tokens)
+    → ReadyExpression old two (linked l (program_expression two a) (program_expression two b)) start rest (parse_linked (parse_expression d v) (counts_of old) start tokens)
 unfolding parse_linked
 linked_ready v {r2 = r2} {l = l} d tokens small f linking g closing =
     let parts = two_parts v d tokens r2 f g in two_ready v d tokens r2 l small f g (rw (f.is, linking, parts.second, closing) refl)
 
 pub two_in_brackets_ready : (v : Version) {old one two : Program} {start r0 r1 r2 r3 rest : List Tok} {a b : ExprId} {o : Operator} (d : ℕ) (tokens : List Tok) → d ≤ 63 → parse_symbol symbols.Open tokens ≡ got tt r0
     → FoundExpression old one a r1 (parse_expression d v (counts_of old) r0) → parse_symbol symbols.Comma r1 ≡ got tt r2 → FoundExpression one two b r3 (parse_expression d v (counts_of one) r2)
-    → parse_symbol symbols.Close r3 ≡ got tt rest → ReadyExpression old two (operation (expression_in two a) o (expression_in two b)) start rest (parse_two_in_brackets (parse_expression d v) (counts_of old) o start tokens)
+    → parse_symbol symbols.Close r3 ≡ got tt rest → ReadyExpression old two (operation (program_expression two a) o (program_expression two b)) start rest (parse_two_in_brackets (parse_expression d v) (counts_of old) o start tokens)
 unfolding parse_two_in_brackets
 two_in_brackets_ready v {r0 = r0} {r2 = r2} {o = o} d tokens small opening f comma g closing =
     let parts = two_parts v d r0 r2 f g in two_ready v d r0 r2 (links.Operation o) small f g (rw (opening, f.is, comma, parts.second, closing) refl)
@@ -244,13 +245,13 @@ two_in_brackets_ready v {r0 = r0} {r2 = r2} {o = o} d tokens small opening f com
 pub conditional_ready : (v : Version) {old one two three : Program} {start r1 r2 r3 r4 rest : List Tok} {a b c : ExprId} (d : ℕ) (tokens : List Tok) → d ≤ 63 → FoundExpression old one a r1 (parse_expression d v (counts_of old) tokens)
     → parse_keyword words.Then r1 ≡ got tt r2 → FoundExpression one two b r3 (parse_expression d v (counts_of one) r2) → parse_keyword words.Else r3 ≡ got tt r4
     → FoundExpression two three c rest (parse_expression d v (counts_of two) r4)
-    → ReadyExpression old three (conditional (expression_in three a) (expression_in three b) (expression_in three c)) start rest (parse_conditional (parse_expression d v) (counts_of old) start tokens)
+    → ReadyExpression old three (conditional (program_expression three a) (program_expression three b) (program_expression three c)) start rest (parse_conditional (parse_expression d v) (counts_of old) start tokens)
 unfolding parse_conditional
 conditional_ready v {old} {three = three} {r2 = r2} {r4 = r4} {a = a} {b = b} d tokens small f then_word g else_word h =
     let parts = two_parts v d tokens r2 f g in
     let third = part v d (counts_with_expression (counts_with_expression (counts_of old) f.value) g.value) r4 parts.counted h in
-    let first_same : expression_in three a ≡ f.value = h.kept.trees.values a (g.kept.trees.expressions a f.held) ∙ parts.first_same in
-    let second_same : expression_in three b ≡ g.value = h.kept.trees.values b g.held ∙ parts.second_same in
+    let first_same : program_expression three a ≡ f.value = h.kept.trees.values a (g.kept.trees.expressions a f.held) ∙ parts.first_same in
+    let second_same : program_expression three b ≡ g.value = h.kept.trees.values b g.held ∙ parts.second_same in
     record {
       value = conditional f.value g.value h.value;
       is = rw (f.is, then_word, parts.second, else_word, third.is) refl;
@@ -276,7 +277,7 @@ mapping_found v d tokens pattern leads names f = record {
 -- the pattern and the expression of a function were read, the expression into the program, which had so many before
 record MappingPart (v : Version) (d : ℕ) (c : Counts) (new : Program) (id : ExprId) (tokens rest : List Tok) (p : Pattern) (value : Expression) : Type 0 where
   pub is : parse_mapping d (parse_expression d v) c tokens ≡ got (function p value) rest
-  pub same : expression_in new id ≡ value
+  pub same : program_expression new id ≡ value
   pub shallow : function_depth (function p value) ≤ d
   pub expressions : expression_count new ≡ c.expressions + size value
 
@@ -291,7 +292,7 @@ mapping_part v {old} {new} {id} {p} {rest} d c tokens same f =
 pub let_ready : (v : Version) {old one two : Program} {start r0 r1 r2 r3 rest : List Tok} {a b : ExprId} {p : Pattern} (d : ℕ) (tokens : List Tok) → d ≤ 63 → parse_pattern d tokens ≡ got p r0
     → parse_symbol symbols.Equals r0 ≡ got tt r1 → FoundExpression old one a r2 (parse_expression d v (counts_of old) r1) → parse_keyword words.In r2 ≡ got tt r3
     → FoundExpression one two b rest (parse_expression d v (counts_of one) r3)
-    → ReadyExpression old two (mapped (expression_in two a) mappings.Let p (expression_in two b)) start rest (parse_let d (parse_expression d v) (counts_of old) start tokens)
+    → ReadyExpression old two (mapped (program_expression two a) mappings.Let p (program_expression two b)) start rest (parse_let d (parse_expression d v) (counts_of old) start tokens)
 unfolding parse_let
 let_ready v {r0 = r0} {r1 = r1} {r3 = r3} {p = p} d tokens small pattern equals f in_word g =
     let parts = two_parts v d r1 r3 f g in
@@ -308,7 +309,7 @@ let_ready v {r0 = r0} {r1 = r1} {r3 = r3} {p = p} d tokens small pattern equals 
 pub one_and_function_ready : (v : Version) {old one two : Program} {start r0 r1 r2 r3 rest : List Tok} {a b : ExprId} {p : Pattern} {m : Mapping} (d : ℕ) (tokens : List Tok) → d ≤ 63 → parse_symbol symbols.Open tokens ≡ got tt r0
     → FoundExpression old one a r1 (parse_expression d v (counts_of old) r0) → parse_symbol symbols.Comma r1 ≡ got tt r2
     → FoundMapping one two p b r3 (parse_mapping d (parse_expression d v) (counts_of one) r2) → parse_symbol symbols.Close r3 ≡ got tt rest
-    → ReadyExpression old two (mapped (expression_in two a) m p (expression_in two b)) start rest (parse_one_and_function d (parse_expression d v) (counts_of old) m start tokens)
+    → ReadyExpression old two (mapped (program_expression two a) m p (program_expression two b)) start rest (parse_one_and_function d (parse_expression d v) (counts_of old) m start tokens)
 unfolding parse_one_and_function
 one_and_function_ready v {old} {r0 = r0} {r2 = r2} {a = a} {p = p} {m = m} d tokens small opening f comma g closing =
     let first = part v d (counts_of old) r0 refl f in
@@ -326,13 +327,13 @@ pub two_and_function_ready : (v : Version) {old one two three : Program} {start 
     → parse_symbol symbols.Open tokens ≡ got tt r0 → FoundExpression old one a r1 (parse_expression d v (counts_of old) r0) → parse_symbol symbols.Comma r1 ≡ got tt r2
     → FoundExpression one two b r3 (parse_expression d v (counts_of one) r2) → parse_symbol symbols.Comma r3 ≡ got tt r4
     → FoundMapping two three p c r5 (parse_mapping d (parse_expression d v) (counts_of two) r4) → parse_symbol symbols.Close r5 ≡ got tt rest
-    → ReadyExpression old three (folded (expression_in three a) o (expression_in three b) p (expression_in three c)) start rest (parse_two_and_function d (parse_expression d v) (counts_of old) o start tokens)
+    → ReadyExpression old three (folded (program_expression three a) o (program_expression three b) p (program_expression three c)) start rest (parse_two_and_function d (parse_expression d v) (counts_of old) o start tokens)
 unfolding parse_two_and_function
 two_and_function_ready v {old} {three = three} {r0 = r0} {r2 = r2} {r4 = r4} {a = a} {b = b} {p = p} {o = o} d tokens small opening f comma g second_comma h closing =
     let parts = two_parts v d r0 r2 f g in
     let third = mapping_part v d (counts_with_expression (counts_with_expression (counts_of old) f.value) g.value) r4 parts.counted h in
-    let first_same : expression_in three a ≡ f.value = h.kept.trees.values a (g.kept.trees.expressions a f.held) ∙ parts.first_same in
-    let second_same : expression_in three b ≡ g.value = h.kept.trees.values b g.held ∙ parts.second_same in
+    let first_same : program_expression three a ≡ f.value = h.kept.trees.values a (g.kept.trees.expressions a f.held) ∙ parts.first_same in
+    let second_same : program_expression three b ≡ g.value = h.kept.trees.values b g.held ∙ parts.second_same in
     record {
       value = folded f.value o g.value p h.value;
       is = rw (opening, f.is, comma, parts.second, second_comma, third.is, closing) refl;
@@ -344,7 +345,7 @@ two_and_function_ready v {old} {three = three} {r0 = r0} {r2 = r2} {r4 = r4} {a 
 -- a call of a stored function
 pub called_ready : (v : Version) {old mid : Program} {start r0 r1 r2 rest : List Tok} {a : ExprId} {g n : Name} (d : ℕ) (tokens : List Tok) → d ≤ 63 → parse_name tokens ≡ got g r0 → parse_symbol symbols.Open r0 ≡ got tt r1
     → FoundExpression old mid a r2 (parse_expression d v (counts_of old) r1) → parse_symbol symbols.Close r2 ≡ got tt rest → n ≡ g
-    → ReadyExpression old mid (called n (expression_in mid a)) start rest (parse_called (parse_expression d v) (counts_of old) start tokens)
+    → ReadyExpression old mid (called n (program_expression mid a)) start rest (parse_called (parse_expression d v) (counts_of old) start tokens)
 unfolding parse_called
 called_ready v {old} {r1 = r1} {g = g} d tokens small named opening f closing bytes =
     let one = part v d (counts_of old) r1 refl f in
@@ -357,10 +358,10 @@ called_ready v {old} {r1 = r1} {g = g} d tokens small named opening f closing by
     }
 
 pub function_shallow : (v : Version) {old new : Program} {rest : List Tok} {b : ExprId} {p : Pattern} (d : ℕ) (tokens : List Tok) → d ≤ 63
-    → FoundMapping old new p b rest (parse_mapping d (parse_expression d v) (counts_of old) tokens) → function_depth (function p (expression_in new b)) ≤ 64
+    → FoundMapping old new p b rest (parse_mapping d (parse_expression d v) (counts_of old) tokens) → function_depth (function p (program_expression new b)) ≤ 64
 function_shallow v {old} {new} {b = b} d tokens small f =
     let took = mapping_part v d (counts_of old) tokens refl f in
-    let same : expression_depth (expression_in new b) ≡ expression_depth f.value = ap expression_depth f.tree in
+    let same : Expressions.depth (program_expression new b) ≡ Expressions.depth f.value = ap Expressions.depth f.tree in
     omega (arith, took.shallow)
 
 -- a type of at most 256 is made, but for want of memory

@@ -18,7 +18,7 @@ use Rattle.sf_expr.specs.declared.exprs.ExprNode.TheVariants as expressions
 use Rattle.sf_expr.specs.Patterns.{PlacedPattern}
 use Rattle.sf_expr.specs.Expressions.{Literal, Expression, literal, text_literal, none_literal}
 use Rattle.sf_term.specs.declared.program.Program.{Program}
-use Rattle.sf_term.specs.Arena.{KeepsTrees, HoldsPatternIn, pattern_under, AddsExpression, AddsProgramFunction, function_body_at}
+use Rattle.sf_term.specs.Arena.{ExtendsTrees, ProgramHoldsPattern, placed_pattern, AddsExpression, AddsProgramFunction, function_body_at}
 use Rattle.sf_value.specs.Values.{Kind}
 use Rattle.sf_lex.specs.Tokens.{Tok}
 use Rattle.sf_grammar.specs.declared.ty.Version.{Version}
@@ -32,13 +32,13 @@ use Rattle.sf_grammar.specs.declared.head.Link.TheVariants as links
 use Rattle.sf_grammar.specs.Placing.{around, PatternPlaced, PatternStands, ExpressionStands, ExpressionPlaced, unit_placed, truth_placed, number_placed, constant_placed, variable_placed, pair_placed, prefixed_placed, one_in_brackets_placed, operation_placed, two_in_brackets_placed, conditional_placed, let_placed, one_and_function_placed, two_and_function_placed, called_placed, FunctionPlaced, function_placed}
 use Rattle.sf_text.specs.Parsing.Consuming.{places, BehindOne, BehindSome, NamePlaced, Parted, Consumes, linked_node}
 
-expression_stays : (old new : Program) → KeepsTrees old new → (id : ExprId) (n : ExprNode) (at : Spot) → ExpressionStands old id n at → ExpressionStands new id n at
+expression_stays : (old new : Program) → ExtendsTrees old new → (id : ExprId) (n : ExprNode) (at : Spot) → ExpressionStands old id n at → ExpressionStands new id n at
 expression_stays old new k id n at s = record { held = k.expressions id s.held; node = k.value_nodes id s.held ∙ s.node; spot = k.value_spots id s.held ∙ s.spot }
 
-pub pattern_stays : (old new : Program) → KeepsTrees old new → (q : PatternId) (xs : List Spot) → PatternStands old q xs → PatternStands new q xs
+pub pattern_stays : (old new : Program) → ExtendsTrees old new → (q : PatternId) (xs : List Spot) → PatternStands old q xs → PatternStands new q xs
 pattern_stays old new k q xs s = record { held = k.holds_patterns q s.held; placed = subst (λ (p : PlacedPattern). PatternPlaced p xs) (sym (k.placed q s.held)) s.placed }
 
-pub expression_keeps : (v : Version) (old new : Program) → KeepsTrees old new → (id : ExprId) (xs : List Spot) → ExpressionPlaced v old id xs → ExpressionPlaced v new id xs
+pub expression_keeps : (v : Version) (old new : Program) → ExtendsTrees old new → (id : ExprId) (xs : List Spot) → ExpressionPlaced v old id xs → ExpressionPlaced v new id xs
 expression_keeps v old new k id xs (number_placed s) = number_placed (expression_stays old new k _ _ _ s)
 expression_keeps v old new k id xs (unit_placed closing s) = unit_placed closing (expression_stays old new k _ _ _ s)
 expression_keeps v old new k id xs (truth_placed s) = truth_placed (expression_stays old new k _ _ _ s)
@@ -64,7 +64,7 @@ expression_keeps v old new k id xs (two_and_function_placed opening comma second
     two_and_function_placed opening comma second leads closing (expression_stays old new k _ _ _ s) (expression_keeps v old new k _ _ one) (expression_keeps v old new k _ _ two) (pattern_stays old new k _ _ pattern) (expression_keeps v old new k _ _ body)
 expression_keeps v old new k id xs (called_placed opening closing s part) = called_placed opening closing (expression_stays old new k _ _ _ s) (expression_keeps v old new k _ _ part)
 
-pub function_keeps : (v : Version) (old new : Program) → KeepsTrees old new → (f : FunctionId) (xs : List Spot) → FunctionPlaced v old f xs → FunctionPlaced v new f xs
+pub function_keeps : (v : Version) (old new : Program) → ExtendsTrees old new → (f : FunctionId) (xs : List Spot) → FunctionPlaced v old f xs → FunctionPlaced v new f xs
 function_keeps v old new k f xs (function_placed {f = g} {xs = front} {ys = behind} leads held pattern body) =
     function_placed leads (k.functions g held) (subst (λ (q : PlacedPattern). PatternPlaced q front) (sym (k.patterns g held)) pattern)
     (subst (λ (b : ExprId). ExpressionPlaced v new b behind) (sym (k.bodies g held)) (expression_keeps v old new k (function_body_at old g) behind body))
@@ -117,7 +117,7 @@ text_read {v} {old} {new} {id} {n} {l} {s} {spot} rest is a =
     record { front = spot ∷ []; split = refl; holds = constant_placed (expression_stands old new id _ _ spot a) (ap (λ (e : Expression). length (spell_expression v e)) (sym (a.is ∙ ap literal is))) }
 
 -- what was read is read in a program that keeps it
-abbrev stays_read : {v : Version} {old new : Program} {id : ExprId} {r rest : List Spot} → KeepsTrees old new → Consumes (ExpressionPlaced v old id) r rest → Consumes (ExpressionPlaced v new id) r rest
+abbrev stays_read : {v : Version} {old new : Program} {id : ExprId} {r rest : List Spot} → ExtendsTrees old new → Consumes (ExpressionPlaced v old id) r rest → Consumes (ExpressionPlaced v new id) r rest
 stays_read {v} {old} {new} {id} k c = record { front = c.front; split = c.split; holds = expression_keeps v old new k id c.front c.holds }
 
 -- an operator on one expression
@@ -136,7 +136,7 @@ one_in_brackets_read {v} {mid} {new} {a} {id} {o} {e} {spot} {r0} {r1} {r2} {res
     }
 
 -- two expressions in brackets
-pub linked_read : {v : Version} {one two new : Program} {a b id : ExprId} {e : Expression} {spot : Spot} {r0 r1 r2 r3 rest : List Spot} (l : Link) (t1 t2 : List Tok) → KeepsTrees one two → AddsExpression two new id (linked_node l a b) e spot
+pub linked_read : {v : Version} {one two new : Program} {a b id : ExprId} {e : Expression} {spot : Spot} {r0 r1 r2 r3 rest : List Spot} (l : Link) (t1 t2 : List Tok) → ExtendsTrees one two → AddsExpression two new id (linked_node l a b) e spot
     → Consumes (ExpressionPlaced v one a) r0 r1 → parse_link t1 ≡ got l t2 → BehindOne r1 r2 → Consumes (ExpressionPlaced v two b) r2 r3 → BehindOne r3 rest → Consumes (ExpressionPlaced v new id) (spot ∷ r0) rest
 linked_read {v} {one} {two} {new} {a} {b} {id} {e} {spot} links.Pair t1 t2 k added first linking between second closing =
     in_brackets_read (stays_read added.kept.trees (stays_read k first)) between (stays_read added.kept.trees second) closing (λ comma closing xs ys p q.
@@ -146,7 +146,7 @@ linked_read {v} {one} {two} {new} {a} {b} {id} {e} {spot} (links.Operation o) t1
     in_brackets_read (stays_read added.kept.trees (stays_read k first)) between (stays_read added.kept.trees second) closing (λ operator closing xs ys p q.
     operation_placed operator closing link.between (expression_stands two new id _ e spot added) p q)
 
-pub two_in_brackets_read : {v : Version} {one two new : Program} {a b id : ExprId} {o : Operator} {e : Expression} {spot : Spot} {r r0 r1 r2 r3 rest : List Spot} → stands_between o ≡ false → KeepsTrees one two
+pub two_in_brackets_read : {v : Version} {one two new : Program} {a b id : ExprId} {o : Operator} {e : Expression} {spot : Spot} {r r0 r1 r2 r3 rest : List Spot} → stands_between o ≡ false → ExtendsTrees one two
     → AddsExpression two new id (expressions.Operation a o b) e spot → BehindOne r r0 → Consumes (ExpressionPlaced v one a) r0 r1 → BehindOne r1 r2 → Consumes (ExpressionPlaced v two b) r2 r3 → BehindOne r3 rest
     → Consumes (ExpressionPlaced v new id) (spot ∷ r) rest
 two_in_brackets_read {v} {one} {two} {new} {a} {b} {id} {o} {e} {spot} {r} {r0} {r1} {r2} {r3} {rest} front k added opening first between second closing =
@@ -166,7 +166,7 @@ pub parted : {P Q : List Spot → Type 0} {xs : List Spot} (R : List Spot → Ty
 parted R m f = subst R (sym m.split) (f m.between m.first m.second m.first_holds m.second_holds)
 
 -- one of two expressions by a condition
-pub conditional_read : {v : Version} {one two three new : Program} {a b c id : ExprId} {e : Expression} {spot : Spot} {r0 r1 r2 r3 r4 rest : List Spot} → KeepsTrees one two → KeepsTrees two three
+pub conditional_read : {v : Version} {one two three new : Program} {a b c id : ExprId} {e : Expression} {spot : Spot} {r0 r1 r2 r3 r4 rest : List Spot} → ExtendsTrees one two → ExtendsTrees two three
     → AddsExpression three new id (expressions.Conditional a b c) e spot → Consumes (ExpressionPlaced v one a) r0 r1 → BehindOne r1 r2 → Consumes (ExpressionPlaced v two b) r2 r3 → BehindOne r3 r4
     → Consumes (ExpressionPlaced v three c) r4 rest → Consumes (ExpressionPlaced v new id) (spot ∷ r0) rest
 conditional_read {v} {one} {two} {three} {new} {a} {b} {c} {id} {e} {spot} k l added condition then_word first else_word second =
@@ -176,12 +176,12 @@ conditional_read {v} {one} {two} {three} {new} {a} {b} {c} {id} {e} {spot} k l a
     conditional_placed at other (expression_stands three new id _ e spot added) p q r)))
 
 -- a pattern that was put beside the functions
-pub pattern_stands : (new : Program) (q : PatternId) (p : PlacedPattern) (xs : List Spot) → HoldsPatternIn new q × (pattern_under new q ≡ p) → PatternPlaced p xs → PatternStands new q xs
+pub pattern_stands : (new : Program) (q : PatternId) (p : PlacedPattern) (xs : List Spot) → ProgramHoldsPattern new q × (placed_pattern new q ≡ p) → PatternPlaced p xs → PatternStands new q xs
 pattern_stands new q p xs there placed = record { held = there.0; placed = subst (λ (p : PlacedPattern). PatternPlaced p xs) (sym there.1) placed }
 
 -- an expression with names for a value
-pub let_read : {v : Version} {one two new : Program} {a b id : ExprId} {p : PlacedPattern} {q : PatternId} {e : Expression} {spot : Spot} {r0 r1 r2 r3 r4 rest : List Spot} → KeepsTrees one two
-    → AddsExpression two new id (expressions.Mapped (record { part = a; mapping = mappings.Let; pattern = q; body = b })) e spot → HoldsPatternIn new q × (pattern_under new q ≡ p) → Consumes (PatternPlaced p) r0 r1 → BehindOne r1 r2 → Consumes (ExpressionPlaced v one a) r2 r3
+pub let_read : {v : Version} {one two new : Program} {a b id : ExprId} {p : PlacedPattern} {q : PatternId} {e : Expression} {spot : Spot} {r0 r1 r2 r3 r4 rest : List Spot} → ExtendsTrees one two
+    → AddsExpression two new id (expressions.Mapped (record { part = a; mapping = mappings.Let; pattern = q; body = b })) e spot → ProgramHoldsPattern new q × (placed_pattern new q ≡ p) → Consumes (PatternPlaced p) r0 r1 → BehindOne r1 r2 → Consumes (ExpressionPlaced v one a) r2 r3
     → BehindOne r3 r4 → Consumes (ExpressionPlaced v two b) r4 rest → Consumes (ExpressionPlaced v new id) (spot ∷ r0) rest
 let_read {v} {one} {two} {new} {a} {b} {id} {p} {q} {e} {spot} k added there pattern equals value in_word body =
     behind_first (parted_read pattern equals (parted_read (stays_read added.kept.trees (stays_read k value)) in_word (stays_read added.kept.trees body))) (λ xs m.
@@ -191,7 +191,7 @@ let_read {v} {one} {two} {new} {a} {b} {id} {p} {q} {e} {spot} k added there pat
 
 -- an expression and a function in brackets
 pub one_and_function_read : {v : Version} {one two new : Program} {a b id : ExprId} {m : Mapping} {p : PlacedPattern} {q : PatternId} {e : Expression} {spot : Spot} {r r0 r1 r2 r3 rest : List Spot} → maps_in_brackets m ≡ true
-    → KeepsTrees one two → AddsExpression two new id (expressions.Mapped (record { part = a; mapping = m; pattern = q; body = b })) e spot → HoldsPatternIn new q × (pattern_under new q ≡ p) → BehindOne r r0 → Consumes (ExpressionPlaced v one a) r0 r1 → BehindOne r1 r2
+    → ExtendsTrees one two → AddsExpression two new id (expressions.Mapped (record { part = a; mapping = m; pattern = q; body = b })) e spot → ProgramHoldsPattern new q × (placed_pattern new q ≡ p) → BehindOne r r0 → Consumes (ExpressionPlaced v one a) r0 r1 → BehindOne r1 r2
     → Consumes (Parted (PatternPlaced p) (ExpressionPlaced v two b)) r2 r3 → BehindOne r3 rest → Consumes (ExpressionPlaced v new id) (spot ∷ r) rest
 one_and_function_read {v} {one} {two} {new} {a} {b} {id} {m} {p} {q} {e} {spot} brackets k added there opening value comma function closing =
     behind_opening opening (in_brackets_read (stays_read added.kept.trees (stays_read k value)) comma function closing (λ comma closing xs zs x n.
@@ -199,8 +199,8 @@ one_and_function_read {v} {one} {two} {new} {a} {b} {id} {m} {p} {q} {e} {spot} 
     one_and_function_placed opening.at comma leads closing brackets (expression_stands two new id _ e spot added) x (pattern_stands new q p ps there placed) (expression_keeps v two new added.kept.trees b ys y))))
 
 -- two expressions and a function in brackets
-pub two_and_function_read : {v : Version} {one two three new : Program} {a b c id : ExprId} {o : Folding} {p : PlacedPattern} {q : PatternId} {e : Expression} {spot : Spot} {r r0 r1 r2 r3 r4 r5 rest : List Spot} → KeepsTrees one two → KeepsTrees two three
-    → AddsExpression three new id (expressions.Folded (record { first = a; folding = o; second = b; pattern = q; body = c })) e spot → HoldsPatternIn new q × (pattern_under new q ≡ p) → BehindOne r r0 → Consumes (ExpressionPlaced v one a) r0 r1 → BehindOne r1 r2
+pub two_and_function_read : {v : Version} {one two three new : Program} {a b c id : ExprId} {o : Folding} {p : PlacedPattern} {q : PatternId} {e : Expression} {spot : Spot} {r r0 r1 r2 r3 r4 r5 rest : List Spot} → ExtendsTrees one two → ExtendsTrees two three
+    → AddsExpression three new id (expressions.Folded (record { first = a; folding = o; second = b; pattern = q; body = c })) e spot → ProgramHoldsPattern new q × (placed_pattern new q ≡ p) → BehindOne r r0 → Consumes (ExpressionPlaced v one a) r0 r1 → BehindOne r1 r2
     → Consumes (ExpressionPlaced v two b) r2 r3 → BehindOne r3 r4 → Consumes (Parted (PatternPlaced p) (ExpressionPlaced v three c)) r4 r5 → BehindOne r5 rest → Consumes (ExpressionPlaced v new id) (spot ∷ r) rest
 two_and_function_read {v} {one} {two} {three} {new} {a} {b} {c} {id} {o} {p} {q} {e} {spot} k l added there opening first comma second other function closing =
     behind_opening opening (in_brackets_read (stays_read added.kept.trees (stays_read l (stays_read k first))) comma (parted_read (stays_read added.kept.trees (stays_read l second)) other function) closing (λ comma closing xs ts x n.

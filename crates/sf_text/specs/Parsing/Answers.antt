@@ -16,7 +16,7 @@ use Rattle.sf_expr.specs.declared.exprs.FunctionId.{FunctionId}
 use Rattle.sf_expr.specs.Expressions.{Pattern, Expression, size, Function, function, function_size}
 use Rattle.sf_expr.specs.Patterns.{PlacedPattern, pattern_of}
 use Rattle.sf_term.specs.declared.program.Program.{Program}
-use Rattle.sf_term.specs.Arena.{HoldsExpression, ProgramHoldsFunction, expression_under, function_in, term_count, expression_count, KeepsProgram}
+use Rattle.sf_term.specs.Arena.{HoldsExpression, ProgramHoldsFunction, program_expression, program_function, term_count, expression_count, ExtendsProgram}
 use Rattle.sf_term.specs.Names.{HasNames}
 use Rattle.sf_lex.specs.Tokens.{Tok, name_bytes, token_of}
 use Rattle.sf_lex.specs.declared.token.PlacedToken.{PlacedToken}
@@ -64,8 +64,8 @@ pub record FoundExpression (old new : Program) (id : ExprId) (rest : List Tok) (
   pub value : Expression
   pub is : read ≡ got value rest
   pub held : HoldsExpression new id
-  pub tree : expression_under new id ≡ value
-  pub kept : KeepsProgram old new
+  pub tree : program_expression new id ≡ value
+  pub kept : ExtendsProgram old new
   pub terms : term_count new ≡ term_count old
   pub expressions : expression_count new ≡ expression_count old + size value
 
@@ -87,8 +87,8 @@ pub record FoundMapping (old new : Program) (p : Pattern) (id : ExprId) (rest : 
   pub is : read ≡ got (function p value) rest
   pub names : HasNames p
   pub held : HoldsExpression new id
-  pub tree : expression_under new id ≡ value
-  pub kept : KeepsProgram old new
+  pub tree : program_expression new id ≡ value
+  pub kept : ExtendsProgram old new
   pub terms : term_count new ≡ term_count old
   pub expressions : expression_count new ≡ expression_count old + size value
 
@@ -101,8 +101,8 @@ pub record FoundFunction (old new : Program) (id : FunctionId) (rest : List Tok)
   pub function : Function
   pub is : read ≡ got function rest
   pub held : ProgramHoldsFunction new id
-  pub meaning : function_in new id ≡ function
-  pub kept : KeepsProgram old new
+  pub meaning : program_function new id ≡ function
+  pub kept : ExtendsProgram old new
   pub terms : term_count new ≡ term_count old
   pub expressions : expression_count new ≡ expression_count old + function_size function
 

@@ -54,8 +54,8 @@ abbrev pub StandsOn : {X E : Type 0} → (X → List Spot → Type 0) → Result
 StandsOn placed result old new = IfOk result (λ x. Consumes (placed x) (spots_ahead old) (spots_ahead new))
 
 -- what was read stands on the token at the mark and those that were read behind it
-abbrev pub StandsFrom : {X E : Type 0} → Mark → (X → List Spot → Type 0) → Result X E → Cursor → Cursor → Type 0
-StandsFrom start placed result old new = IfOk result (λ x. Consumes (placed x) (start.spot ∷ spots_ahead old) (spots_ahead new))
+abbrev pub ReadStands : {X E : Type 0} → Mark → (X → List Spot → Type 0) → Result X E → Cursor → Cursor → Type 0
+ReadStands start placed result old new = IfOk result (λ x. Consumes (placed x) (start.spot ∷ spots_ahead old) (spots_ahead new))
 
 -- tokens were read of whose places this holds, with the place of a bracket in front
 abbrev pub ConsumesBehind : (List Spot → Type 0) → List Spot → List Spot → Type 0

@@ -1,14 +1,15 @@
 //! Expressions and functions.
 ghost use Rattle.std.specs.Prelude.{◌≡◌, ◌≤◌, true, false, IfOk, ◌∷◌, string_bytes};
-ghost use Rattle.sf_refusal.specs.declared.spot.Spot.{Spot as Place};
-ghost use Rattle.sf_expr.specs.Expressions.{Expression, variable as variable_form, literal as literal_form, unit_literal, truth_literal, int_literal, text_literal};
+ghost use Rattle.sf_refusal.specs.declared.spot.Spot as text_spots;
+ghost use Rattle.sf_expr.specs.Expressions.{Expression, unit_literal, truth_literal, int_literal, text_literal, literal};
+ghost use Rattle.sf_expr.specs.Expressions as expression_trees;
 ghost use Rattle.sf_lex.specs.Tokens.{token_of, name_bytes};
-ghost use Rattle.sf_term.specs.Arena.{HoldsExpression, expression_under as expression_in};
+ghost use Rattle.sf_term.specs.Arena.{HoldsExpression, program_expression};
 ghost use Rattle.sf_term.specs.Building.{BuildsExpression, NoNames};
 ghost use Rattle.sf_text.specs.Parsing.Answers.{ahead, StopsReading, ReadsAs, ReadsExpression, ReadsForm, ReadsMapping, ReadsFunction, counts_of};
 ghost use Rattle.sf_grammar.specs.Placing.{PatternPlaced, ExpressionPlaced, FunctionPlaced};
 ghost use Rattle.sf_grammar.specs.Spelling.{takes_brackets, stands_between, maps_in_brackets};
-ghost use Rattle.sf_text.specs.Parsing.Consuming.{spots_ahead, BehindOne, Consumes, StandsOn, StandsFrom, Parted, linked_node, HasOperandsSo};
+ghost use Rattle.sf_text.specs.Parsing.Consuming.{spots_ahead, BehindOne, Consumes, StandsOn, ReadStands, Parted, linked_node, HasOperandsSo};
 ghost use Rattle.sf_grammar.specs.Reading.{begins_expression, too_deep, parse_link, linked, parse_linked, behind_close, bracketed_from, parse_none, parse_prefixed, parse_one_in_brackets, parse_two_in_brackets, parse_conditional, parse_mapping, parse_let, parse_one_and_function, parse_two_and_function, parse_called, parse_worded_expression, expression_read, parse_expression_form, parse_expression, parse_function};
 
 use crate::parts::cursor::{Cursor, First};
@@ -41,7 +42,7 @@ fn add_linked(
 ) -> Result<ExprId, BuildRefusal>
     requires first_held { HoldsExpression program.old first }
     requires second_held { HoldsExpression program.old second }
-    ensures { let whole = linked link (expression_in program.old first) (expression_in program.old second) in
+    ensures { let whole = linked link (program_expression program.old first) (program_expression program.old second) in
         BuildsExpression program.old program.new result (linked_node link first second) whole spot NoNames }
 {
     match link {
@@ -79,8 +80,8 @@ impl<'a> Cursor<'a> {
 impl<'a> Reader<'a> {
     /// A name, which was its first token.
     fn variable(&mut self, start: Mark, name: Name<'a>) -> Result<ExprId, Stop>
-        ensures reads { ReadsForm self.old self.new start result (expression_read (counts_of self.old.program) (variable_form (name_bytes name.entry))) }
-        ensures placed { (version : Version) → StandsFrom start (ExpressionPlaced version self.new.program) result self.old.cursor self.new.cursor }
+        ensures reads { ReadsForm self.old self.new start result (expression_read (counts_of self.old.program) (expression_trees.variable (name_bytes name.entry))) }
+        ensures placed { (version : Version) → ReadStands start (ExpressionPlaced version self.new.program) result self.old.cursor self.new.cursor }
     {
         let name = String::from_str(self.cursor.alloc, name.as_str())?;
         start.built(self.program.name(name, start.spot))
@@ -88,16 +89,16 @@ impl<'a> Reader<'a> {
 
     /// A number, which was its first token.
     fn number(&mut self, start: Mark, number: i64) -> Result<ExprId, Stop>
-        ensures reads { ReadsForm self.old self.new start result (expression_read (counts_of self.old.program) (literal_form (int_literal number))) }
-        ensures placed { (version : Version) → StandsFrom start (ExpressionPlaced version self.new.program) result self.old.cursor self.new.cursor }
+        ensures reads { ReadsForm self.old self.new start result (expression_read (counts_of self.old.program) (literal (int_literal number))) }
+        ensures placed { (version : Version) → ReadStands start (ExpressionPlaced version self.new.program) result self.old.cursor self.new.cursor }
     {
         start.built(self.program.int(number, start.spot))
     }
 
     /// True or false, which was its first token.
     fn truth(&mut self, start: Mark, truth: bool) -> Result<ExprId, Stop>
-        ensures reads { ReadsForm self.old self.new start result (expression_read (counts_of self.old.program) (literal_form (truth_literal truth))) }
-        ensures placed { (version : Version) → StandsFrom start (ExpressionPlaced version self.new.program) result self.old.cursor self.new.cursor }
+        ensures reads { ReadsForm self.old self.new start result (expression_read (counts_of self.old.program) (literal (truth_literal truth))) }
+        ensures placed { (version : Version) → ReadStands start (ExpressionPlaced version self.new.program) result self.old.cursor self.new.cursor }
     {
         let node = ExprNode::Truth(truth);
         start.built(self.program.add_expression(node, start.spot))
@@ -105,8 +106,8 @@ impl<'a> Reader<'a> {
 
     /// A text, which was its first token.
     fn text(&mut self, start: Mark, text: &String) -> Result<ExprId, Stop>
-        ensures reads { ReadsForm self.old self.new start result (expression_read (counts_of self.old.program) (literal_form (text_literal (string_bytes text.now)))) }
-        ensures placed { (version : Version) → StandsFrom start (ExpressionPlaced version self.new.program) result self.old.cursor self.new.cursor }
+        ensures reads { ReadsForm self.old self.new start result (expression_read (counts_of self.old.program) (literal (text_literal (string_bytes text.now)))) }
+        ensures placed { (version : Version) → ReadStands start (ExpressionPlaced version self.new.program) result self.old.cursor self.new.cursor }
     {
         let text = String::from_str(self.cursor.alloc, text.as_str())?;
         let constant = Constant::text(self.cursor.alloc, text)?;
@@ -115,8 +116,8 @@ impl<'a> Reader<'a> {
 
     /// The only value of its type, whose closing bracket was its last token.
     fn unit(&mut self, start: Mark) -> Result<ExprId, Stop>
-        ensures reads { ReadsForm self.old self.new start result (expression_read (counts_of self.old.program) (literal_form unit_literal)) }
-        ensures placed { (version : Version) (closing : Place) → IfOk result (λ id. Consumes (ExpressionPlaced version self.new.program id) (start.spot ∷ closing ∷ spots_ahead self.old.cursor) (spots_ahead self.new.cursor)) }
+        ensures reads { ReadsForm self.old self.new start result (expression_read (counts_of self.old.program) (literal unit_literal)) }
+        ensures placed { (version : Version) (closing : text_spots.Spot) → IfOk result (λ id. Consumes (ExpressionPlaced version self.new.program id) (start.spot ∷ closing ∷ spots_ahead self.old.cursor) (spots_ahead self.new.cursor)) }
     {
         start.built(self.program.add_expression(ExprNode::Unit, start.spot))
     }
@@ -125,7 +126,7 @@ impl<'a> Reader<'a> {
     #[tactic(auto, unfolding(sf_grammar::specs::Reading::parse_none))]
     fn no_event(&mut self, version: Version, start: Mark, left: u32) -> Result<ExprId, Stop>
         ensures reads { ReadsForm self.old self.new start result (parse_none left version (counts_of self.old.program)) }
-        ensures placed { StandsFrom start (ExpressionPlaced version self.new.program) result self.old.cursor self.new.cursor }
+        ensures placed { ReadStands start (ExpressionPlaced version self.new.program) result self.old.cursor self.new.cursor }
     {
         let payload = self.cursor.type_within(version, left)?;
         let constant = Constant::no_event(payload);
@@ -178,7 +179,7 @@ impl<'a> Reader<'a> {
         requires shallow { left ≤ 63 }
         requires stands { HasOperandsSo head }
         ensures reads { ReadsForm self.old self.new start result (parse_worded_expression left version (parse_expression left version) (counts_of self.old.program) (Some head)) }
-        ensures placed { StandsFrom start (ExpressionPlaced version self.new.program) result self.old.cursor self.new.cursor }
+        ensures placed { ReadStands start (ExpressionPlaced version self.new.program) result self.old.cursor self.new.cursor }
     {
         match head {
             ExpressionHead::Truth(value) => self.truth(start, value),
@@ -207,7 +208,7 @@ impl<'a> Reader<'a> {
     fn bracketed(&mut self, version: Version, start: Mark, left: u32) -> Result<ExprId, Stop>
         requires shallow { left ≤ 63 }
         ensures reads { ReadsForm self.old self.new start result (bracketed_from (parse_expression left version) (counts_of self.old.program) (behind_close (ahead self.old.cursor))) }
-        ensures placed { StandsFrom start (ExpressionPlaced version self.new.program) result self.old.cursor self.new.cursor }
+        ensures placed { ReadStands start (ExpressionPlaced version self.new.program) result self.old.cursor self.new.cursor }
     {
         match self.cursor.behind_close() {
             Some(behind) => {
@@ -224,7 +225,7 @@ impl<'a> Reader<'a> {
     fn linked(&mut self, version: Version, start: Mark, left: u32) -> Result<ExprId, Stop>
         requires shallow { left ≤ 63 }
         ensures reads { ReadsForm self.old self.new start result (parse_linked (parse_expression left version) (counts_of self.old.program)) }
-        ensures placed { StandsFrom start (ExpressionPlaced version self.new.program) result self.old.cursor self.new.cursor }
+        ensures placed { ReadStands start (ExpressionPlaced version self.new.program) result self.old.cursor self.new.cursor }
     {
         let one = self.expression(version, left)?;
         let link = self.cursor.link()?;
@@ -246,7 +247,7 @@ impl<'a> Reader<'a> {
         requires shallow { left ≤ 63 }
         requires stands { takes_brackets operator ≡ false }
         ensures reads { ReadsForm self.old self.new start result (parse_prefixed (parse_expression left version) (counts_of self.old.program) operator) }
-        ensures placed { StandsFrom start (ExpressionPlaced version self.new.program) result self.old.cursor self.new.cursor }
+        ensures placed { ReadStands start (ExpressionPlaced version self.new.program) result self.old.cursor self.new.cursor }
     {
         let part = self.expression(version, left)?;
         start.built(self.program.applied(operator, part, start.spot))
@@ -265,7 +266,7 @@ impl<'a> Reader<'a> {
         requires shallow { left ≤ 63 }
         requires stands { takes_brackets operator ≡ true }
         ensures reads { ReadsForm self.old self.new start result (parse_one_in_brackets (parse_expression left version) (counts_of self.old.program) operator) }
-        ensures placed { StandsFrom start (ExpressionPlaced version self.new.program) result self.old.cursor self.new.cursor }
+        ensures placed { ReadStands start (ExpressionPlaced version self.new.program) result self.old.cursor self.new.cursor }
     {
         self.cursor.symbol(Symbol::Open)?;
         let part = self.expression(version, left)?;
@@ -286,7 +287,7 @@ impl<'a> Reader<'a> {
         requires shallow { left ≤ 63 }
         requires stands { stands_between operator ≡ false }
         ensures reads { ReadsForm self.old self.new start result (parse_two_in_brackets (parse_expression left version) (counts_of self.old.program) operator) }
-        ensures placed { StandsFrom start (ExpressionPlaced version self.new.program) result self.old.cursor self.new.cursor }
+        ensures placed { ReadStands start (ExpressionPlaced version self.new.program) result self.old.cursor self.new.cursor }
     {
         self.cursor.symbol(Symbol::Open)?;
         let one = self.expression(version, left)?;
@@ -302,7 +303,7 @@ impl<'a> Reader<'a> {
     fn conditional(&mut self, version: Version, start: Mark, left: u32) -> Result<ExprId, Stop>
         requires shallow { left ≤ 63 }
         ensures reads { ReadsForm self.old self.new start result (parse_conditional (parse_expression left version) (counts_of self.old.program)) }
-        ensures placed { StandsFrom start (ExpressionPlaced version self.new.program) result self.old.cursor self.new.cursor }
+        ensures placed { ReadStands start (ExpressionPlaced version self.new.program) result self.old.cursor self.new.cursor }
     {
         let condition = self.expression(version, left)?;
         self.cursor.keyword(Keyword::Then)?;
@@ -318,7 +319,7 @@ impl<'a> Reader<'a> {
     fn let_in(&mut self, version: Version, start: Mark, left: u32) -> Result<ExprId, Stop>
         requires shallow { left ≤ 63 }
         ensures reads { ReadsForm self.old self.new start result (parse_let left (parse_expression left version) (counts_of self.old.program)) }
-        ensures placed { StandsFrom start (ExpressionPlaced version self.new.program) result self.old.cursor self.new.cursor }
+        ensures placed { ReadStands start (ExpressionPlaced version self.new.program) result self.old.cursor self.new.cursor }
     {
         let pattern = self.cursor.pattern(left)?;
         self.cursor.symbol(Symbol::Equals)?;
@@ -344,7 +345,7 @@ impl<'a> Reader<'a> {
         requires shallow { left ≤ 63 }
         requires stands { maps_in_brackets mapping ≡ true }
         ensures reads { ReadsForm self.old self.new start result (parse_one_and_function left (parse_expression left version) (counts_of self.old.program) mapping) }
-        ensures placed { StandsFrom start (ExpressionPlaced version self.new.program) result self.old.cursor self.new.cursor }
+        ensures placed { ReadStands start (ExpressionPlaced version self.new.program) result self.old.cursor self.new.cursor }
     {
         self.cursor.symbol(Symbol::Open)?;
         let value = self.expression(version, left)?;
@@ -369,7 +370,7 @@ impl<'a> Reader<'a> {
     ) -> Result<ExprId, Stop>
         requires shallow { left ≤ 63 }
         ensures reads { ReadsForm self.old self.new start result (parse_two_and_function left (parse_expression left version) (counts_of self.old.program) folding) }
-        ensures placed { StandsFrom start (ExpressionPlaced version self.new.program) result self.old.cursor self.new.cursor }
+        ensures placed { ReadStands start (ExpressionPlaced version self.new.program) result self.old.cursor self.new.cursor }
     {
         self.cursor.symbol(Symbol::Open)?;
         let one = self.expression(version, left)?;
@@ -390,7 +391,7 @@ impl<'a> Reader<'a> {
     fn called(&mut self, version: Version, start: Mark, left: u32) -> Result<ExprId, Stop>
         requires shallow { left ≤ 63 }
         ensures reads { ReadsForm self.old self.new start result (parse_called (parse_expression left version) (counts_of self.old.program)) }
-        ensures placed { StandsFrom start (ExpressionPlaced version self.new.program) result self.old.cursor self.new.cursor }
+        ensures placed { ReadStands start (ExpressionPlaced version self.new.program) result self.old.cursor self.new.cursor }
     {
         let function = self.cursor.name()?;
         self.cursor.symbol(Symbol::Open)?;

@@ -2,7 +2,7 @@ use Rattle.std.proofs.Common.{Option, IfSome, subst}
 use Rattle.sf_refusal.specs.Refusals.{breach_of, no_memory}
 use Rattle.sf_refusal.specs.declared.rule.Rule.TheVariants.{Mismatch}
 use Rattle.sf_refusal.proofs.Explained.{refused_on}
-use Rattle.sf_func.specs.Registries.{types_in}
+use Rattle.sf_func.specs.Registries.{registered_types}
 use Rattle.sf_differ.specs.declared.difference.Difference.{Difference}
 use Rattle.sf_check.specs.Differing.{NetworkDiffers}
 use Rattle.sf_check.specs.Refusing.{RefusesNetwork}
@@ -20,7 +20,7 @@ returns-in_err-difference_text-in-Some-clause-refused g c = refused_on _ _ c.fro
 
 pub returns-in-Some-clause-told : goal.returns-in-Some-clause-told
 returns-in-Some-clause-told g c =
-    let types = types_in c.args.functions.now in
+    let types = registered_types c.args.functions.now in
     let program = c.in_ok-program.program in
     record {
       program = program;

@@ -2,7 +2,7 @@ use Rattle.std.proofs.Common.{ap, subst}
 use Rattle.sf_expr.specs.Refusals.{Judges}
 use Rattle.sf_expr.proofs.Bound.{on_err}
 use Rattle.sf_term.specs.ParameterView.{kind_of_form}
-use Rattle.sf_term.specs.Arena.{expressions_of, collection_under}
+use Rattle.sf_term.specs.Arena.{program_expressions, collection_node}
 use Rattle.sf_mean.specs.Contexts.{names_of_values}
 use Rattle.sf_differ.specs.Differences.{Explains, tells_nothing}
 use Rattle.sf_differ.proofs.Told.{told_as, told_on}
@@ -17,7 +17,7 @@ returns-in_err-given-in-Value-Value-clause-err c = told_on _ _ c.from_residual.e
 
 pub returns-in_ok-given-in-Value-Value-clause-err : goal.returns-in_ok-given-in-Value-Value-clause-err
 returns-in_ok-given-in-Value-Value-clause-err c =
-    let given = subst (Judges (expressions_of (program_in c.args.context.now)) (names_of_values (context_in c.args.context.now)) c.in-Value-Value.value) c.in_ok-given-in-Value-Value.ensures.ok c.constant_type.ensures in
+    let given = subst (Judges (program_expressions (program_in c.args.context.now)) (names_of_values (context_in c.args.context.now)) c.in-Value-Value.value) c.in_ok-given-in-Value-Value.ensures.ok c.constant_type.ensures in
     on_err c.suits_type.result
     (λ b h. argument_as (λ v k. Explains (ArgumentDiffers (program_in c.args.context.now) (context_in c.args.context.now) c.args.spot v k) b) c.in-Value-Value.is-0 (ap kind_of_form c.in-Value-Value.is-1) (told_as (λ d k. value_argument given k) h)) c.suits_type.ensures.err
 
@@ -35,7 +35,7 @@ returns-in_err-given-in-Collection-Collection-clause-err c = told_on _ _ c.from_
 
 pub returns-in_ok-given-in-Collection-Collection-clause-err : goal.returns-in_ok-given-in-Collection-Collection-clause-err
 returns-in_ok-given-in-Collection-Collection-clause-err c =
-    let given = subst (AnswersMembers (program_in c.args.context.now) (context_in c.args.context.now) (collection_under (program_in c.args.context.now) c.in-Collection-Collection.members) c.in-Collection-Collection.from) c.in_ok-given-in-Collection-Collection.ensures.ok c.members_at.ensures in
+    let given = subst (AnswersMembers (program_in c.args.context.now) (context_in c.args.context.now) (collection_node (program_in c.args.context.now) c.in-Collection-Collection.members) c.in-Collection-Collection.from) c.in_ok-given-in-Collection-Collection.ensures.ok c.members_at.ensures in
     on_err c.suits_members.result
     (λ b h. argument_as (λ v k. Explains (ArgumentDiffers (program_in c.args.context.now) (context_in c.args.context.now) c.args.spot v k) b) c.in-Collection-Collection.is-0 (ap kind_of_form c.in-Collection-Collection.is-1) (told_as (λ d k. members_argument given k) h)) c.suits_members.ensures.err
 

@@ -3,7 +3,7 @@ use Rattle.std.proofs.lemmas.Bool.{eqb-true}
 use Rattle.std.proofs.lemmas.Option.{same_Some, none-some}
 use Rattle.sf_term.specs.Trees.{Template}
 use Rattle.sf_term.specs.Parameters.{PlacedParameter, parameters_of}
-use Rattle.sf_term.specs.Arena.{headers_of, templates_of, template_in}
+use Rattle.sf_term.specs.Arena.{headers_of, templates_of, term_template}
 use Rattle.sf_check.specs.Names.{program_names}
 use Rattle.sf_check.proofs.Templates.{header_at}
 use Rattle.sf_check.proofs.Places.{place_in, none_named, named_within, named_is}
@@ -42,7 +42,7 @@ returns-then-is_empty-clause-bare c =
     let named = sym (place_in c.args.names.now (codes "main") (program_names p) c.requires) ∙ sym c.in_ok-place.ensures.index in
     let at = place (goal.at.returns-then-is_empty-clause-bare c).After-is_empty in
     let zero : length h.parameters ≡ 0 = ap length (sym c.parameters.ensures) ∙ eqb-true (length c.parameters.result.now) 0 (sym c.if-is_empty.ensures) in
-    (template_in p h, sym (named_is p (codes "main") c.in_ok-place.place named h at), none_bare h.parameters zero)
+    (term_template p h, sym (named_is p (codes "main") c.in_ok-place.place named h at), none_bare h.parameters zero)
 
 pub returns-else-is_empty-clause-absent : goal.returns-else-is_empty-clause-absent
 returns-else-is_empty-clause-absent c = λ t main bare.

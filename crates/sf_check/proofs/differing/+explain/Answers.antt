@@ -14,7 +14,7 @@ use Rattle.sf_term.specs.declared.program.Program.{Program}
 use Rattle.sf_term.specs.ParameterView.{kind_of_form}
 use Rattle.sf_term.specs.Parameters.{binding_of, parameters_of}
 use Rattle.sf_term.specs.Trees.{arguments_depth, collection_depth}
-use Rattle.sf_term.specs.Arena.{tree, term_number, expressions_of, arguments_under, arguments_of, collection_under, collection_of, collection_at, ArgumentBelow, CollectionBelow}
+use Rattle.sf_term.specs.Arena.{tree, term_number, program_expressions, argument_nodes, arguments_of, collection_node, collection_of, collection_tree, ArgumentBelow, CollectionBelow}
 use Rattle.sf_mean.specs.Contexts.{Context, names_of_values, inside_pattern}
 use Rattle.sf_mean.specs.Typing.{Takes, Collects}
 use Rattle.sf_expr.proofs.Bound.{on_err}
@@ -22,8 +22,8 @@ use Rattle.sf_differ.specs.Differences.{Explains, tells_nothing, lacks_room}
 use Rattle.sf_differ.proofs.Told.{told_as, told_on, room_on, unsaid_on}
 use Rattle.sf_operator.proofs.SameKinds.{payload_is}
 use Rattle.sf_check.specs.Contexts.{program_in, context_in}
-use Rattle.sf_check.specs.Breaking.{pattern_in, members_inside, ArgumentKeeps, value_keeps, process_keeps, collection_keeps, ArgumentsLeft, all_left, sequence_left, sequence_right, fan_left, fan_right, head_part, transformed_part, switch_source, switch_body, keeping_source, keeping_body, releasing_body, ReachesMembers, gathered_members, releasing_members, their_edit}
-use Rattle.sf_check.specs.Differing.{StopsBody, StopsEdit, FormDiffers, TermDiffers, CollectionDiffers, ArgumentDiffersWithin, within_value, within_process, within_members, body_pattern, body_output, edit_pattern, edit_tables, both_inputs, side_inputs, head_within, fed_output, replaced_input, transform_within, transformed_input, source_output, event_beside, switch_body_differs, observer_output, keeping_body_differs, their_observer_output, released_body_differs, event_beside_members, members_edit_differs, added_members, added_key_within, member_within, added_key, member_output, dropped_members, dropped_key_within, dropped_key, kept_members, kept_within, kept_truth, choice_within, one_members, other_members, choice_truth, choice_tables}
+use Rattle.sf_check.specs.Breaking.{program_pattern, members_inside, ArgumentKeeps, value_keeps, process_keeps, collection_keeps, ArgumentsLeft, all_left, sequence_left, sequence_right, fan_left, fan_right, head_part, transformed_part, switch_source, switch_body, continuing_source, continuing_body, releasing_body, ReachesMembers, gathered_members, releasing_members, their_edit}
+use Rattle.sf_check.specs.Differing.{StopsBody, StopsEdit, FormDiffers, TermDiffers, CollectionDiffers, ArgumentDiffersWithin, within_value, within_process, within_members, body_pattern, body_output, edit_pattern, edit_tables, both_inputs, side_inputs, head_within, fed_output, replaced_input, transform_within, transformed_input, source_output, event_beside, switch_body_differs, observer_output, continuing_body_differs, their_observer_output, released_body_differs, event_beside_members, members_edit_differs, added_members, added_key_within, member_within, added_key, member_output, dropped_members, dropped_key_within, dropped_key, kept_members, kept_within, kept_truth, choice_within, one_members, other_members, choice_truth, choice_tables}
 use Rattle.sf_check.proofs.Terms.{switch_there, sided_there, headed_there, output_reached, left_reached, right_reached, first_reached, second_reached, loop_reached, first_term_reached, source_wants, input_wants, observer_reached}
 use Rattle.sf_reach.proofs.Shallow.{arguments_shallow, members_shallow, released_shallow, edited_shallow, first_shallow, rest_shallow, found_there, absent_there}
 use Rattle.sf_check.proofs.Arguments.{rest_length, one_less}
@@ -200,32 +200,32 @@ explain_recurring-returns t c =
     let wanted = input_wants p _ c.args.term _ _ c.spot-spot.ensures c.args.shown _ c.args.form.pattern c.args.form.body _ _ c.in_ok-value.ensures.ok _ c.in_ok-output.ensures.ok in
     stops_last p (context_in c.args.context.now) c.args.term _ c.args.input.now c.requires.there _ c.spot-spot.ensures _ _ _ _ _ _ _ (λ d k. switch_body_differs wanted k) (λ binds. switch_body wanted binds) c.explain_body.ensures
 
-pub explain_keeping-returns-in_err-value : goal.explain_keeping-returns-in_err-value
-explain_keeping-returns-in_err-value t c = told_on _ _ c.from_residual.ensures.1 (part_tells _ _ _ _ _ c.requires.there keeping_source c.in_err-value.ensures.err)
+pub explain_continuing-returns-in_err-value : goal.explain_continuing-returns-in_err-value
+explain_continuing-returns-in_err-value t c = told_on _ _ c.from_residual.ensures.1 (part_tells _ _ _ _ _ c.requires.there continuing_source c.in_err-value.ensures.err)
 
-pub explain_keeping-returns-in_err-watched : goal.explain_keeping-returns-in_err-watched
-explain_keeping-returns-in_err-watched t c = unsaid_on _ _ _ c.from_residual-in_err-watched.ensures.1
+pub explain_continuing-returns-in_err-watched : goal.explain_continuing-returns-in_err-watched
+explain_continuing-returns-in_err-watched t c = unsaid_on _ _ _ c.from_residual-in_err-watched.ensures.1
 
-pub explain_keeping-returns-in_err-seen : goal.explain_keeping-returns-in_err-seen
-explain_keeping-returns-in_err-seen t c =
+pub explain_continuing-returns-in_err-seen : goal.explain_continuing-returns-in_err-seen
+explain_continuing-returns-in_err-seen t c =
     told_on _ _ c.from_residual-in_err-seen.ensures.1
     (part_tells _ _ _ _ _ c.requires.there (observer_reached c.args.context.now.program.now _ c.args.term _ _ c.spot-spot.ensures _ _ _ _ _ _ _ c.requires.there _ c.in_ok-value.ensures.ok _ c.in_ok-watched.ensures) c.in_err-seen.ensures.err)
 
-pub explain_keeping-returns-in_err-suited : goal.explain_keeping-returns-in_err-suited
-explain_keeping-returns-in_err-suited t c =
+pub explain_continuing-returns-in_err-suited : goal.explain_continuing-returns-in_err-suited
+explain_continuing-returns-in_err-suited t c =
     let seen = watched_takes c.args.context.now.program.now c.args.form.observer c.spot-spot.result c.in_ok-watched.ensures c.in_ok-seen.ensures.ok in
     told_on _ _ c.from_residual-in_err-suited.ensures.1 (form_tells _ _ _ _ _ c.requires.there _ c.spot-spot.ensures (λ d k. observer_output c.in_ok-value.ensures.ok seen k) c.in_err-suited.ensures.err)
 
-pub explain_keeping-returns-in_err-event : goal.explain_keeping-returns-in_err-event
-explain_keeping-returns-in_err-event t c = unsaid_on _ _ _ c.from_residual-in_err-event.ensures.1
+pub explain_continuing-returns-in_err-event : goal.explain_continuing-returns-in_err-event
+explain_continuing-returns-in_err-event t c = unsaid_on _ _ _ c.from_residual-in_err-event.ensures.1
 
-pub explain_keeping-returns : goal.explain_keeping-returns
-explain_keeping-returns t c =
+pub explain_continuing-returns : goal.explain_continuing-returns
+explain_continuing-returns t c =
     let p = c.args.context.now.program.now in
     let Γ = context_in c.args.context.now in
     let seen = watched_takes c.args.context.now.program.now c.args.form.observer c.spot-spot.result c.in_ok-watched.ensures c.in_ok-seen.ensures.ok in
     let event = subst (λ (e : Kind). Takes Γ (tree p c.args.form.observer) (pair_kind c.args.input.now c.in_ok-value.value) e) (payload_is c.in_ok-seen.seen c.in_ok-event.ensures.ok) seen in
-    stops_last p Γ c.args.term _ c.args.input.now c.requires.there _ c.spot-spot.ensures _ _ _ _ _ _ _ (λ d k. keeping_body_differs c.in_ok-value.ensures.ok event k) (λ binds. keeping_body c.in_ok-value.ensures.ok event binds) c.explain_kept.ensures
+    stops_last p Γ c.args.term _ c.args.input.now c.requires.there _ c.spot-spot.ensures _ _ _ _ _ _ _ (λ d k. continuing_body_differs c.in_ok-value.ensures.ok event k) (λ binds. continuing_body c.in_ok-value.ensures.ok event binds) c.explain_kept.ensures
 
 -- ## Calls
 
@@ -276,14 +276,14 @@ pub explain_call-loop-argument-init : goal.explain_call-loop-argument-init
 explain_call-loop-argument-init t c =
     let p = program_in c.args.context.now in
     let gives = c.into_iter-argument-iterator.ensures.into_iter_gives in
-    let first : iter_rest (zip_first c.into_iter-argument-iterator.result) ≡ arguments_under p c.args.arguments =
+    let first : iter_rest (zip_first c.into_iter-argument-iterator.result) ≡ argument_nodes p c.args.arguments =
     ap (λ z. iter_rest (zip_first z)) gives ∙ ap iter_rest c.zip-argument-items.ensures.first ∙ c.iter.ensures.rest ∙ c.arguments-arguments.ensures in
     let given : iter_rest (zip_second c.zip-argument-items.result) ≡ c.parameters-parameters.result.now = c.zip-argument-items.ensures.second.0 in
     let second : iter_rest (zip_second c.into_iter-argument-iterator.result) ≡ c.in-Some.template.now.parameters =
     ap (λ z. iter_rest (zip_second z)) gives ∙ given ∙ c.parameters-parameters.ensures in
     let count = ap length (sym c.arguments-arguments.ensures) ∙ c.if-arguments-parameters.false ∙ ap length c.parameters-parameters.ensures ∙ sym (length-map c.in-Some.template.now.parameters binding_of) in
     record {
-      so = walk_first (ArgumentsLeft p (context_in c.args.context.now) (arguments_under p c.args.arguments) (parameters_of c.in-Some.template.now.parameters)) first second (all_left count);
+      so = walk_first (ArgumentsLeft p (context_in c.args.context.now) (argument_nodes p c.args.arguments) (parameters_of c.in-Some.template.now.parameters)) first second (all_left count);
       below = All-same (ArgumentBelow p (term_number c.args.term)) _ _ first c.requires.below;
       shallow = subst (λ vs. arguments_depth (arguments_of p vs) ≤ 64) (sym first) (arguments_shallow p c.args.term _ _ (sym c.requires.there));
     }
@@ -299,7 +299,7 @@ explain_call-loop-argument-preserved t c =
     let p = program_in c.args.context.now in
     let Γ = context_in c.args.context.now in
     let step = Zip-more c.loop-argument.argument-iterator c.next.new.self _ _ c.in-Some-2.is c.next.ensures.steps in
-    let whole = ArgumentsLeft p Γ (arguments_under p c.args.arguments) (parameters_of c.in-Some.template.now.parameters) in
+    let whole = ArgumentsLeft p Γ (argument_nodes p c.args.arguments) (parameters_of c.in-Some.template.now.parameters) in
     record {
       so = one_less (walk_next whole step.0 step.1 c.loop-argument.invariant.so) (subst (ArgumentKeeps p Γ c.in-Some-2.argument.now) c.form.ensures c.in_ok-explain_argument.ensures.ok);
       below = All-rest (ArgumentBelow p (term_number c.args.term)) _ _ _ step.0 c.loop-argument.invariant.below;
@@ -311,7 +311,7 @@ explain_call-returns-in_err-explain_argument t c =
     let p = program_in c.args.context.now in
     let Γ = context_in c.args.context.now in
     let step = Zip-more c.loop-argument.argument-iterator c.next.new.self _ _ c.in-Some-2.is c.next.ensures.steps in
-    let whole = ArgumentsLeft p Γ (arguments_under p c.args.arguments) (parameters_of c.in-Some.template.now.parameters) in
+    let whole = ArgumentsLeft p Γ (argument_nodes p c.args.arguments) (parameters_of c.in-Some.template.now.parameters) in
     told_on _ _ c.from_residual.ensures.1
     (argument_tells p Γ c.args.term _ _ _ c.requires.there _ c.in-Some.ensures.found (walk_next whole step.0 step.1 c.loop-argument.invariant.so) (subst (λ k. Explains (ArgumentDiffersWithin p Γ c.in-Some-2.argument.now k) c.in_err-explain_argument.field-0.0) c.form.ensures c.in_err-explain_argument.ensures.err))
 
@@ -320,7 +320,7 @@ explain_call-explain_fit-requires t c =
     let p = program_in c.args.context.now in
     let Γ = context_in c.args.context.now in
     let is = sym c.arguments-arguments.ensures in
-    let whole = ArgumentsLeft p Γ (arguments_under p c.args.arguments) (parameters_of c.in-Some.template.now.parameters) in
+    let whole = ArgumentsLeft p Γ (argument_nodes p c.args.arguments) (parameters_of c.in-Some.template.now.parameters) in
     let typed = walk_end whole (rest_length c.loop-argument.invariant.so) c.loop-argument.invariant.so (either_empty_from_Zip c.loop-argument.argument-iterator c.next.new.self _ c.in-None.is c.next.ensures.steps) in
     record {
       typed = subst (λ vs. ArgumentsLeft p Γ vs (parameters_of c.in-Some.template.now.parameters) [] []) is typed;
@@ -408,7 +408,7 @@ explain_editing-returns t c =
     let form = c.args.form in
     let k = key_kind_of c.in_ok-types.types.keys in
     let beside = sym c.in_ok-value.ensures.ok in
-    let Θ = inside_pattern (pattern_in p form.pattern) c.in_ok-value.payload.now (members_inside p form.name k c.in_ok-value.value.now c.in_ok-types.types.output Γ) in
+    let Θ = inside_pattern (program_pattern p form.pattern) c.in_ok-value.payload.now (members_inside p form.name k c.in_ok-value.value.now c.in_ok-types.types.output Γ) in
     edit_last p Γ c.args.term _ c.args.input.now c.requires.there _ c.spot-spot.ensures _ _ _ _ _ _ _ _
     (λ d l. subst (λ a. FormDiffers p Γ c.spot-spot.result (nodes.Editing form) a d) beside (members_edit_differs c.in_ok-types.ensures.ok l))
     (λ binds. subst (λ a. ReachesMembers p Γ (nodes.Editing form) a Θ form.edit c.in_ok-value.value.now) beside (their_edit c.in_ok-types.ensures.ok binds)) c.explain_edited.ensures
@@ -423,7 +423,7 @@ explain_edited-returns t c =
 pub explain_edit_inside-explain_edit-requires : goal.explain_edit_inside-explain_edit-requires
 explain_edit_inside-explain_edit-requires t c =
     let same = sym c.in_ok-inner.ensures.program in
-    (omega arith, (c.requires.fits, (subst (λ p. CollectionBelow (term_number c.args.term) (collection_under p c.args.edit.now.form.edit)) same c.requires.below, subst (λ p. collection_depth (collection_of p (collection_under p c.args.edit.now.form.edit)) ≤ 64) same c.requires.shallow)))
+    (omega arith, (c.requires.fits, (subst (λ p. CollectionBelow (term_number c.args.term) (collection_node p c.args.edit.now.form.edit)) same c.requires.below, subst (λ p. collection_depth (collection_of p (collection_node p c.args.edit.now.form.edit)) ≤ 64) same c.requires.shallow)))
 
 pub explain_edit_inside-returns-in_err-inner : goal.explain_edit_inside-returns-in_err-inner
 explain_edit_inside-returns-in_err-inner t c = room_on _ _ c.from_residual.ensures.1
@@ -441,13 +441,13 @@ explain_edit-returns-in_err-given t c =
     let p = program_in c.args.context.now in
     let names = c.in_ok-names.ensures in
     told_on _ _ c.from_residual-in_err-given.ensures.1
-    (told_as (λ d k. inr (names.bound, subst (λ (Γ : Context). CollectionDiffers p Γ (collection_under p c.args.edit.now.form.edit) c.args.edit.now.input.now d) names.inside k)) c.in_err-given.ensures.err)
+    (told_as (λ d k. inr (names.bound, subst (λ (Γ : Context). CollectionDiffers p Γ (collection_node p c.args.edit.now.form.edit) c.args.edit.now.input.now d) names.inside k)) c.in_err-given.ensures.err)
 
 pub explain_edit-returns : goal.explain_edit-returns
 explain_edit-returns t c =
     let p = program_in c.args.context.now in
     let names = c.in_ok-names.ensures in
-    let given = subst (λ (Γ : Context). Collects Γ (collection_at p c.args.edit.now.form.edit) (key_kind_of c.in_ok-given.given.keys) c.args.edit.now.input.now c.in_ok-given.given.output) names.inside c.in_ok-given.ensures.ok in
+    let given = subst (λ (Γ : Context). Collects Γ (collection_tree p c.args.edit.now.form.edit) (key_kind_of c.in_ok-given.given.keys) c.args.edit.now.input.now c.in_ok-given.given.output) names.inside c.in_ok-given.ensures.ok in
     on_err c.suits_members.result (λ b h. told_as (λ d k. inl (edit_tables names.bound given k)) h) c.suits_members.ensures.err
 
 -- ## Collections
@@ -455,7 +455,7 @@ explain_edit-returns t c =
 pub members_part_within-members_at_part-requires : goal.members_part_within-members_at_part-requires
 members_part_within-members_at_part-requires t c =
     let same = sym c.in_ok-inner.ensures.program in
-    (omega arith, (c.requires.fits, (subst (λ p. CollectionBelow (term_number c.args.form) (collection_under p c.args.members)) same c.requires.below, subst (λ p. collection_depth (collection_of p (collection_under p c.args.members)) ≤ 64) same c.requires.shallow)))
+    (omega arith, (c.requires.fits, (subst (λ p. CollectionBelow (term_number c.args.form) (collection_node p c.args.members)) same c.requires.below, subst (λ p. collection_depth (collection_of p (collection_node p c.args.members)) ≤ 64) same c.requires.shallow)))
 
 pub members_part_within-returns-in_err-inner-clause-err : goal.members_part_within-returns-in_err-inner-clause-err
 members_part_within-returns-in_err-inner-clause-err t c = room_on _ _ c.from_residual.ensures.1
@@ -463,12 +463,12 @@ members_part_within-returns-in_err-inner-clause-err t c = room_on _ _ c.from_res
 pub members_part_within-returns-clause-ok : goal.members_part_within-returns-clause-ok
 members_part_within-returns-clause-ok t c =
     let inner = c.in_ok-inner.ensures in
-    subst₂ (λ (p : Program) (Γ : Context). IfOk c.members_at_part.result (λ m. Collects Γ (collection_at p c.args.members) (key_kind_of m.keys) c.args.input.now m.output)) inner.program inner.context c.members_at_part.ensures.ok
+    subst₂ (λ (p : Program) (Γ : Context). IfOk c.members_at_part.result (λ m. Collects Γ (collection_tree p c.args.members) (key_kind_of m.keys) c.args.input.now m.output)) inner.program inner.context c.members_at_part.ensures.ok
 
 pub members_part_within-returns-clause-err : goal.members_part_within-returns-clause-err
 members_part_within-returns-clause-err t c =
     let inner = c.in_ok-inner.ensures in
-    subst₂ (λ (p : Program) (Γ : Context). IfErr c.members_at_part.result (λ e. Explains (CollectionDiffers p Γ (collection_under p c.args.members) c.args.input.now) e)) inner.program inner.context c.members_at_part.ensures.err
+    subst₂ (λ (p : Program) (Γ : Context). IfErr c.members_at_part.result (λ e. Explains (CollectionDiffers p Γ (collection_node p c.args.members) c.args.input.now) e)) inner.program inner.context c.members_at_part.ensures.err
 
 pub members_at_part-members_part-requires : goal.members_at_part-members_part-requires
 members_at_part-members_part-requires t c =
@@ -559,7 +559,7 @@ members_part-returns-in_err-suits_keys-in-Added-clause-err t c =
 
 pub members_part-returns-in_err-suits_type-in-Added-clause-err : goal.members_part-returns-in_err-suits_type-in-Added-clause-err
 members_part-returns-in_err-suits_type-in-Added-clause-err t c =
-    told_on _ _ c.from_residual-in_err-suits_type-in-Added.ensures.1 (collection_tells (program_in c.args.context.now) (context_in c.args.context.now) c.args.input.now c.in-Added.is (λ d k. member_output (rw c.deref.ensures at c.in_ok-types-in-Added.ensures.ok) (subst (HasType (names_of_values (context_in c.args.context.now)) (expression (expressions_of (program_in c.args.context.now)) _)) c.in_ok-suits_keys-in-Added.ensures.ok c.in_ok-given-in-Added.ensures.ok) c.in_ok-output-in-Added.ensures.ok k) (c.in_err-suits_type-in-Added.ensures.err))
+    told_on _ _ c.from_residual-in_err-suits_type-in-Added.ensures.1 (collection_tells (program_in c.args.context.now) (context_in c.args.context.now) c.args.input.now c.in-Added.is (λ d k. member_output (rw c.deref.ensures at c.in_ok-types-in-Added.ensures.ok) (subst (HasType (names_of_values (context_in c.args.context.now)) (expression (program_expressions (program_in c.args.context.now)) _)) c.in_ok-suits_keys-in-Added.ensures.ok c.in_ok-given-in-Added.ensures.ok) c.in_ok-output-in-Added.ensures.ok k) (c.in_err-suits_type-in-Added.ensures.err))
 
 pub members_part-returns-in_ok-suits_type-in-Added-clause-ok : goal.members_part-returns-in_ok-suits_type-in-Added-clause-ok
 members_part-returns-in_ok-suits_type-in-Added-clause-ok t c =
@@ -615,7 +615,7 @@ members_part-returns-in_err-suits_type-in-Chosen-clause-err t c =
 
 pub members_part-returns-in_err-suits_members-in-Chosen-clause-err : goal.members_part-returns-in_err-suits_members-in-Chosen-clause-err
 members_part-returns-in_err-suits_members-in-Chosen-clause-err t c =
-    told_on _ _ c.from_residual-in_err-suits_members-in-Chosen.ensures.1 (collection_tells (program_in c.args.context.now) (context_in c.args.context.now) c.args.input.now c.in-Chosen.is (λ d k. choice_tables (subst (HasType (names_of_values (context_in c.args.context.now)) (expression (expressions_of (program_in c.args.context.now)) _)) (rw c.bool-in-Chosen.ensures at c.in_ok-suits_type-in-Chosen.ensures.ok) c.in_ok-given-in-Chosen.ensures.ok) (rw c.deref-in-Chosen.ensures at c.in_ok-types-in-Chosen.ensures.ok) (rw c.deref-in-Chosen-2.ensures at c.in_ok-others-in-Chosen.ensures.ok) k) (c.in_err-suits_members-in-Chosen.ensures.err))
+    told_on _ _ c.from_residual-in_err-suits_members-in-Chosen.ensures.1 (collection_tells (program_in c.args.context.now) (context_in c.args.context.now) c.args.input.now c.in-Chosen.is (λ d k. choice_tables (subst (HasType (names_of_values (context_in c.args.context.now)) (expression (program_expressions (program_in c.args.context.now)) _)) (rw c.bool-in-Chosen.ensures at c.in_ok-suits_type-in-Chosen.ensures.ok) c.in_ok-given-in-Chosen.ensures.ok) (rw c.deref-in-Chosen.ensures at c.in_ok-types-in-Chosen.ensures.ok) (rw c.deref-in-Chosen-2.ensures at c.in_ok-others-in-Chosen.ensures.ok) k) (c.in_err-suits_members-in-Chosen.ensures.err))
 
 pub members_part-returns-in_ok-suits_members-in-Chosen-clause-ok : goal.members_part-returns-in_ok-suits_members-in-Chosen-clause-ok
 members_part-returns-in_ok-suits_members-in-Chosen-clause-ok t c =

@@ -2,7 +2,7 @@ use Rattle.std.proofs.Common.{◌+◌, ◌*◌, ◌≤◌, All}
 use Rattle.std.specs.Iterator.Adapters.{zip_first, zip_second}
 use Rattle.std.specs.Slice.Iter.{iter_rest}
 use Rattle.sf_term.specs.Trees.{collection_depth, arguments_depth}
-use Rattle.sf_term.specs.Arena.{term_number, arguments_under, arguments_of, collection_of, ArgumentBelow}
+use Rattle.sf_term.specs.Arena.{term_number, argument_nodes, arguments_of, collection_of, ArgumentBelow}
 use Rattle.sf_term.specs.Parameters.{parameters_of}
 use Rattle.sf_check.specs.Contexts.{program_in, context_in}
 use Rattle.sf_check.specs.Breaking.{ArgumentsLeft}
@@ -39,8 +39,8 @@ decreases-explain_basic l = 100 * term_number l.term + 89
 abbrev pub decreases-explain_recurring : goal.decreases-explain_recurring
 decreases-explain_recurring l = 100 * term_number l.term + 89
 
-abbrev pub decreases-explain_keeping : goal.decreases-explain_keeping
-decreases-explain_keeping l = 100 * term_number l.term + 89
+abbrev pub decreases-explain_continuing : goal.decreases-explain_continuing
+decreases-explain_continuing l = 100 * term_number l.term + 89
 
 abbrev pub decreases-explain_call : goal.decreases-explain_call
 decreases-explain_call l = 100 * term_number l.term + 89
@@ -98,7 +98,7 @@ abbrev pub invariant-explain_call-loop-argument : goal.invariant-explain_call-lo
 invariant-explain_call-loop-argument l =
     let left = iter_rest (zip_first l.argument-iterator) in
     record {
-      so : ArgumentsLeft (program_in l.context) (context_in l.context) (arguments_under (program_in l.context) l.fn.arguments) (parameters_of l.template.parameters) left (parameters_of (iter_rest (zip_second l.argument-iterator)));
+      so : ArgumentsLeft (program_in l.context) (context_in l.context) (argument_nodes (program_in l.context) l.fn.arguments) (parameters_of l.template.parameters) left (parameters_of (iter_rest (zip_second l.argument-iterator)));
       below : All (ArgumentBelow (program_in l.context) (term_number l.term)) left;
       shallow : arguments_depth (arguments_of (program_in l.context) left) ≤ 64;
     }

@@ -1,7 +1,7 @@
 use Rattle.std.proofs.Common.{sym, subst, Some, refl}
 use Rattle.sf_mean.specs.Typing.{selected_kind}
 use Rattle.sf_term.specs.declared.node.Primitive.{Primitive}
-use Rattle.sf_term.specs.Arena.{expressions_of}
+use Rattle.sf_term.specs.Arena.{program_expressions}
 use Rattle.sf_expr.proofs.Bound.{on_err}
 use Rattle.sf_differ.specs.declared.difference.Wanted.TheVariants.{Event}
 use Rattle.sf_differ.specs.Wanting.{IsMade}
@@ -16,11 +16,11 @@ returns-in-Bare c =
     on_err c.suited.result
     (λ b h. told_as (λ d k.
     let from = bare_from c.in-Bare.kind (bare_under c.in-Bare.kind c.bare_wanted.ensures k) in
-    subst (λ (q : Primitive). PrimitiveDiffers (expressions_of (program_in c.args.context.now)) (context_in c.args.context.now) c.args.spot q c.args.input.now d) (sym c.in-Bare.is) (bare_differs from.0 from.1)) h) c.suited.ensures.err
+    subst (λ (q : Primitive). PrimitiveDiffers (program_expressions (program_in c.args.context.now)) (context_in c.args.context.now) c.args.spot q c.args.input.now d) (sym c.in-Bare.is) (bare_differs from.0 from.1)) h) c.suited.ensures.err
 
 pub returns-in-Selected : goal.returns-in-Selected
 returns-in-Selected c =
     on_err c.suited-in-Selected.result
     (λ b h. told_as (λ d k.
-    subst (λ (q : Primitive). PrimitiveDiffers (expressions_of (program_in c.args.context.now)) (context_in c.args.context.now) c.args.spot q c.args.input.now d) (sym c.in-Selected.is)
+    subst (λ (q : Primitive). PrimitiveDiffers (program_expressions (program_in c.args.context.now)) (context_in c.args.context.now) c.args.spot q c.args.input.now d) (sym c.in-Selected.is)
     (selected_differs (differs_with (λ b. IsMade (selected_kind b)) (Some Event) event_whole (Some Event) refl k))) h) c.suited-in-Selected.ensures.err

@@ -15,7 +15,7 @@ use Rattle.sf_term.specs.declared.node.Node.TheVariants as nodes
 use Rattle.sf_term.specs.ParameterView.{kind_of_form}
 use Rattle.sf_term.specs.Parameters.{binding_of}
 use Rattle.sf_term.specs.Trees.{arguments_depth, collection_depth}
-use Rattle.sf_term.specs.Arena.{term_number, term_spot_at, arguments_under, arguments_of, collection_under, collection_of, CollectionBelow, ArgumentBelow}
+use Rattle.sf_term.specs.Arena.{term_number, term_spot_at, argument_nodes, arguments_of, collection_node, collection_of, CollectionBelow, ArgumentBelow}
 use Rattle.sf_reach.proofs.Shallow.{arguments_shallow, members_shallow, released_shallow, edited_shallow, first_shallow, rest_shallow, found_there}
 use Rattle.sf_check.specs.Contexts.{program_in, context_in}
 use Rattle.sf_mean.specs.Contexts.{NameKind}
@@ -101,12 +101,12 @@ editing_output-edited_types-requires t c = (omega arith, (c.requires.below.1, (e
 pub edit_within-edit_types-requires : goal.edit_within-edit_types-requires
 edit_within-edit_types-requires t c =
     let same = sym c.in_ok-inner.ensures.program in
-    (omega arith, (subst (λ p. CollectionBelow (term_number c.args.term) (collection_under p c.args.edit.now.form.edit)) same c.requires.below, subst (λ p. collection_depth (collection_of p (collection_under p c.args.edit.now.form.edit)) ≤ 64) same c.requires.shallow))
+    (omega arith, (subst (λ p. CollectionBelow (term_number c.args.term) (collection_node p c.args.edit.now.form.edit)) same c.requires.below, subst (λ p. collection_depth (collection_of p (collection_node p c.args.edit.now.form.edit)) ≤ 64) same c.requires.shallow))
 
 pub members_within-judge_members-requires : goal.members_within-judge_members-requires
 members_within-judge_members-requires t c =
     let same = sym c.in_ok-inner.ensures.program in
-    (omega arith, (subst (λ p. CollectionBelow (term_number c.args.form) (collection_under p c.args.members)) same c.requires.below, subst (λ p. collection_depth (collection_of p (collection_under p c.args.members)) ≤ 64) same c.requires.shallow))
+    (omega arith, (subst (λ p. CollectionBelow (term_number c.args.form) (collection_node p c.args.members)) same c.requires.below, subst (λ p. collection_depth (collection_of p (collection_node p c.args.members)) ≤ 64) same c.requires.shallow))
 
 pub argument_fits-returns-in_ok-given-in-Collection-Collection : goal.argument_fits-returns-in_ok-given-in-Collection-Collection
 argument_fits-returns-in_ok-given-in-Collection-Collection t c =
@@ -132,7 +132,7 @@ pub call_output-loop-argument-init : goal.call_output-loop-argument-init
 call_output-loop-argument-init t c =
     let p = program_in c.args.context.now in
     let gives = c.into_iter-argument-iterator.ensures.into_iter_gives in
-    let first : iter_rest (zip_first c.into_iter-argument-iterator.result) ≡ arguments_under p c.args.arguments =
+    let first : iter_rest (zip_first c.into_iter-argument-iterator.result) ≡ argument_nodes p c.args.arguments =
     ap (λ z. iter_rest (zip_first z)) gives ∙ ap iter_rest c.zip-argument-items.ensures.first ∙ c.iter.ensures.rest ∙ c.arguments-arguments.ensures in
     let given : iter_rest (zip_second c.zip-argument-items.result) ≡ c.parameters-parameters.result.now = c.zip-argument-items.ensures.second.0 in
     let second : iter_rest (zip_second c.into_iter-argument-iterator.result) ≡ c.in-Some.template.now.parameters =

@@ -2,7 +2,7 @@ use Rattle.std.proofs.Common.{◌+◌, ◌*◌, ◌≤◌, All}
 use Rattle.std.specs.Iterator.Adapters.{zip_first, zip_second}
 use Rattle.std.specs.Slice.Iter.{iter_rest}
 use Rattle.sf_term.specs.Trees.{collection_depth, arguments_depth}
-use Rattle.sf_term.specs.Arena.{term_number, term_spot_at, arguments_under, arguments_of, collection_of, ArgumentBelow}
+use Rattle.sf_term.specs.Arena.{term_number, term_spot_at, argument_nodes, arguments_of, collection_of, ArgumentBelow}
 use Rattle.sf_term.specs.Parameters.{parameters_of}
 use Rattle.sf_check.specs.Contexts.{program_in, context_in}
 use Rattle.sf_check.proofs.Calls.{SoFar}
@@ -30,8 +30,8 @@ decreases-transformed_output l = 100 * term_number l.term + 89
 abbrev pub decreases-switching_output : goal.decreases-switching_output
 decreases-switching_output l = 100 * term_number l.term + 89
 
-abbrev pub decreases-keeping_output : goal.decreases-keeping_output
-decreases-keeping_output l = 100 * term_number l.term + 89
+abbrev pub decreases-continuing_output : goal.decreases-continuing_output
+decreases-continuing_output l = 100 * term_number l.term + 89
 
 abbrev pub decreases-sequence_output : goal.decreases-sequence_output
 decreases-sequence_output l = 100 * term_number l.term + 88
@@ -104,7 +104,7 @@ abbrev pub invariant-call_output-loop-argument : goal.invariant-call_output-loop
 invariant-call_output-loop-argument l =
     let left = iter_rest (zip_first l.argument-iterator) in
     record {
-      so : SoFar (program_in l.context) (term_spot_at (program_in l.context) l.term) (context_in l.context) (arguments_under (program_in l.context) l.fn.arguments) (parameters_of l.template.parameters) left (parameters_of (iter_rest (zip_second l.argument-iterator))) l.fit;
+      so : SoFar (program_in l.context) (term_spot_at (program_in l.context) l.term) (context_in l.context) (argument_nodes (program_in l.context) l.fn.arguments) (parameters_of l.template.parameters) left (parameters_of (iter_rest (zip_second l.argument-iterator))) l.fit;
       below : All (ArgumentBelow (program_in l.context) (term_number l.term)) left;
       shallow : arguments_depth (arguments_of (program_in l.context) left) ≤ 64;
     }

@@ -8,15 +8,15 @@ use Rattle.sf_value.specs.Values.{Name}
 use Rattle.sf_expr.specs.declared.exprs.NameId.{NameId}
 use Rattle.std.proofs.Math.Seq.{take-length}
 use Rattle.sf_expr.specs.Meanings.{names_seen}
-use Rattle.sf_code.specs.Compiling.{named_each, place_in, BindAsMany}
-use Rattle.sf_code.specs.Around.{names_at}
+use Rattle.sf_code.specs.Compiling.{named_each, place_of_name, BindAsMany}
+use Rattle.sf_code.specs.Around.{names_by_id}
 use Rattle.sf_code.proofs.Outside.{once_seen, one_more, put_kept, put_there}
 use Rattle.sf_code.proofs.around.each_once.Goals as goal
 use Rattle.sf_code.proofs.around.each_once.Goals.{then-is_new+in_ok-push, else-is_new}
 
 pub loop-name-init : goal.loop-name-init
 loop-name-init c = record {
-  same = ap (names_at c.args.exprs.now) c.new-own.ensures.items ∙ sym (ap names_seen c.new-seen.ensures.empty);
+  same = ap (names_by_id c.args.exprs.now) c.new-own.ensures.items ∙ sym (ap names_seen c.new-seen.ensures.empty);
   bound = λ y h. absurd cc;
   none = λ h. c.new-own.ensures.items;
 }
@@ -45,18 +45,18 @@ loop-name-preserved c =
       | then-is_new+in_ok-push w ↦ own_kept old k _ seen _ new w.if-is_new.true (ap (λ (v : Vec NameId Global). v.items) w.own-is ∙ w.in_ok-push.ensures.items)
       | else-is_new w ↦ own_passed old k _ seen _ new w.if-is_new.false (ap (λ (v : Vec NameId Global). v.items) w.own-is)
     ] in
-    let here = subst (λ (z : Name). is_some (place_in z (named_each (names_seen c.insert.new.self.keys))) ≡ true) c.name_of.ensures (put_there c.name_of.result c.loop-name.seen.keys c.insert.new.self.keys _ keys refl) in
-    let before : BindAsMany (named_each (names_at x (take i c.args.names.now))) (named_each (names_seen c.insert.new.self.keys)) = λ y h. put_kept c.name_of.result c.loop-name.seen.keys c.insert.new.self.keys _ keys y (c.loop-name.invariant.bound y h) in
+    let here = subst (λ (z : Name). is_some (place_of_name z (named_each (names_seen c.insert.new.self.keys))) ≡ true) c.name_of.ensures (put_there c.name_of.result c.loop-name.seen.keys c.insert.new.self.keys _ keys refl) in
+    let before : BindAsMany (named_each (names_by_id x (take i c.args.names.now))) (named_each (names_seen c.insert.new.self.keys)) = λ y h. put_kept c.name_of.result c.loop-name.seen.keys c.insert.new.self.keys _ keys y (c.loop-name.invariant.bound y h) in
     record {
-      same = ap (names_at x) own ∙ once_seen x old k c.loop-name.seen.keys c.insert.new.self.keys c.name_of.result seen c.name_of.ensures keys c.loop-name.invariant.same;
-      bound = subst (λ ks. BindAsMany (named_each (names_at x ks)) (named_each (names_seen c.insert.new.self.keys))) (sym (take_more c.args.names.now i none inside)) (one_more x (take i c.args.names.now) k (named_each (names_seen c.insert.new.self.keys)) before here);
+      same = ap (names_by_id x) own ∙ once_seen x old k c.loop-name.seen.keys c.insert.new.self.keys c.name_of.result seen c.name_of.ensures keys c.loop-name.invariant.same;
+      bound = subst (λ ks. BindAsMany (named_each (names_by_id x ks)) (named_each (names_seen c.insert.new.self.keys))) (sym (take_more c.args.names.now i none inside)) (one_more x (take i c.args.names.now) k (named_each (names_seen c.insert.new.self.keys)) before here);
       none = λ h. absurd (let empty : length c.args.names.now ≡ 0 = ap length h in omega (arith, inside, empty));
     }
 
 pub returns-clause-bound : goal.returns-clause-bound
 returns-clause-bound c =
     let all : c.loop-name.name-index ≡ length c.args.names.now = omega (arith, c.loop-name-test.false, c.loop-name.auto.name-index-end) in
-    subst (λ ks. BindAsMany (named_each (names_at c.args.exprs.now ks)) (named_each (names_at c.args.exprs.now c.loop-name.own.items))) (ap (λ k. take k c.args.names.now) all ∙ take-length c.args.names.now)
+    subst (λ ks. BindAsMany (named_each (names_by_id c.args.exprs.now ks)) (named_each (names_by_id c.args.exprs.now c.loop-name.own.items))) (ap (λ k. take k c.args.names.now) all ∙ take-length c.args.names.now)
     (rw c.loop-name.invariant.same c.loop-name.invariant.bound)
 
 pub returns-clause-fewest : goal.returns-clause-fewest

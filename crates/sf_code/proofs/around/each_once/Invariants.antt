@@ -1,12 +1,12 @@
 use Rattle.std.proofs.Common.{◌≡◌, [], take}
 use Rattle.sf_expr.specs.Meanings.{names_seen}
 use Rattle.sf_code.specs.Compiling.{named_each, BindAsMany}
-use Rattle.sf_code.specs.Around.{names_at}
+use Rattle.sf_code.specs.Around.{names_by_id}
 use Rattle.sf_code.proofs.around.each_once.Given as goal
 
 abbrev pub invariant-loop-name : goal.invariant-loop-name
 invariant-loop-name l = record {
-  same : names_at l.exprs l.own.items ≡ names_seen l.seen.keys;
-  bound : BindAsMany (named_each (names_at l.exprs (take l.name-index l.names))) (named_each (names_seen l.seen.keys));
+  same : names_by_id l.exprs l.own.items ≡ names_seen l.seen.keys;
+  bound : BindAsMany (named_each (names_by_id l.exprs (take l.name-index l.names))) (named_each (names_seen l.seen.keys));
   none : l.names ≡ [] → l.own.items ≡ [];
 }

@@ -1,5 +1,5 @@
 use Rattle.std.proofs.Common.{◌≡◌, ◌+◌, ◌*◌, map, length}
-use Rattle.sf_value.specs.View.{key_of, rows_under}
+use Rattle.sf_value.specs.View.{key_of, keyed_rows}
 use Rattle.sf_code.specs.CodeView.{code_of}
 use Rattle.sf_code.specs.FrameView.{frames_of}
 use Rattle.sf_code.proofs.Rows.{fold_worth}
@@ -53,8 +53,8 @@ decreases-map g l = 8 * code_size (code_of l.body.now) + 5
 
 abbrev pub invariant-fold_rows-loop-rest : goal.invariant-fold_rows-loop-rest
 invariant-fold_rows-loop-rest g l =
-    fold_worth (code_of l.body) (frames_of l.frames) (g.F.Holds.answers l.functions) (rows_under (map key_of l.rest.keys.now) l.rest.values.now) l.so_far
-    ≡ fold_worth (code_of l.body) (frames_of l.frames) (g.F.Holds.answers l.functions) (rows_under (map key_of l.rows.keys.now) l.rows.values.now) l.initial.so_far
+    fold_worth (code_of l.body) (frames_of l.frames) (g.F.Holds.answers l.functions) (keyed_rows (map key_of l.rest.keys.now) l.rest.values.now) l.so_far
+    ≡ fold_worth (code_of l.body) (frames_of l.frames) (g.F.Holds.answers l.functions) (keyed_rows (map key_of l.rows.keys.now) l.rows.values.now) l.initial.so_far
 
 abbrev pub decreases-fold_rows-loop-rest : goal.decreases-fold_rows-loop-rest
 decreases-fold_rows-loop-rest g l = length l.rest.keys.now

@@ -5,7 +5,7 @@ use Rattle.sf_func.specs.Signatures.{signatures_in}
 use Rattle.sf_operator.specs.Kinds.{unary_kind, binary_kind, conditional_kind, mapped_argument, mapped_kind, called_kind, folded_argument, folded_kind}
 use Rattle.sf_expr.specs.Arena.{name_at}
 use Rattle.sf_expr.specs.Typing.{function_takes}
-use Rattle.sf_expr.specs.Scopes.{entries_in, entries_around, names_of}
+use Rattle.sf_expr.specs.Scopes.{frame_entries, entries_around, scope_names}
 use Rattle.sf_expr.proofs.Bound.{functions_with, binds_with, bound_within, on_err}
 use Rattle.sf_differ.specs.declared.difference.Wanted.TheVariants.{Exactly}
 use Rattle.sf_differ.specs.Differences.{tells_nothing, lacks_room}
@@ -29,12 +29,12 @@ part_within-returns-in_err-names-clause-err t c = room_on _ _ c.from_residual.en
 
 pub part_behind-returns-in-Ok-clause-ok : goal.part_behind-returns-in-Ok-clause-ok
 part_behind-returns-in-Ok-clause-ok t c =
-    let bound = bound_within (entries_in c.in-Ok.frame) (entries_around c.args.context.now.names.now) _ refl c.in-Ok.ensures.bound in
+    let bound = bound_within (frame_entries c.in-Ok.frame) (entries_around c.args.context.now.names.now) _ refl c.in-Ok.ensures.bound in
     ok_as c.part_within.result (λ u h. function_takes c.in-Ok.ensures.fits (binds_with (signatures_in c.args.context.now.functions.now) bound) h) c.part_within.ensures.ok
 
 pub part_behind-returns-in-Ok-clause-err : goal.part_behind-returns-in-Ok-clause-err
 part_behind-returns-in-Ok-clause-err t c =
-    let bound = bound_within (entries_in c.in-Ok.frame) (entries_around c.args.context.now.names.now) _ refl c.in-Ok.ensures.bound in
+    let bound = bound_within (frame_entries c.in-Ok.frame) (entries_around c.args.context.now.names.now) _ refl c.in-Ok.ensures.bound in
     on_err c.part_within.result (λ b h. told_as (λ d k. bound_body (binds_with (signatures_in c.args.context.now.functions.now) bound) k) h) c.part_within.ensures.err
 
 pub part_behind-returns-in-Err-clause-err : goal.part_behind-returns-in-Err-clause-err
@@ -193,7 +193,7 @@ explain_called-returns t c =
     let x = exprs_in c.args.context.now in
     let fs = signatures_in c.args.context.now.functions.now in
     let g = name_at x c.args.function in
-    let found = ap (types_named g) (functions_with fs (names_of c.args.context.now.names.now)) ∙ ap (λ (n : Name). types_named n fs) (sym c.name_of.ensures) ∙ c.in-Some.ensures.found in
+    let found = ap (types_named g) (functions_with fs (scope_names c.args.context.now.names.now)) ∙ ap (λ (n : Name). types_named n fs) (sym c.name_of.ensures) ∙ c.in-Some.ensures.found in
     let from = c.in_ok-clone_in.ensures.same ∙ c.from.ensures in
     suited_last x (types_around c.args.context.now) c.args.id _ c.requires.there
     (λ a. IsMade (called_kind _ _ a)) _ _ (called_wants _ _) (ap (λ (t : Kind). Some (Exactly t)) from) _ c.spot.ensures _ (λ d h. called_differs c.in_ok-given.ensures.ok found h) _ c.suited.ensures.err

@@ -1,6 +1,6 @@
 use Rattle.std.proofs.Common.{◌∙◌, sym, subst, arith}
-use Rattle.sf_expr.specs.Arena.{Keeps}
-use Rattle.sf_term.specs.Arena.{expressions_of as program_expressions, TermPartsBelow}
+use Rattle.sf_expr.specs.Arena.{Extends}
+use Rattle.sf_term.specs.Arena.{program_expressions, TermPartsBelow}
 use Rattle.sf_law.specs.Copies.{plan_id}
 use Rattle.sf_law.proofs.Copied.{shows_next, shows_all, stand_same, parts_fit, no_pipeline}
 use Rattle.sf_law.proofs.plain.copy_terms.Goals as goal
@@ -21,7 +21,7 @@ loop-number-preserved c =
     let old = c.loop-number.plan in
     let i = c.loop-number in
     let node = c.node-node.result in
-    let kept = subst (λ x. Keeps (program_expressions p) x) (sym i.invariant.expressions) c.requires.kept in
+    let kept = subst (λ x. Extends (program_expressions p) x) (sym i.invariant.expressions) c.requires.kept in
     let below = subst (λ k. TermPartsBelow p node k) c.term.ensures c.node-node.ensures.below in
     let added = c.in_ok-add.ensures.ok in
     record {

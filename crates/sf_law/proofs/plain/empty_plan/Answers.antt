@@ -2,9 +2,9 @@ use Rattle.std.proofs.Common.{◌≡◌, Result, Ok, Err, List, sym, subst}
 use Rattle.std.specs.Prelude.{IfOk}
 use Rattle.std.specs.List.{AllZip}
 use Rattle.sf_expr.specs.declared.exprs.Exprs.{Exprs}
-use Rattle.sf_expr.specs.Arena.{IsCopy, Keeps}
+use Rattle.sf_expr.specs.Arena.{IsCopy, Extends}
 use Rattle.sf_expr.proofs.Entered.{unchanged_keeps, keeps_trans}
-use Rattle.sf_term.specs.Arena.{expressions_of as program_expressions, headers_of as program_headers}
+use Rattle.sf_term.specs.Arena.{program_expressions, headers_of}
 use Rattle.sf_law.specs.Headers.{PlanHeader}
 use Rattle.sf_law.specs.Copies.{CopiesTemplate}
 use Rattle.sf_law.proofs.Among.{templates_bound}
@@ -29,12 +29,12 @@ returns-clause-kept c =
     let y = c.in_ok-expressions.expressions in
     let z = c.plan_templates.new.expressions in
     let copy = subst (λ w. IsCopy w y) c.expressions.ensures c.in_ok-expressions.ensures in
-    for_that (Keeps x) _ z (keeps_trans x y z (unchanged_keeps x y copy) c.in_ok-templates.ensures.kept) c.new.result c.new.ensures.expressions
+    for_that (Extends x) _ z (keeps_trans x y z (unchanged_keeps x y copy) c.in_ok-templates.ensures.kept) c.new.result c.new.ensures.expressions
 
 pub returns-clause-copied : goal.returns-clause-copied
 returns-clause-copied c =
     let z = c.plan_templates.new.expressions in
-    let hs = program_headers c.args.program.now in
+    let hs = headers_of c.args.program.now in
     let ms = c.in_ok-templates.templates.items in
     let made = subst (λ hs. AllZip (CopiesTemplate z) hs ms) c.templates.ensures.templates c.in_ok-templates.ensures.copied in
     for_those (λ (x : Exprs) (ms : List PlanHeader). AllZip (CopiesTemplate x) hs ms) _ _ z ms made c.new.result c.new.ensures.expressions c.new.ensures.templates

@@ -1,4 +1,4 @@
-use Rattle.sf_law.specs.Copies.{copies_primitive, copies_joined, copies_sided, copies_headed, copies_transformed, copies_switching, copies_keeping}
+use Rattle.sf_law.specs.Copies.{copies_primitive, copies_joined, copies_sided, copies_headed, copies_transformed, copies_switching, copies_continuing}
 use Rattle.sf_law.proofs.plain.plan_node.Goals as goal
 
 pub returns-in_ok-primitive-in-Primitive-clause-same : goal.returns-in_ok-primitive-in-Primitive-clause-same
@@ -22,8 +22,8 @@ returns-in_ok-head-in-Transformed-clause-same c = rw (c.in-Transformed.is, c.id-
 pub returns-in-Switching-clause-same : goal.returns-in-Switching-clause-same
 returns-in-Switching-clause-same c = rw (c.in-Switching.is, c.plan_switch.ensures) copies_switching
 
-pub returns-in-Keeping-clause-same : goal.returns-in-Keeping-clause-same
-returns-in-Keeping-clause-same c = rw (c.in-Keeping.is, c.plan_keeping.ensures) copies_keeping
+pub returns-in-Continuation-clause-same : goal.returns-in-Continuation-clause-same
+returns-in-Continuation-clause-same c = rw (c.in-Continuation.is, c.plan_continuing.ensures) copies_continuing
 
 pub returns-in_ok-named-in-Named-clause-coded : goal.returns-in_ok-named-in-Named-clause-coded
 returns-in_ok-named-in-Named-clause-coded c = c.in_ok-named-in-Named.ensures.coded _

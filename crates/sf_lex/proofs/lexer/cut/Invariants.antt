@@ -1,5 +1,5 @@
 use Rattle.std.proofs.Common.{◌≡◌, ◌+◌, ◌-◌, ◌≤◌, length}
-use Rattle.sf_lex.specs.Tokens.{place_at}
+use Rattle.sf_lex.specs.Tokens.{offset_place}
 use Rattle.sf_lex.specs.Cutting.{AreTokensTo}
 use Rattle.sf_lex.proofs.lexer.cut.Given as goal
 
@@ -7,7 +7,7 @@ abbrev pub invariant-loop-at : goal.invariant-loop-at
 invariant-loop-at l = record {
   tokens : AreTokensTo l.fn.bytes l.at l.found.items;
   valid : l.at ≤ l.fn.valid;
-  place : l.place ≡ place_at l.fn.bytes l.at;
+  place : l.place ≡ offset_place l.fn.bytes l.at;
   line : l.place.line ≤ l.at + 1;
   column : l.place.column ≤ l.at + 1;
 }

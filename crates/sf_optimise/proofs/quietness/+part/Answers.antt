@@ -1,5 +1,5 @@
 use Rattle.std.proofs.Common.{◌∙◌, ap, subst, arith}
-use Rattle.sf_law.specs.Arena.{trees_at, BuildsPlan, plan_tree}
+use Rattle.sf_law.specs.Arena.{plan_trees, BuildsPlan, plan_tree}
 use Rattle.sf_optimise.specs.Lists.{all_quiet}
 use Rattle.sf_optimise.proofs.Quieted.{below_end, pipeline_quiet}
 use Rattle.sf_optimise.proofs.quietness.+part.Goals as goal
@@ -11,4 +11,4 @@ pub is_quiet-returns-in-Pipeline : goal.is_quiet-returns-in-Pipeline
 is_quiet-returns-in-Pipeline t c =
     let p = c.args.plan.now in
     let built = subst (λ n. BuildsPlan p n (plan_tree p c.args.id)) c.in-Pipeline.is c.node.ensures.builds in
-    c.are_quiet.ensures ∙ ap (λ ids. all_quiet (trees_at p ids)) c.deref.ensures.value ∙ pipeline_quiet built
+    c.are_quiet.ensures ∙ ap (λ ids. all_quiet (plan_trees p ids)) c.deref.ensures.value ∙ pipeline_quiet built

@@ -1,5 +1,5 @@
 use Rattle.std.proofs.Common.{◌≡◌, ◌+◌, ◌*◌, drop}
-use Rattle.sf_law.specs.Arena.{trees_at}
+use Rattle.sf_law.specs.Arena.{plan_trees}
 use Rattle.sf_law.specs.Entries.{ids_end}
 use Rattle.sf_optimise.specs.Lists.{all_quiet}
 use Rattle.sf_optimise.proofs.quietness.+part.Given as goal
@@ -12,5 +12,5 @@ decreases-is_quiet l = 2 * l.id.0 + 1
 
 abbrev pub invariant-are_quiet-loop-stage : goal.invariant-are_quiet-loop-stage
 invariant-are_quiet-loop-stage l = record {
-  left : all_quiet (trees_at l.plan l.stages) ≡ all_quiet (trees_at l.plan (drop l.stage-index l.stages));
+  left : all_quiet (plan_trees l.plan l.stages) ≡ all_quiet (plan_trees l.plan (drop l.stage-index l.stages));
 }

@@ -1,7 +1,7 @@
 use Rattle.std.proofs.Common.{◌≡◌, [], ◌∙◌, sym, subst, arith}
 use Rattle.sf_optimise.proofs.Boundary.{met_nothing, met_one, met_all, met_every, no_items}
 use Rattle.sf_optimise.specs.Making.{Meets}
-use Rattle.sf_law.specs.Arena.{plan_tree, trees_at}
+use Rattle.sf_law.specs.Arena.{plan_tree, plan_trees}
 use Rattle.sf_optimise.proofs.sequence.met.Goals as goal
 
 pub loop-last-init : goal.loop-last-init
@@ -21,4 +21,4 @@ returns-clause-ok c =
     let q = c.loop-last.plan in
     let before : c.loop-last.stages.items ≡ [] = no_items c.loop-last.stages.items (omega (arith, c.in_default.ensures.cases.0, c.loop-last.stages.ok.0, c.loop-last.stages.ok.1, c.loop-last.stages.small)) in
     let after : c.pop.new.self.items ≡ [] = no_items c.pop.new.self.items (omega (arith, c.in_default.ensures.cases.1, c.pop.new.self.ok.0, c.pop.new.self.ok.1, c.pop.new.self.small)) in
-    subst (λ ids. Meets (trees_at c.args.plan.now c.args.stages.now.items) (plan_tree c.args.plan.now c.args.stage) (trees_at q ids) (plan_tree q c.loop-last.head)) (before ∙ sym after) (met_every c.loop-last.invariant.met before)
+    subst (λ ids. Meets (plan_trees c.args.plan.now c.args.stages.now.items) (plan_tree c.args.plan.now c.args.stage) (plan_trees q ids) (plan_tree q c.loop-last.head)) (before ∙ sym after) (met_every c.loop-last.invariant.met before)

@@ -1,6 +1,6 @@
 use Rattle.std.proofs.Common.{is_some, sym, ap, ◌∙◌}
 use Rattle.sf_value.specs.Values.{Data}
-use Rattle.sf_prim.specs.Keeping.{coming, retained}
+use Rattle.sf_prim.specs.Remembering.{coming, retained}
 use Rattle.sf_prim.proofs.Accumulating.{shown_of, carried_of, shown_fault}
 use Rattle.sf_prim.proofs.accumulator.accumulate.Goals as goal
 

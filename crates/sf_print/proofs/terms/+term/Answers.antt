@@ -2,7 +2,7 @@ use Rattle.std.proofs.Common.{◌≡◌, List, length, ◌-◌, take, drop, sym,
 use Rattle.std.specs.List.{All}
 use Rattle.std.proofs.lemmas.Result.{on_ok_weaker}
 use Rattle.sf_expr.specs.Arena.{name_at}
-use Rattle.sf_term.specs.Arena.{expressions_of, arguments_of}
+use Rattle.sf_term.specs.Arena.{program_expressions, arguments_of}
 use Rattle.sf_lex.specs.declared.symbol.Symbol.TheVariants as symbols
 use Rattle.sf_lex.specs.Tokens.{name, symbol}
 use Rattle.sf_grammar.specs.Spelling.{spell_further, spell_listed, spell_arguments}
@@ -19,8 +19,8 @@ write_call-returns-in_ok-write_argument-in-len1-up t c =
     let v = c.args.version in
     let p = c.args.program.now in
     let vs = c.args.arguments.now in
-    let named : c.name_of.result.now ≡ name_at (expressions_of p) c.args.name = c.name_of.ensures ∙ ap (λ x. name_at x c.args.name) c.expressions.ensures in
-    let begun : c.symbol.new.self ≡ append_token (append_token c.args.draft.now (name (name_at (expressions_of p) c.args.name))) (symbol symbols.Open) =
+    let named : c.name_of.result.now ≡ name_at (program_expressions p) c.args.name = c.name_of.ensures ∙ ap (λ x. name_at x c.args.name) c.expressions.ensures in
+    let begun : c.symbol.new.self ≡ append_token (append_token c.args.draft.now (name (name_at (program_expressions p) c.args.name))) (symbol symbols.Open) =
     c.in_ok-symbol.ensures ∙ ap (λ (d : Front). append_token d (symbol symbols.Open)) (c.in_ok-name.ensures ∙ ap (λ n. append_token c.args.draft.now (name n)) named) in
     let rest = take (length vs - 1) (drop 1 vs) in
     on_ok_weaker c.write_further.result (λ e.

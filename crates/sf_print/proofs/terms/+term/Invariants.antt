@@ -1,6 +1,6 @@
 use Rattle.std.proofs.Common.{◌≡◌, ◌+◌, ◌*◌, max, take, map}
 use Rattle.sf_term.specs.Trees.{collection_depth}
-use Rattle.sf_term.specs.Arena.{term_number, collection_of, collection_at}
+use Rattle.sf_term.specs.Arena.{term_number, collection_of, collection_tree}
 use Rattle.sf_print.specs.Drafts.{append_tokens}
 use Rattle.sf_print.specs.Arguments.{spell_argument}
 use Rattle.sf_print.proofs.Listing.{separated}
@@ -32,7 +32,7 @@ abbrev pub decreases-write_edit : goal.decreases-write_edit
 decreases-write_edit l = 200 * term_number l.form + 193
 
 abbrev pub decreases-write_members : goal.decreases-write_members
-decreases-write_members l = 200 * term_number l.form + 2 * collection_depth (collection_at l.program.now l.members) + 1
+decreases-write_members l = 200 * term_number l.form + 2 * collection_depth (collection_tree l.program.now l.members) + 1
 
 abbrev pub decreases-write_collection : goal.decreases-write_collection
 decreases-write_collection l = 200 * term_number l.form + 2 * collection_depth (collection_of l.program.now l.collection.now)
@@ -65,8 +65,8 @@ decreases-write_body l = 200 * term_number l.body + 196
 abbrev pub decreases-write_switching : goal.decreases-write_switching
 decreases-write_switching l = 200 * max (term_number l.switch.source) (term_number l.switch.body) + 197
 
-abbrev pub decreases-write_keeping : goal.decreases-write_keeping
-decreases-write_keeping l = 200 * max (term_number l.form.source) (max (term_number l.form.observer) (term_number l.form.body)) + 197
+abbrev pub decreases-write_continuing : goal.decreases-write_continuing
+decreases-write_continuing l = 200 * max (term_number l.form.source) (max (term_number l.form.observer) (term_number l.form.body)) + 197
 
 abbrev pub invariant-write_further-loop-argument : goal.invariant-write_further-loop-argument
 invariant-write_further-loop-argument l = l.draft ≡ append_tokens l.initial.draft (separated (map (spell_argument l.version l.program) (take l.argument-index l.arguments)))

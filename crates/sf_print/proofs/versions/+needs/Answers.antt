@@ -3,7 +3,7 @@ use Rattle.std.specs.List.{All}
 use Rattle.std.proofs.lemmas.List.Folds.{list_any_at}
 use Rattle.sf_term.specs.declared.node.Argument.{Argument}
 use Rattle.sf_term.specs.declared.node.Node.TheVariants as nodes
-use Rattle.sf_term.specs.Arena.{collection_under}
+use Rattle.sf_term.specs.Arena.{collection_node}
 use Rattle.sf_print.specs.Arguments.{argument_needs_two, ArgumentWithin, IsWithin}
 use Rattle.sf_print.proofs.Within.{parts_within, edited_within, edit_within}
 use Rattle.sf_print.proofs.Needing.{none_found, arguments_any}
@@ -30,7 +30,7 @@ term_needs_two-arguments_need_two-requires t c =
 pub term_needs_two-members_need_two-requires : goal.term_needs_two-members_need_two-requires
 term_needs_two-members_need_two-requires t c =
     let p = c.args.program.now in
-    let w : IsWithin p c.args.id (collection_under p c.in-Gathered.members) = parts_within p c.args.id (nodes.Gathered c.in-Gathered.members) c.in-Gathered.ensures.below c.in-Gathered.ensures.builds in
+    let w : IsWithin p c.args.id (collection_node p c.in-Gathered.members) = parts_within p c.args.id (nodes.Gathered c.in-Gathered.members) c.in-Gathered.ensures.below c.in-Gathered.ensures.builds in
     (omega (arith, w.1), w)
 
 pub term_needs_two-releasing_needs_two-requires : goal.term_needs_two-releasing_needs_two-requires
@@ -39,11 +39,11 @@ term_needs_two-releasing_needs_two-requires t c = (omega arith, parts_within c.a
 pub term_needs_two-members_need_two-requires-in-Editing : goal.term_needs_two-members_need_two-requires-in-Editing
 term_needs_two-members_need_two-requires-in-Editing t c =
     let p = c.args.program.now in
-    let w : IsWithin p c.args.id (collection_under p c.in-Editing.form.members) = edited_within (parts_within p c.args.id (nodes.Editing c.in-Editing.form) c.in-Editing.ensures.below c.in-Editing.ensures.builds) in
+    let w : IsWithin p c.args.id (collection_node p c.in-Editing.form.members) = edited_within (parts_within p c.args.id (nodes.Editing c.in-Editing.form) c.in-Editing.ensures.below c.in-Editing.ensures.builds) in
     (omega (arith, w.1), w)
 
 pub term_needs_two-members_need_two-requires-else-members_need_two : goal.term_needs_two-members_need_two-requires-else-members_need_two
 term_needs_two-members_need_two-requires-else-members_need_two t c =
     let p = c.args.program.now in
-    let w : IsWithin p c.args.id (collection_under p c.in-Editing.form.edit) = edit_within (parts_within p c.args.id (nodes.Editing c.in-Editing.form) c.in-Editing.ensures.below c.in-Editing.ensures.builds) in
+    let w : IsWithin p c.args.id (collection_node p c.in-Editing.form.edit) = edit_within (parts_within p c.args.id (nodes.Editing c.in-Editing.form) c.in-Editing.ensures.below c.in-Editing.ensures.builds) in
     (omega (arith, w.1), w)

@@ -1,7 +1,7 @@
 use Rattle.std.proofs.Common.{◌≡◌, ◌+◌, ◌*◌, false, take}
 use Rattle.std.specs.List.{list_any}
 use Rattle.sf_term.specs.Trees.{collection_depth}
-use Rattle.sf_term.specs.Arena.{term_number, collection_of, collection_at}
+use Rattle.sf_term.specs.Arena.{term_number, collection_of, collection_tree}
 use Rattle.sf_print.specs.Arguments.{argument_needs_two}
 use Rattle.sf_print.proofs.versions.+needs.Given as goal
 
@@ -19,7 +19,7 @@ abbrev pub decreases-releasing_needs_two : goal.decreases-releasing_needs_two
 decreases-releasing_needs_two l = 200 * term_number l.id + 194
 
 abbrev pub decreases-members_need_two : goal.decreases-members_need_two
-decreases-members_need_two l = 200 * term_number l.form + collection_depth (collection_at l.program.now l.members) + 1
+decreases-members_need_two l = 200 * term_number l.form + collection_depth (collection_tree l.program.now l.members) + 1
 
 abbrev pub decreases-collection_needs_two : goal.decreases-collection_needs_two
 decreases-collection_needs_two l = 200 * term_number l.form + collection_depth (collection_of l.program.now l.collection.now)

@@ -6,7 +6,7 @@ use Rattle.sf_term.specs.Trees.{arguments_depth, collection_depth}
 use Rattle.sf_term.specs.Arena.{term_number, arguments_of, collection_of, ArgumentBelow, CollectionBelow, TermPartsBelow}
 use Rattle.sf_term.specs.declared.node.Argument.TheVariants as arguments
 use Rattle.sf_term.specs.declared.node.Node.TheVariants as nodes
-use Rattle.sf_reach.specs.Order.{CallsInOrder, in_primitive, in_named, in_joined, in_sided, in_headed, in_transformed, in_switching, in_keeping, in_gathered, in_releasing, in_editing, MemberCalls, in_empty, in_used, in_added, in_dropped, in_kept, in_chosen}
+use Rattle.sf_reach.specs.Order.{CallsInOrder, in_primitive, in_named, in_joined, in_sided, in_headed, in_transformed, in_switching, in_continuing, in_gathered, in_releasing, in_editing, MemberCalls, in_empty, in_used, in_added, in_dropped, in_kept, in_chosen}
 use Rattle.sf_reach.specs.Graphs.{AddsMemberCalls, AddsArgumentCalls}
 use Rattle.sf_reach.proofs.Shallow.{arguments_shallow, members_shallow, released_shallow, edited_shallow, argument_shallow, found_there, absent_there}
 use Rattle.sf_reach.proofs.Gathered.{adds_none, adds_one, adds_two, adds_members, adds_members_and, adds_into, adds_both, adds_nothing, name_found, adds_found, adds_absent, no_argument, adds_value, adds_process, adds_collection}
@@ -54,12 +54,12 @@ gather-returns-in-Switching t c =
     let n = c.in-Switching.form in
     on_ok_weaker c.gather-in-Switching.result (λ h. adds_one c.args.program.now c.args.term (nodes.Switching n) (sym c.in-Switching.is ∙ c.node.ensures.value) c.args.calls.now.items _ n.source (λ cs l. in_switching l) h) c.gather-in-Switching.ensures
 
-pub gather-returns-in_ok-gather-in-Keeping : goal.gather-returns-in_ok-gather-in-Keeping
-gather-returns-in_ok-gather-in-Keeping t c =
-    let n = c.in-Keeping.form in
-    on_ok_weaker c.gather-in-Keeping-2.result
-    (λ h. adds_two c.args.program.now c.args.term (nodes.Keeping n) (sym c.in-Keeping.is ∙ c.node.ensures.value) c.args.calls.now.items _ _ n.source n.observer (λ cs ds l r. in_keeping l r) c.in_ok-gather-in-Keeping.ensures h)
-    c.gather-in-Keeping-2.ensures
+pub gather-returns-in_ok-gather-in-Continuation : goal.gather-returns-in_ok-gather-in-Continuation
+gather-returns-in_ok-gather-in-Continuation t c =
+    let n = c.in-Continuation.form in
+    on_ok_weaker c.gather-in-Continuation-2.result
+    (λ h. adds_two c.args.program.now c.args.term (nodes.Continuation n) (sym c.in-Continuation.is ∙ c.node.ensures.value) c.args.calls.now.items _ _ n.source n.observer (λ cs ds l r. in_continuing l r) c.in_ok-gather-in-Continuation.ensures h)
+    c.gather-in-Continuation-2.ensures
 
 pub gather-returns-in-Sided : goal.gather-returns-in-Sided
 gather-returns-in-Sided t c =

@@ -1,5 +1,5 @@
 use Rattle.std.proofs.Common.{[], refl, sym, subst}
-use Rattle.sf_spelling.specs.Scan.{value_at}
+use Rattle.sf_spelling.specs.Scan.{scanned_value}
 use Rattle.sf_spelling.specs.Gives.{GivesRead}
 use Rattle.sf_spelling.specs.Steps.{spellings}
 use Rattle.sf_value.specs.KindView.{key_kind_of}
@@ -37,11 +37,11 @@ pub rows_in-loop-table-preserved : goal.rows_in-loop-table-preserved
 rows_in-loop-table-preserved t c = goes_on (key_kind_of c.args.keys) c.args.values.now c.args.bytes.now _ _ c.loop-table.left.now c.loop-table.invariant c.in_ok-rest.ensures.row.0 c.in_ok-rest.rest.now c.in_ok-rest.ensures.row.3 c.in-len1-up-rest.len_at_least _ _ c.in_ok-rest.ensures.row.1 c.in_ok-rest.ensures.row.2 c.if-c-eq125-2.false c.if-c-ne44.false
 
 pub table_of-returns-in_err-rest : goal.table_of-returns-in_err-rest
-unfolding value_at
+unfolding scanned_value
 table_of-returns-in_err-rest t c = fails_so _ _ _ _ c.from_residual.ensures.1 (fails_then _ _ _ c.in_err-rest.ensures)
 
 pub table_of-returns-in_err-table : goal.table_of-returns-in_err-table
-unfolding value_at
+unfolding scanned_value
 table_of-returns-in_err-table t c = fails_so _ _ _ _ c.from_residual-in_err-table.ensures.1 (goes_then _ _ _ _ c.in_ok-rest.ensures (fails_then _ _ _ c.in_err-table.ensures.rows))
 
 pub row_in-returns-in_err-rest-clause-fails : goal.row_in-returns-in_err-rest-clause-fails
@@ -49,14 +49,14 @@ row_in-returns-in_err-rest-clause-fails t c = fails_on _ _ _ c.from_residual.ens
 
 pub row_in-returns-in_err-value-clause-fails : goal.row_in-returns-in_err-value-clause-fails
 row_in-returns-in_err-value-clause-fails t c = fails_on _ _ _ c.from_residual-in_err-value.ensures.1
-    (value_fails (key_kind_of c.args.keys) (value_at c.args.values.now) (spellings c.args.rows.now.keys) c.args.bytes.now c.in_ok-rest.ensures.key.0 c.in_ok-rest.rest.now c.in_ok-rest.ensures.key.2 _ c.in_err-value.ensures)
+    (value_fails (key_kind_of c.args.keys) (scanned_value c.args.values.now) (spellings c.args.rows.now.keys) c.args.bytes.now c.in_ok-rest.ensures.key.0 c.in_ok-rest.rest.now c.in_ok-rest.ensures.key.2 _ c.in_err-value.ensures)
 
 pub row_in-returns-clause-row : goal.row_in-returns-clause-row
 row_in-returns-clause-row t c = (
   (c.in_ok-rest.ensures.key.0, c.in_ok-value.value),
   c.in_ok-rest.ensures.key.1,
   c.in_ok-put_value.ensures.ok,
-  row_read (key_kind_of c.args.keys) (value_at c.args.values.now) (spellings c.args.rows.now.keys) c.args.bytes.now c.in_ok-rest.ensures.key.0 c.in_ok-rest.rest.now c.in_ok-rest.ensures.key.2 c.in_ok-value.value c.in_ok-value.rest.now c.in_ok-value.ensures,
+  row_read (key_kind_of c.args.keys) (scanned_value c.args.values.now) (spellings c.args.rows.now.keys) c.args.bytes.now c.in_ok-rest.ensures.key.0 c.in_ok-rest.rest.now c.in_ok-rest.ensures.key.2 c.in_ok-value.value c.in_ok-value.rest.now c.in_ok-value.ensures,
 )
 
 pub pair_of-returns-in_err-x : goal.pair_of-returns-in_err-x

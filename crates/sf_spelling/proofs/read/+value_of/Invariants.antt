@@ -1,7 +1,7 @@
 use Rattle.std.proofs.Common.{◌+◌, ◌*◌, length}
 use Rattle.sf_value.specs.Values.{nodes}
 use Rattle.sf_value.specs.KindView.{key_kind_of}
-use Rattle.sf_spelling.specs.Scan.{value_at}
+use Rattle.sf_spelling.specs.Scan.{scanned_value}
 use Rattle.sf_spelling.proofs.Loops.{Follows}
 use Rattle.sf_spelling.proofs.read.+value_of.Given as goal
 
@@ -28,7 +28,7 @@ decreases-row_in l = 5 * nodes l.values.now + 2
 
 abbrev pub invariant-rows_in-loop-table : goal.invariant-rows_in-loop-table
 invariant-rows_in-loop-table l =
-    Follows (key_kind_of l.keys) (value_at l.values) l.bytes l.table.keys l.table.values.items l.left
+    Follows (key_kind_of l.keys) (scanned_value l.values) l.bytes l.table.keys l.table.values.items l.left
 
 abbrev pub decreases-rows_in-loop-table : goal.decreases-rows_in-loop-table
 decreases-rows_in-loop-table l = length l.left

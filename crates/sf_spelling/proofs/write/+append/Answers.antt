@@ -1,5 +1,5 @@
 use Rattle.std.proofs.Common.{◌≡◌, ◌∷◌, [], ◌++◌, map, sym, ap, ◌∙◌, append_assoc}
-use Rattle.sf_value.specs.View.{key_of, rows_under}
+use Rattle.sf_value.specs.View.{key_of, keyed_rows}
 use Rattle.sf_spelling.specs.Spelling.{spelling, rows_spelling}
 use Rattle.sf_spelling.proofs.Fronts.{front_kept, same_kept, on_err, kept_on_err, behind}
 use Rattle.sf_spelling.proofs.write.+append.Goals as goal
@@ -72,7 +72,7 @@ pub append_table-returns-clause-ok : goal.append_table-returns-clause-ok
 append_table-returns-clause-ok t c =
     let bracket : c.push.new.self.items ≡ c.args.out.now.items ++ (123 ∷ []) = c.in_ok-push.ensures.items in
     let end : c.push-2.new.self.items ≡ c.append_rows.new.out.items ++ (125 ∷ []) = c.in_ok-push-2.ensures.items in
-    let rows = rows_spelling (rows_under (map key_of c.args.rows.keys.now) c.args.rows.values.now) in
+    let rows = rows_spelling (keyed_rows (map key_of c.args.rows.keys.now) c.args.rows.values.now) in
     let new = c.push-2.new.self.items in
     behind c.args.out.now.items (123 ∷ []) c.push.new.self.items (rows ++ 125 ∷ []) new bracket
     (behind c.push.new.self.items rows c.append_rows.new.out.items (125 ∷ []) new c.in_ok-append_rows.ensures.ok end)

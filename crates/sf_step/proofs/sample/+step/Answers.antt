@@ -1,42 +1,40 @@
 use Rattle.std.proofs.Common.{◌≡◌, [], ◌+◌, ◌-◌, ◌<◌, set, ◌∷◌, ◌++◌, take, drop, length, length-set, List, None, Result, Ok, Err, refl, sym, ap, ◌∙◌, subst, arith, Vec}
 use Rattle.std.specs.declared.alloc.Global.{Global}
 use Rattle.std.specs.Prelude.{IsOk}
-use Rattle.sf_value.specs.Values.{Data, table}
-use Rattle.sf_value.specs.View.{rows_under}
+use Rattle.sf_value.specs.Values.{Data, table, pair, first_of, second_of}
+use Rattle.sf_value.specs.View.{keyed_rows}
 use Rattle.std.specs.Vec.{with_items}
 use Rattle.std.proofs.lemmas.List.{with_items_is}
 use Rattle.sf_state.specs.declared.state.Wrap.TheVariants.{First, Second, Loop, Initialized, Replaced, Followed}
 use Rattle.sf_term.specs.declared.form.Join.TheVariants.{InSequence, InParallel, FannedOut}
-use Rattle.sf_value.specs.Values.{pair, first_of, second_of}
 use Rattle.sf_value.specs.declared.value.Pair.{Pair}
 use Rattle.sf_mean.specs.Lives.{step, Life, Process, each_frozen}
 use Rattle.sf_state.specs.declared.state.Frozen.{Frozen}
 use Rattle.sf_state.specs.declared.state.State.{State}
 use Rattle.sf_state.specs.declared.state.Gathered.{Gathered}
-use Rattle.sf_state.specs.Held.{held_in, held_as}
-use Rattle.sf_state.specs.Standing.{Stands, AllFollow, kept_state, worth_given, Waits, WaitsKeeping, WaitsGathered}
+use Rattle.sf_state.specs.Held.{gathered_holding, held_as}
+use Rattle.sf_state.specs.Standing.{Stands, AllFollow, frozen_state, worth_given, Waits, WaitsContinuation, WaitsGathered}
 use Rattle.sf_expr.specs.Evaluation.{answer}
 use Rattle.sf_mean.specs.Meaning.{switched_value}
-use Rattle.sf_parts.specs.Meters.{entered_of, fault_of}
-use Rattle.sf_parts.specs.declared.turning.Turn.{Turn}
-use Rattle.sf_parts.specs.declared.turning.Turn.TheVariants.{Stays, Begins}
-use Rattle.sf_parts.specs.Answering.{left_or}
-use Rattle.sf_parts.specs.Drafting.{drafted, all_changed}
-use Rattle.sf_parts.proofs.Costs.{memory_exit, early_memory}
-use Rattle.sf_step.specs.Sampling.{StateSteps}
+use Rattle.sf_meter.specs.Meters.{entered_of, meter_fault, left_or}
+use Rattle.sf_step.specs.declared.turning.Turn.{Turn}
+use Rattle.sf_step.specs.declared.turning.Turn.TheVariants.{Stays, Begins}
+use Rattle.sf_begin.specs.Drafting.{drafted, all_changed}
+use Rattle.sf_step.proofs.Costs.{memory_exit, early_memory}
+use Rattle.sf_step.specs.Sampling.{StateSteps, EachSteps}
 use Rattle.sf_step.specs.Routing.{observation_of}
 use Rattle.sf_state.proofs.Copies.{list_follows}
 use Rattle.sf_step.proofs.Parts.{pass_exit, failed, own_halves}
 use Rattle.sf_step.proofs.Stages.{StagesStep, continues_first, continues_next, continues_fails, continues_last, pipeline_steps, pipeline_fails}
-use Rattle.sf_step.proofs.Exits.{ticked_by, tick_fails, first_memory, join_left_fails, join_right_fails, join_steps, join_last, wrap_fails, wrap_steps, wrap_faults, wrap_last, late_memory, late_waiting, waits_alike, primitive_counted, live_counted, own_steps, primitive_is, live_is, switch_is, keeping_is, gathering_is, counted_steps, first_counted, begun_steps, begun_runs, begun_fails}
+use Rattle.sf_step.proofs.Exits.{ticked_by, tick_fails, first_memory, join_left_fails, join_right_fails, join_steps, join_last, wrap_fails, wrap_steps, wrap_faults, wrap_last, late_memory, late_waiting, waits_alike, primitive_counted, live_counted, own_steps, primitive_is, live_is, switch_is, continuing_is, gathering_is, counted_steps, first_counted, begun_steps, begun_runs, begun_fails}
 use Rattle.sf_step.proofs.Recurring.{run_fails, run_memory, new_fails, new_runs, runs_alone}
 use Rattle.sf_step.proofs.Switches.{source_fails, switch_memory, switch_waits_on, body_fails, body_takes_over}
-use Rattle.sf_step.proofs.Keeping.{runs_alike, kept_fails, kept_memory, observer_fails, observer_memory, keeps_on, kept_body_fails, kept_body_takes_over, some_occurs, none_occurs}
-use Rattle.sf_step.proofs.Turning.{frozen_steps, pass_beside, watching_turns, watching_fails, keeping_turns, keeping_fails, gathering_turns, gathering_fails}
-use Rattle.sf_step.specs.Sampling.{EachSteps}
-use Rattle.sf_step.proofs.Members.{memory_now, stopped_at, each_first, each_next, each_fails, each_memory, each_last, list_alike, late_list, awake_lived, asleep_fresh, runs_among, begins_among, goes_on_among, members_step, members_fail, members_end, gathered_so, pass_with, Continues as EachContinues}
+use Rattle.sf_step.proofs.Continuation.{runs_alike, kept_fails, kept_memory, observer_fails, observer_memory, keeps_on, kept_body_fails, continuation_takes_over, some_occurs, none_occurs}
+use Rattle.sf_step.proofs.SwitchTurns.{frozen_steps, pass_beside, watching_turns, watching_fails, continuing_turns, continuing_fails, gathering_turns, gathering_fails}
+use Rattle.sf_step.proofs.Members.{memory_now, stopped_at, each_first, each_next, each_fails, each_memory, each_last, list_alike, late_list, awake_lived, asleep_fresh, runs_among, begins_among, goes_on_among, members_step, members_fail, members_end, gathered_so, pass_with, Continues}
 use Rattle.sf_step.proofs.Releasing.{run_alike, members_stop, members_memory, sight_fails, sight_memory, members_go_on, released_body_fails, released_body_takes_over}
-use Rattle.sf_step.specs.Edits.{IsBetween, HaveStepped, no_memory_noted, HaveTurned, no_memory_before, old_fails, no_memory_between, made_fails, new_fails as members_fail_anew, new_run, held_as_made}
+use Rattle.sf_step.specs.Edits.{IsBetween, HaveStepped, no_memory_noted, HaveTurned, no_memory_before, old_fails, no_memory_between, made_fails, new_run, held_as_made}
+use Rattle.sf_step.specs.Edits
 use Rattle.sf_step.proofs.Turns.{NotesOn, notes_first, notes_next, notes_fail, notes_memory, notes_last, notes_stopped, notes_long, TurnsOn, this_at, turn_at, turns_first, turns_stay, turns_stay_not, turns_begin, turns_begin_not, turns_last, as_held, held_fails, old_step, new_step, new_stop, new_end, turned_so, not_turned_so, shows_so, held_stop, gathers_frozen, stepped_fails, changed_long, edit_stopped, edit_late, pass_edit, pass_notes, pass_turns}
 use Rattle.sf_step.proofs.Editing.{members_alone, edit_answers, as_made}
 use Rattle.sf_step.proofs.sample.+step.Goals as goal
@@ -113,15 +111,15 @@ step_counted-returns-in_ok-over-in-Switch g t c = λ m depth t P L A.
     watching_turns (g.R.Holds.answers c.args.context.now.functions.now) c.args.context.now.plan.now _ c.in-Switch.names c.in-Switch.node.value c.in-Switch.node.value (λ P L S. S) (step c.args.context.now.dt c.args.value.now) c.args.meter.now c.step_watching.new.meter c.args.inside
     _ c.in_ok-over-in-Switch.over c.step_watching.new.node.value c.step_watching.new.value _ c.take_over.ensures c.in_ok-over-in-Switch.ensures m depth t P L (rw c.in-Switch.is at A)
 
-pub step_counted-returns-in_err-kept-in-Keeping : goal.step_counted-returns-in_err-kept-in-Keeping
-step_counted-returns-in_err-kept-in-Keeping g t c = λ m depth t P L A.
-    pass_exit _ _ c.from_residual-in_err-kept-in-Keeping.ensures.0 (failed (keeping_fails (g.R.Holds.answers c.args.context.now.functions.now) c.args.context.now.plan.now _ c.in-Keeping.names c.in-Keeping.node.value c.in-Keeping.node.value (λ P L S. S)
-    (step c.args.context.now.dt c.args.value.now) c.args.meter.now c.step_observing.new.meter c.args.inside _ c.in_err-kept-in-Keeping.ensures m depth t P L (rw c.in-Keeping.is at A)))
+pub step_counted-returns-in_err-kept-in-Continuation : goal.step_counted-returns-in_err-kept-in-Continuation
+step_counted-returns-in_err-kept-in-Continuation g t c = λ m depth t P L A.
+    pass_exit _ _ c.from_residual-in_err-kept-in-Continuation.ensures.0 (failed (continuing_fails (g.R.Holds.answers c.args.context.now.functions.now) c.args.context.now.plan.now _ c.in-Continuation.names c.in-Continuation.node.value c.in-Continuation.node.value (λ P L S. S)
+    (step c.args.context.now.dt c.args.value.now) c.args.meter.now c.step_observing.new.meter c.args.inside _ c.in_err-kept-in-Continuation.ensures m depth t P L (rw c.in-Continuation.is at A)))
 
-pub step_counted-returns-in_ok-kept-in-Keeping : goal.step_counted-returns-in_ok-kept-in-Keeping
-step_counted-returns-in_ok-kept-in-Keeping g t c = λ m depth t P L A.
-    keeping_turns (g.R.Holds.answers c.args.context.now.functions.now) c.args.context.now.plan.now _ c.in-Keeping.names c.in-Keeping.node.value c.in-Keeping.node.value (λ P L S. S) (step c.args.context.now.dt c.args.value.now) c.args.meter.now c.step_observing.new.meter c.args.inside
-    _ c.in_ok-kept-in-Keeping.kept c.step_observing.new.node.value c.step_observing.new.value _ c.take_over-in-Keeping.ensures c.in_ok-kept-in-Keeping.ensures m depth t P L (rw c.in-Keeping.is at A)
+pub step_counted-returns-in_ok-kept-in-Continuation : goal.step_counted-returns-in_ok-kept-in-Continuation
+step_counted-returns-in_ok-kept-in-Continuation g t c = λ m depth t P L A.
+    continuing_turns (g.R.Holds.answers c.args.context.now.functions.now) c.args.context.now.plan.now _ c.in-Continuation.names c.in-Continuation.node.value c.in-Continuation.node.value (λ P L S. S) (step c.args.context.now.dt c.args.value.now) c.args.meter.now c.step_observing.new.meter c.args.inside
+    _ c.in_ok-kept-in-Continuation.kept c.step_observing.new.node.value c.step_observing.new.value _ c.take_over-in-Continuation.ensures c.in_ok-kept-in-Continuation.ensures m depth t P L (rw c.in-Continuation.is at A)
 
 -- ## step_watching, step_observing
 
@@ -147,7 +145,7 @@ step_watching_copy-returns g t c =
     rw c.in-Ok-new.ensures.ok (waits_alike (g.R.Holds.answers c.args.context.now.functions.now) c.args.context.now.plan.now (Waits (g.R.Holds.answers c.args.context.now.functions.now) c.args.context.now.plan.now) {k = c.args.node.now.value} (λ P L S. c.in-Ok.ensures (g.R.Holds.answers c.args.context.now.functions.now) c.args.context.now.plan.now P L (rw c.deref.ensures S)) c.in_ok-over.ensures)
 
 pub step_observing-returns-in-Some : goal.step_observing-returns-in-Some
-step_observing-returns-in-Some g t c = λ m depth t T e L N W. c.step_keeping.ensures m depth t T e L N (rw c.in-Some.ensures.value W)
+step_observing-returns-in-Some g t c = λ m depth t T e L N W. c.step_continuing.ensures m depth t T e L N (rw c.in-Some.ensures.value W)
 
 pub step_observing-returns-in-None : goal.step_observing-returns-in-None
 step_observing-returns-in-None g t c = c.step_observing_copy.ensures
@@ -157,15 +155,15 @@ step_observing_copy-returns-in_default g t c = λ m depth t T e L N W. early_mem
 
 pub step_observing_copy-returns-in_err-over : goal.step_observing_copy-returns-in_err-over
 step_observing_copy-returns-in_err-over g t c = λ m depth t T e L N W.
-    pass_beside (g.R.Holds.answers c.args.context.now.functions.now) c.args.context.now.plan.now _ _ _ c.from_residual.ensures.0 (failed (waits_alike (g.R.Holds.answers c.args.context.now.functions.now) c.args.context.now.plan.now (WaitsKeeping (g.R.Holds.answers c.args.context.now.functions.now) c.args.context.now.plan.now) {k = c.args.node.now.value} (λ P L S. c.in-Ok.ensures (g.R.Holds.answers c.args.context.now.functions.now) c.args.context.now.plan.now P L (rw c.deref.ensures S)) c.in_err-over.ensures m depth t T e L N W))
+    pass_beside (g.R.Holds.answers c.args.context.now.functions.now) c.args.context.now.plan.now _ _ _ c.from_residual.ensures.0 (failed (waits_alike (g.R.Holds.answers c.args.context.now.functions.now) c.args.context.now.plan.now (WaitsContinuation (g.R.Holds.answers c.args.context.now.functions.now) c.args.context.now.plan.now) {k = c.args.node.now.value} (λ P L S. c.in-Ok.ensures (g.R.Holds.answers c.args.context.now.functions.now) c.args.context.now.plan.now P L (rw c.deref.ensures S)) c.in_err-over.ensures m depth t T e L N W))
 
 pub step_observing_copy-returns-in_default-new : goal.step_observing_copy-returns-in_default-new
 step_observing_copy-returns-in_default-new g t c =
-    late_waiting (g.R.Holds.answers c.args.context.now.functions.now) c.args.context.now.plan.now (WaitsKeeping (g.R.Holds.answers c.args.context.now.functions.now) c.args.context.now.plan.now) (waits_alike (g.R.Holds.answers c.args.context.now.functions.now) c.args.context.now.plan.now (WaitsKeeping (g.R.Holds.answers c.args.context.now.functions.now) c.args.context.now.plan.now) {k = c.args.node.now.value} (λ P L S. c.in-Ok.ensures (g.R.Holds.answers c.args.context.now.functions.now) c.args.context.now.plan.now P L (rw c.deref.ensures S)) c.in_ok-over.ensures) c.stop-in_default-new.ensures.entered c.stop-in_default-new.ensures.height c.stop-in_default-new.ensures.fault
+    late_waiting (g.R.Holds.answers c.args.context.now.functions.now) c.args.context.now.plan.now (WaitsContinuation (g.R.Holds.answers c.args.context.now.functions.now) c.args.context.now.plan.now) (waits_alike (g.R.Holds.answers c.args.context.now.functions.now) c.args.context.now.plan.now (WaitsContinuation (g.R.Holds.answers c.args.context.now.functions.now) c.args.context.now.plan.now) {k = c.args.node.now.value} (λ P L S. c.in-Ok.ensures (g.R.Holds.answers c.args.context.now.functions.now) c.args.context.now.plan.now P L (rw c.deref.ensures S)) c.in_ok-over.ensures) c.stop-in_default-new.ensures.entered c.stop-in_default-new.ensures.height c.stop-in_default-new.ensures.fault
 
 pub step_observing_copy-returns : goal.step_observing_copy-returns
 step_observing_copy-returns g t c =
-    rw c.in-Ok-new.ensures.ok (waits_alike (g.R.Holds.answers c.args.context.now.functions.now) c.args.context.now.plan.now (WaitsKeeping (g.R.Holds.answers c.args.context.now.functions.now) c.args.context.now.plan.now) {k = c.args.node.now.value} (λ P L S. c.in-Ok.ensures (g.R.Holds.answers c.args.context.now.functions.now) c.args.context.now.plan.now P L (rw c.deref.ensures S)) c.in_ok-over.ensures)
+    rw c.in-Ok-new.ensures.ok (waits_alike (g.R.Holds.answers c.args.context.now.functions.now) c.args.context.now.plan.now (WaitsContinuation (g.R.Holds.answers c.args.context.now.functions.now) c.args.context.now.plan.now) {k = c.args.node.now.value} (λ P L S. c.in-Ok.ensures (g.R.Holds.answers c.args.context.now.functions.now) c.args.context.now.plan.now P L (rw c.deref.ensures S)) c.in_ok-over.ensures)
 
 -- ## step_other
 
@@ -176,31 +174,33 @@ pub step_other-returns-in_ok-inside-in-Switch : goal.step_other-returns-in_ok-in
 step_other-returns-in_ok-inside-in-Switch g t c =
     counted_steps (g.R.Holds.answers c.args.context.now.functions.now) c.args.context.now.plan.now c.args.state.now _ _ (ticked_by c.in_ok-inside-in-Switch.ensures.ticked) (rw c.in-Switch.is (switch_is (g.R.Holds.answers c.args.context.now.functions.now) c.args.context.now.plan.now c.in-Switch.field-0 c.in-Switch.field-1.value)) c.step_counted.ensures
 
-pub step_other-returns-in_err-inside-in-Keeping : goal.step_other-returns-in_err-inside-in-Keeping
-step_other-returns-in_err-inside-in-Keeping g t c = λ P L A. pass_exit _ _ c.from_residual-in_err-inside-in-Keeping.ensures.0 (tick_fails (g.R.Holds.answers c.args.context.now.functions.now) c.args.context.now.plan.now P _ c.in_err-inside-in-Keeping.ensures.ticked)
+pub step_other-returns-in_err-inside-in-Continuation : goal.step_other-returns-in_err-inside-in-Continuation
+step_other-returns-in_err-inside-in-Continuation g t c = λ P L A. pass_exit _ _ c.from_residual-in_err-inside-in-Continuation.ensures.0 (tick_fails (g.R.Holds.answers c.args.context.now.functions.now) c.args.context.now.plan.now P _ c.in_err-inside-in-Continuation.ensures.ticked)
 
-pub step_other-returns-in_ok-inside-in-Keeping : goal.step_other-returns-in_ok-inside-in-Keeping
-step_other-returns-in_ok-inside-in-Keeping g t c =
-    counted_steps (g.R.Holds.answers c.args.context.now.functions.now) c.args.context.now.plan.now c.args.state.now _ _ (ticked_by c.in_ok-inside-in-Keeping.ensures.ticked) (rw c.in-Keeping.is (keeping_is (g.R.Holds.answers c.args.context.now.functions.now) c.args.context.now.plan.now c.in-Keeping.field-0 c.in-Keeping.field-1.value)) c.step_counted-in-Keeping.ensures
+pub step_other-returns-in_ok-inside-in-Continuation : goal.step_other-returns-in_ok-inside-in-Continuation
+step_other-returns-in_ok-inside-in-Continuation g t c =
+    counted_steps (g.R.Holds.answers c.args.context.now.functions.now) c.args.context.now.plan.now c.args.state.now _ _ (ticked_by c.in_ok-inside-in-Continuation.ensures.ticked) (rw c.in-Continuation.is (continuing_is (g.R.Holds.answers c.args.context.now.functions.now) c.args.context.now.plan.now c.in-Continuation.field-0 c.in-Continuation.field-1.value)) c.step_counted-in-Continuation.ensures
 
-pub step_other-returns-in_err-inside-in-Unborn : goal.step_other-returns-in_err-inside-in-Unborn
-step_other-returns-in_err-inside-in-Unborn g t c = λ P L A. pass_exit _ _ c.from_residual-in_err-inside-in-Unborn.ensures.0 (tick_fails (g.R.Holds.answers c.args.context.now.functions.now) c.args.context.now.plan.now P _ c.in_err-inside-in-Unborn.ensures.ticked)
+-- ## step_unborn
 
-pub step_other-returns-in-Primitive-node : goal.step_other-returns-in-Primitive-node
-step_other-returns-in-Primitive-node g t c = λ P L A.
-    first_counted (g.R.Holds.answers c.args.context.now.functions.now) c.args.context.now.plan.now c.in-Unborn.process.term c.in-Unborn.process.names c.args.context.now.dt c.args.value.now (ticked_by c.in_ok-inside-in-Unborn.ensures.ticked) _ (rw c.replace-names.ensures.value at (c.first_primitive.ensures _ (rw c.in-Primitive-node.is at c.node.ensures.builds))) P L (rw c.in-Unborn.is at A)
+pub step_unborn-returns-in_err-inside : goal.step_unborn-returns-in_err-inside
+step_unborn-returns-in_err-inside g t c = λ P L A. pass_exit _ _ c.from_residual.ensures.0 (tick_fails (g.R.Holds.answers c.args.context.now.functions.now) c.args.context.now.plan.now P _ c.in_err-inside.ensures.ticked)
 
-pub step_other-returns-in-Ok-Itself : goal.step_other-returns-in-Ok-Itself
-step_other-returns-in-Ok-Itself g t c = λ P L A.
-    begun_steps (g.R.Holds.answers c.args.context.now.functions.now) c.args.context.now.plan.now c.in-Unborn.process.term c.in-Unborn.process.names c.args.context.now.dt c.args.value.now (ticked_by c.in_ok-inside-in-Unborn.ensures.ticked) c.begin.new.state _ (rw (c.replace-names.ensures.value, c.in-Ok-Itself.field-0-is) at c.in-Ok-Itself.ensures.begins) c.step_counted-in-Ok-Itself.ensures P L (rw c.in-Unborn.is at A)
+pub step_unborn-returns-in-Primitive : goal.step_unborn-returns-in-Primitive
+step_unborn-returns-in-Primitive g t c = λ P L A.
+    first_counted (g.R.Holds.answers c.args.context.now.functions.now) c.args.context.now.plan.now c.in-Unborn.process.term c.in-Unborn.process.names c.args.context.now.dt c.args.value.now (ticked_by c.in_ok-inside.ensures.ticked) _ (rw c.replace-names.ensures.value at (c.first_primitive.ensures _ (rw c.in-Primitive.is at c.node.ensures.builds))) P L (rw c.in-Unborn.is at A)
 
-pub step_other-returns-in-Ok-Referred : goal.step_other-returns-in-Ok-Referred
-step_other-returns-in-Ok-Referred g t c = λ P L A.
-    begun_runs (g.R.Holds.answers c.args.context.now.functions.now) c.args.context.now.plan.now c.in-Unborn.process.term c.in-Unborn.process.names c.args.context.now.dt c.args.value.now (ticked_by c.in_ok-inside-in-Unborn.ensures.ticked) c.begin.new.state _ (rw (c.replace-names.ensures.value, c.in-Ok-Referred.field-0-is) at c.in-Ok-Referred.ensures.begins) c.step_state.ensures P L (rw c.in-Unborn.is at A)
+pub step_unborn-returns-in-Ok-Itself : goal.step_unborn-returns-in-Ok-Itself
+step_unborn-returns-in-Ok-Itself g t c = λ P L A.
+    begun_steps (g.R.Holds.answers c.args.context.now.functions.now) c.args.context.now.plan.now c.in-Unborn.process.term c.in-Unborn.process.names c.args.context.now.dt c.args.value.now (ticked_by c.in_ok-inside.ensures.ticked) c.begin.new.state _ (rw (c.replace-names.ensures.value, c.in-Ok-Itself.field-0-is) at c.in-Ok-Itself.ensures.begins) c.step_counted.ensures P L (rw c.in-Unborn.is at A)
 
-pub step_other-returns-in-Err : goal.step_other-returns-in-Err
-step_other-returns-in-Err g t c = λ P L A.
-    begun_fails (g.R.Holds.answers c.args.context.now.functions.now) c.args.context.now.plan.now c.in-Unborn.process.term c.in-Unborn.process.names c.args.context.now.dt c.args.value.now (ticked_by c.in_ok-inside-in-Unborn.ensures.ticked) c.stop.ensures.entered c.stop.ensures.height c.begin.new.state c.in-Err.fault _ c.stop.ensures.fault (rw c.replace-names.ensures.value at c.in-Err.ensures.begins) P L (rw c.in-Unborn.is at A)
+pub step_unborn-returns-in-Ok-Referred : goal.step_unborn-returns-in-Ok-Referred
+step_unborn-returns-in-Ok-Referred g t c = λ P L A.
+    begun_runs (g.R.Holds.answers c.args.context.now.functions.now) c.args.context.now.plan.now c.in-Unborn.process.term c.in-Unborn.process.names c.args.context.now.dt c.args.value.now (ticked_by c.in_ok-inside.ensures.ticked) c.begin.new.state _ (rw (c.replace-names.ensures.value, c.in-Ok-Referred.field-0-is) at c.in-Ok-Referred.ensures.begins) c.step_state.ensures P L (rw c.in-Unborn.is at A)
+
+pub step_unborn-returns-in-Err : goal.step_unborn-returns-in-Err
+step_unborn-returns-in-Err g t c = λ P L A.
+    begun_fails (g.R.Holds.answers c.args.context.now.functions.now) c.args.context.now.plan.now c.in-Unborn.process.term c.in-Unborn.process.names c.args.context.now.dt c.args.value.now (ticked_by c.in_ok-inside.ensures.ticked) c.stop.ensures.entered c.stop.ensures.height c.begin.new.state c.in-Err.fault _ c.stop.ensures.fault (rw c.replace-names.ensures.value at c.in-Err.ensures.begins) P L (rw c.in-Unborn.is at A)
 
 -- ## step_switch
 
@@ -259,7 +259,7 @@ step_recurring-returns-in_default g t c = λ m depth t T e L N W. early_memory (
 pub step_recurring-returns-in-None : goal.step_recurring-returns-in-None
 step_recurring-returns-in-None g t c =
     runs_alone (g.R.Holds.answers c.args.context.now.functions.now) c.args.context.now.plan.now c.args.names.now c.args.switch.now (observation_of c.args.switch.now.form) c.requires.form c.args.context.now.dt c.args.value.now c.in-Ok.input c.in-Ok.ensures.0 c.args.meter.now c.step_state.new.meter c.args.inside
-    c.step_state.result c.step_state.new.state c.step_state.new.value (fault_of c.step_state.new.meter) (none_occurs _ c.in-Ok.occurring (second_of c.args.value.now) c.in-Ok.ensures.1 c.in-None.is)
+    c.step_state.result c.step_state.new.state c.step_state.new.value (meter_fault c.step_state.new.meter) (none_occurs _ c.in-Ok.occurring (second_of c.args.value.now) c.in-Ok.ensures.1 c.in-None.is)
     _ refl c.step_state.ensures
 
 pub step_recurring-returns-in_default-clone_in : goal.step_recurring-returns-in_default-clone_in
@@ -303,7 +303,7 @@ step_pipeline-returns-in_err-step_state g t c = λ m depth t P L R.
     let φ = g.R.Holds.answers c.args.context.now.functions.now in
     let p = c.args.context.now.plan.now in
     let l = c.loop-stage in
-    let f = fault_of c.step_state.new.meter in
+    let f = meter_fault c.step_state.new.meter in
     let failed = continues_fails φ p _ c.args.context.now.dt c.args.value.now c.args.meter.now l.stage-items l.stage-index l.value l.meter c.args.inside c.stage-item.result (omega (arith, c.loop-stage-test.true, l.auto.stage-items)) l.invariant.goes_on
     f c.step_state.new.meter c.in_err-step_state.ensures in
     pass_exit _ _ c.from_residual.ensures.0 (pipeline_fails φ p c.args.stages.now c.args.context.now.dt c.args.value.now c.args.meter.now c.step_state.new.meter c.args.inside f
@@ -492,62 +492,62 @@ step_followed-returns-in-Err g t c =
 
 -- ## A switch that keeps its source, and a frozen state
 
-pub step_other-returns-in_default-wake : goal.step_other-returns-in_default-wake
-step_other-returns-in_default-wake g t c = first_memory (g.R.Holds.answers c.args.context.now.functions.now) c.args.context.now.plan.now c.stop-in_default-wake.ensures.entered c.stop-in_default-wake.ensures.height c.stop-in_default-wake.ensures.fault
+pub step_frozen-returns-in_default-wake : goal.step_frozen-returns-in_default-wake
+step_frozen-returns-in_default-wake g t c = first_memory (g.R.Holds.answers c.args.context.now.functions.now) c.args.context.now.plan.now c.stop.ensures.entered c.stop.ensures.height c.stop.ensures.fault
 
-pub step_other-returns-in-Ok : goal.step_other-returns-in-Ok
-step_other-returns-in-Ok g t c = λ P L A.
-    let r = left_or c.step_state-in-Frozen.result (c.step_state-in-Frozen.new.state, c.step_state-in-Frozen.new.value) (fault_of c.step_state-in-Frozen.new.meter) in
-    frozen_steps (g.R.Holds.answers c.args.context.now.functions.now) c.args.context.now.plan.now _ c.in-Frozen.frozen.value.wait c.in-Frozen.frozen.value.names c.in-Frozen.frozen.value.node c.in-Ok.awake c.args.context.now.dt c.args.value.now r c.args.meter.now c.step_state-in-Frozen.new.meter c.args.depth
-    (subst (λ (f : Frozen). (P : Process) (L : Life) → Stands (g.R.Holds.answers c.args.context.now.functions.now) c.args.context.now.plan.now (kept_state f.names f.node) P L → Stands (g.R.Holds.answers c.args.context.now.functions.now) c.args.context.now.plan.now c.in-Ok.awake P L)
-    c.deref-in-Frozen.ensures (c.in-Ok.ensures.stands (g.R.Holds.answers c.args.context.now.functions.now) c.args.context.now.plan.now))
-    (subst (λ (f : Frozen). StateSteps (g.R.Holds.answers c.args.context.now.functions.now) c.args.context.now.plan.now c.in-Ok.awake (step f.wait c.args.value.now) r c.args.meter.now c.step_state-in-Frozen.new.meter c.args.depth)
-    c.deref.ensures c.step_state-in-Frozen.ensures) P L (rw c.in-Frozen.is at A)
+pub step_frozen-returns : goal.step_frozen-returns
+step_frozen-returns g t c = λ P L A.
+    let r = left_or c.step_state.result (c.step_state.new.state, c.step_state.new.value) (meter_fault c.step_state.new.meter) in
+    frozen_steps (g.R.Holds.answers c.args.context.now.functions.now) c.args.context.now.plan.now _ c.in-Frozen.frozen.value.wait c.in-Frozen.frozen.value.names c.in-Frozen.frozen.value.node c.in-Ok.awake c.args.context.now.dt c.args.value.now r c.args.meter.now c.step_state.new.meter c.args.depth
+    (subst (λ (f : Frozen). (P : Process) (L : Life) → Stands (g.R.Holds.answers c.args.context.now.functions.now) c.args.context.now.plan.now (frozen_state f.names f.node) P L → Stands (g.R.Holds.answers c.args.context.now.functions.now) c.args.context.now.plan.now c.in-Ok.awake P L)
+    c.deref-2.ensures (c.in-Ok.ensures.stands (g.R.Holds.answers c.args.context.now.functions.now) c.args.context.now.plan.now))
+    (subst (λ (f : Frozen). StateSteps (g.R.Holds.answers c.args.context.now.functions.now) c.args.context.now.plan.now c.in-Ok.awake (step f.wait c.args.value.now) r c.args.meter.now c.step_state.new.meter c.args.depth)
+    c.deref.ensures c.step_state.ensures) P L (rw c.in-Frozen.is at A)
 
-pub step_keeping-returns-in_default : goal.step_keeping-returns-in_default
-step_keeping-returns-in_default g t c = λ m depth t T e L N W. early_memory (g.R.Holds.answers c.args.context.now.functions.now) c.args.context.now.plan.now t c.stop.ensures.entered c.stop.ensures.height c.stop.ensures.fault
+pub step_continuing-returns-in_default : goal.step_continuing-returns-in_default
+step_continuing-returns-in_default g t c = λ m depth t T e L N W. early_memory (g.R.Holds.answers c.args.context.now.functions.now) c.args.context.now.plan.now t c.stop.ensures.entered c.stop.ensures.height c.stop.ensures.fault
 
-pub step_keeping-returns-in_default-copies : goal.step_keeping-returns-in_default-copies
-step_keeping-returns-in_default-copies g t c = λ m depth t T e L N W. early_memory (g.R.Holds.answers c.args.context.now.functions.now) c.args.context.now.plan.now t c.stop-in_default-copies.ensures.entered c.stop-in_default-copies.ensures.height c.stop-in_default-copies.ensures.fault
+pub step_continuing-returns-in_default-copies : goal.step_continuing-returns-in_default-copies
+step_continuing-returns-in_default-copies g t c = λ m depth t T e L N W. early_memory (g.R.Holds.answers c.args.context.now.functions.now) c.args.context.now.plan.now t c.stop-in_default-copies.ensures.entered c.stop-in_default-copies.ensures.height c.stop-in_default-copies.ensures.fault
 
-pub step_keeping-returns-in_err-step_state : goal.step_keeping-returns-in_err-step_state
-step_keeping-returns-in_err-step_state g t c = λ m depth t T e L N W.
-    pass_beside (g.R.Holds.answers c.args.context.now.functions.now) c.args.context.now.plan.now _ _ _ c.from_residual.ensures.0 (kept_fails (g.R.Holds.answers c.args.context.now.functions.now) c.args.context.now.plan.now c.args.names.now c.args.keeping.now c.args.context.now.dt c.args.value.now c.args.meter.now c.step_state.new.meter c.args.inside
+pub step_continuing-returns-in_err-step_state : goal.step_continuing-returns-in_err-step_state
+step_continuing-returns-in_err-step_state g t c = λ m depth t T e L N W.
+    pass_beside (g.R.Holds.answers c.args.context.now.functions.now) c.args.context.now.plan.now _ _ _ c.from_residual.ensures.0 (kept_fails (g.R.Holds.answers c.args.context.now.functions.now) c.args.context.now.plan.now c.args.names.now c.args.continuing.now c.args.context.now.dt c.args.value.now c.args.meter.now c.step_state.new.meter c.args.inside
     _ (runs_alike (g.R.Holds.answers c.args.context.now.functions.now) c.args.context.now.plan.now (c.in-Ok.ensures.runs_on (g.R.Holds.answers c.args.context.now.functions.now) c.args.context.now.plan.now) c.in_err-step_state.ensures) m depth t T e L N W)
 
-pub step_keeping-returns-in_default-beside : goal.step_keeping-returns-in_default-beside
-step_keeping-returns-in_default-beside g t c = λ m depth t T e L N W.
-    memory_exit c.stop-in_default-beside.ensures.fault (kept_memory (g.R.Holds.answers c.args.context.now.functions.now) c.args.context.now.plan.now c.args.names.now c.args.keeping.now c.args.context.now.dt c.args.value.now c.args.meter.now c.step_state.new.meter c.args.inside
+pub step_continuing-returns-in_default-beside : goal.step_continuing-returns-in_default-beside
+step_continuing-returns-in_default-beside g t c = λ m depth t T e L N W.
+    memory_exit c.stop-in_default-beside.ensures.fault (kept_memory (g.R.Holds.answers c.args.context.now.functions.now) c.args.context.now.plan.now c.args.names.now c.args.continuing.now c.args.context.now.dt c.args.value.now c.args.meter.now c.step_state.new.meter c.args.inside
     c.step_state.new.state c.step_state.new.value (runs_alike (g.R.Holds.answers c.args.context.now.functions.now) c.args.context.now.plan.now (c.in-Ok.ensures.runs_on (g.R.Holds.answers c.args.context.now.functions.now) c.args.context.now.plan.now) c.in_ok-step_state.ensures) _ c.stop-in_default-beside.ensures.entered c.stop-in_default-beside.ensures.height m depth t T e L N W)
 
-pub step_keeping-returns-in_err-step_state-2 : goal.step_keeping-returns-in_err-step_state-2
-step_keeping-returns-in_err-step_state-2 g t c = λ m depth t T e L N W.
-    pass_beside (g.R.Holds.answers c.args.context.now.functions.now) c.args.context.now.plan.now _ _ _ c.from_residual-in_err-step_state-2.ensures.0 (observer_fails (g.R.Holds.answers c.args.context.now.functions.now) c.args.context.now.plan.now c.args.names.now c.args.keeping.now c.args.context.now.dt c.args.value.now c.args.meter.now c.step_state.new.meter c.args.inside
+pub step_continuing-returns-in_err-step_state-2 : goal.step_continuing-returns-in_err-step_state-2
+step_continuing-returns-in_err-step_state-2 g t c = λ m depth t T e L N W.
+    pass_beside (g.R.Holds.answers c.args.context.now.functions.now) c.args.context.now.plan.now _ _ _ c.from_residual-in_err-step_state-2.ensures.0 (observer_fails (g.R.Holds.answers c.args.context.now.functions.now) c.args.context.now.plan.now c.args.names.now c.args.continuing.now c.args.context.now.dt c.args.value.now c.args.meter.now c.step_state.new.meter c.args.inside
     c.step_state.new.state c.step_state.new.value (runs_alike (g.R.Holds.answers c.args.context.now.functions.now) c.args.context.now.plan.now (c.in-Ok.ensures.runs_on (g.R.Holds.answers c.args.context.now.functions.now) c.args.context.now.plan.now) c.in_ok-step_state.ensures) c.in-Ok-beside.seen (rw c.in-Ok-copies.ensures.0 at c.in-Ok-beside.ensures) c.step_state-2.new.meter
     _ c.in_err-step_state-2.ensures m depth t T e L N W)
 
-pub step_keeping-returns-in-None : goal.step_keeping-returns-in-None
-step_keeping-returns-in-None g t c =
-    keeps_on (g.R.Holds.answers c.args.context.now.functions.now) c.args.context.now.plan.now c.args.names.now c.args.keeping.now c.args.context.now.dt c.args.value.now c.args.meter.now c.step_state.new.meter c.args.inside
+pub step_continuing-returns-in-None : goal.step_continuing-returns-in-None
+step_continuing-returns-in-None g t c =
+    keeps_on (g.R.Holds.answers c.args.context.now.functions.now) c.args.context.now.plan.now c.args.names.now c.args.continuing.now c.args.context.now.dt c.args.value.now c.args.meter.now c.step_state.new.meter c.args.inside
     c.step_state.new.state c.step_state.new.value (runs_alike (g.R.Holds.answers c.args.context.now.functions.now) c.args.context.now.plan.now (c.in-Ok.ensures.runs_on (g.R.Holds.answers c.args.context.now.functions.now) c.args.context.now.plan.now) c.in_ok-step_state.ensures) c.in-Ok-beside.seen (rw c.in-Ok-copies.ensures.0 at c.in-Ok-beside.ensures) c.step_state-2.new.meter
     c.step_state-2.new.state c.step_state-2.new.value c.in_ok-step_state-2.ensures (none_occurs _ c.payload_of.result c.step_state-2.new.value c.payload_of.ensures c.in-None.is) _ _ refl
 
-pub step_keeping-returns-in_default-begin : goal.step_keeping-returns-in_default-begin
-step_keeping-returns-in_default-begin g t c = λ m depth t T e L N W.
-    memory_exit c.stop-in_default-begin.ensures.fault (observer_memory (g.R.Holds.answers c.args.context.now.functions.now) c.args.context.now.plan.now c.args.names.now c.args.keeping.now c.args.context.now.dt c.args.value.now c.args.meter.now c.step_state.new.meter c.args.inside
+pub step_continuing-returns-in_default-begin : goal.step_continuing-returns-in_default-begin
+step_continuing-returns-in_default-begin g t c = λ m depth t T e L N W.
+    memory_exit c.stop-in_default-begin.ensures.fault (observer_memory (g.R.Holds.answers c.args.context.now.functions.now) c.args.context.now.plan.now c.args.names.now c.args.continuing.now c.args.context.now.dt c.args.value.now c.args.meter.now c.step_state.new.meter c.args.inside
     c.step_state.new.state c.step_state.new.value (runs_alike (g.R.Holds.answers c.args.context.now.functions.now) c.args.context.now.plan.now (c.in-Ok.ensures.runs_on (g.R.Holds.answers c.args.context.now.functions.now) c.args.context.now.plan.now) c.in_ok-step_state.ensures) c.in-Ok-beside.seen (rw c.in-Ok-copies.ensures.0 at c.in-Ok-beside.ensures) c.step_state-2.new.meter
     c.step_state-2.new.state c.step_state-2.new.value c.in_ok-step_state-2.ensures _ c.stop-in_default-begin.ensures.entered c.stop-in_default-begin.ensures.height m depth t T e L N W)
 
-pub step_keeping-returns-in_err-successor-in-Some : goal.step_keeping-returns-in_err-successor-in-Some
-step_keeping-returns-in_err-successor-in-Some g t c = λ m depth t T e L N W.
-    pass_beside (g.R.Holds.answers c.args.context.now.functions.now) c.args.context.now.plan.now _ _ _ c.from_residual-in_err-successor-in-Some.ensures.0 (kept_body_fails (g.R.Holds.answers c.args.context.now.functions.now) c.args.context.now.plan.now c.args.names.now c.args.keeping.now c.args.context.now.dt c.args.value.now c.args.meter.now c.step_state.new.meter c.args.inside
+pub step_continuing-returns-in_err-successor-in-Some : goal.step_continuing-returns-in_err-successor-in-Some
+step_continuing-returns-in_err-successor-in-Some g t c = λ m depth t T e L N W.
+    pass_beside (g.R.Holds.answers c.args.context.now.functions.now) c.args.context.now.plan.now _ _ _ c.from_residual-in_err-successor-in-Some.ensures.0 (kept_body_fails (g.R.Holds.answers c.args.context.now.functions.now) c.args.context.now.plan.now c.args.names.now c.args.continuing.now c.args.context.now.dt c.args.value.now c.args.meter.now c.step_state.new.meter c.args.inside
     c.step_state.new.state c.step_state.new.value (runs_alike (g.R.Holds.answers c.args.context.now.functions.now) c.args.context.now.plan.now (c.in-Ok.ensures.runs_on (g.R.Holds.answers c.args.context.now.functions.now) c.args.context.now.plan.now) c.in_ok-step_state.ensures) c.in-Ok-beside.seen (rw c.in-Ok-copies.ensures.0 at c.in-Ok-beside.ensures) c.step_state-2.new.meter
     c.step_state-2.new.state c.step_state-2.new.value c.in_ok-step_state-2.ensures c.in-Some.payload.value (some_occurs _ c.payload_of.result c.in-Some.payload c.step_state-2.new.value c.payload_of.ensures c.in-Some.is)
     c.in-Ok-begin.successor (rw c.in-Ok.ensures.held at (c.in-Ok-begin.ensures (g.R.Holds.answers c.args.context.now.functions.now))) c.in-Ok-copies.output c.in-Ok-copies.ensures.1 c.step_begun.new.meter _ c.in_err-successor-in-Some.ensures m depth t T e L N W)
 
-pub step_keeping-returns-in_ok-successor-in-Some : goal.step_keeping-returns-in_ok-successor-in-Some
-step_keeping-returns-in_ok-successor-in-Some g t c =
-    kept_body_takes_over (g.R.Holds.answers c.args.context.now.functions.now) c.args.context.now.plan.now c.args.names.now c.args.keeping.now c.args.context.now.dt c.args.value.now c.args.meter.now c.step_state.new.meter c.args.inside
+pub step_continuing-returns-in_ok-successor-in-Some : goal.step_continuing-returns-in_ok-successor-in-Some
+step_continuing-returns-in_ok-successor-in-Some g t c =
+    continuation_takes_over (g.R.Holds.answers c.args.context.now.functions.now) c.args.context.now.plan.now c.args.names.now c.args.continuing.now c.args.context.now.dt c.args.value.now c.args.meter.now c.step_state.new.meter c.args.inside
     c.step_state.new.state c.step_state.new.value (runs_alike (g.R.Holds.answers c.args.context.now.functions.now) c.args.context.now.plan.now (c.in-Ok.ensures.runs_on (g.R.Holds.answers c.args.context.now.functions.now) c.args.context.now.plan.now) c.in_ok-step_state.ensures) c.in-Ok-beside.seen (rw c.in-Ok-copies.ensures.0 at c.in-Ok-beside.ensures) c.step_state-2.new.meter
     c.step_state-2.new.state c.step_state-2.new.value c.in_ok-step_state-2.ensures c.in-Some.payload.value (some_occurs _ c.payload_of.result c.in-Some.payload c.step_state-2.new.value c.payload_of.ensures c.in-Some.is)
     c.in-Ok-begin.successor (rw c.in-Ok.ensures.held at (c.in-Ok-begin.ensures (g.R.Holds.answers c.args.context.now.functions.now))) c.in-Ok-copies.output c.in-Ok-copies.ensures.1 c.step_begun.new.meter
@@ -663,7 +663,7 @@ step_editing-returns-in_default-inside g t c = λ m depth t T e L N W. early_mem
 pub step_editing-returns-in-None : goal.step_editing-returns-in-None
 step_editing-returns-in-None g t c =
     members_alone (g.R.Holds.answers c.args.context.now.functions.now) c.args.context.now.plan.now c.args.names.now c.args.editing.now c.args.context.now.dt c.args.value.now c.in-Ok.input c.in-Ok.ensures.0 c.args.meter.now c.step_members.new.meter c.args.inside
-    c.step_members.result c.step_members.new.members c.step_members.new.value (fault_of c.step_members.new.meter) (none_occurs _ c.in-Ok.occurring (second_of c.args.value.now) c.in-Ok.ensures.1 c.in-None.is)
+    c.step_members.result c.step_members.new.members c.step_members.new.value (meter_fault c.step_members.new.meter) (none_occurs _ c.in-Ok.occurring (second_of c.args.value.now) c.in-Ok.ensures.1 c.in-None.is)
     _ refl c.step_members.ensures
 
 pub step_editing-returns-in-Ok-Some : goal.step_editing-returns-in-Ok-Some
@@ -675,7 +675,7 @@ step_editing-returns-in-Ok-Some g t c =
     let v = c.in-Some.payload.value in
     let made = rw c.deref.ensures at (rw c.in-Ok-Some.field-0-is at c.in-Ok-Some.ensures) in
     edit_answers φ p c.args.names.now k d c.args.value.now c.in-Ok.input c.in-Ok.ensures.0 v (some_occurs _ c.in-Ok.occurring c.in-Some.payload (second_of c.args.value.now) c.in-Ok.ensures.1 c.in-Some.is) (Ok (drafted k.members d c.in-Ok-Some.draft)) c.args.inside
-    c.step_draft.result c.step_draft.new.members c.step_draft.new.value (fault_of c.step_draft.new.meter) (λ e qs K N G coded. made (each_frozen qs K d) v e (c.in-Ok-inside.ensures φ e qs K N G) coded (gathers_frozen φ p k.members d qs K G)) _ refl c.step_draft.ensures
+    c.step_draft.result c.step_draft.new.members c.step_draft.new.value (meter_fault c.step_draft.new.meter) (λ e qs K N G coded. made (each_frozen qs K d) v e (c.in-Ok-inside.ensures φ e qs K N G) coded (gathers_frozen φ p k.members d qs K G)) _ refl c.step_draft.ensures
 
 pub step_editing-returns-in-Err-Memory : goal.step_editing-returns-in-Err-Memory
 step_editing-returns-in-Err-Memory g t c = λ m depth t T e L N W. early_memory (g.R.Holds.answers c.args.context.now.functions.now) c.args.context.now.plan.now t c.stop-in-Err-Memory.ensures.entered c.stop-in-Err-Memory.ensures.height c.stop-in-Err-Memory.ensures.fault
@@ -688,7 +688,7 @@ step_editing-returns-after-draft_of g t c =
     let d = c.args.context.now.dt in
     let v = c.in-Some.payload.value in
     edit_answers φ p c.args.names.now k d c.args.value.now c.in-Ok.input c.in-Ok.ensures.0 v (some_occurs _ c.in-Ok.occurring c.in-Some.payload (second_of c.args.value.now) c.in-Ok.ensures.1 c.in-Some.is) (held_as_made c.collect-made.result) c.args.inside
-    c.step_exchange.result c.step_exchange.new.members c.step_exchange.new.value (fault_of c.step_exchange.new.meter) (λ e qs K N G coded. as_made φ p c.collect-made.result ((rw c.deref-in-Some.ensures at c.collect-made.ensures) _ (c.in-Ok-inside.ensures φ e qs K N G) coded)) _ refl c.step_exchange.ensures
+    c.step_exchange.result c.step_exchange.new.members c.step_exchange.new.value (meter_fault c.step_exchange.new.meter) (λ e qs K N G coded. as_made φ p c.collect-made.result ((rw c.deref-in-Some.ensures at c.collect-made.ensures) _ (c.in-Ok-inside.ensures φ e qs K N G) coded)) _ refl c.step_exchange.ensures
 
 -- ## step_exchange
 
@@ -711,7 +711,7 @@ pub step_exchange-returns-in_err-step_members-in-Ok-made : goal.step_exchange-re
 step_exchange-returns-in_err-step_members-in-Ok-made g t c =
     let φ = g.R.Holds.answers c.args.context.now.functions.now in
     let p = c.args.context.now.plan.now in
-    pass_edit _ _ c.from_residual-in_err-step_members-in-Ok-made.ensures.0 (members_fail_anew (as_held φ p c.args.members.now c.step_members.new.members c.in_ok-step_members.ensures) (ap held_as_made c.in-Ok-made.is) (λ low ms L G. held_fails φ p c.in-Ok-made.fresh (rw c.in-Ok.ensures at c.in_err-step_members-in-Ok-made.ensures)))
+    pass_edit _ _ c.from_residual-in_err-step_members-in-Ok-made.ensures.0 (Edits.new_fails (as_held φ p c.args.members.now c.step_members.new.members c.in_ok-step_members.ensures) (ap held_as_made c.in-Ok-made.is) (λ low ms L G. held_fails φ p c.in-Ok-made.fresh (rw c.in-Ok.ensures at c.in_err-step_members-in-Ok-made.ensures)))
 
 pub step_exchange-returns-in_ok-step_members-in-Ok-made : goal.step_exchange-returns-in_ok-step_members-in-Ok-made
 step_exchange-returns-in_ok-step_members-in-Ok-made g t c =
@@ -768,8 +768,8 @@ step_noted-returns-in_err-step_member g t c =
     let l = c.loop-ran in
     let all = c.deref_mut-ran-items.result.now in
     let n = c.step_member.new.meter in
-    let failed = notes_fail φ p c.args.wait d x c.args.inside m all l.ran-items l.ran-index l.outputs.items l.turns.items l.meter c.ran-item.result (omega (arith, c.loop-ran-test.true, l.auto.ran-items)) l.invariant.goes_on (fault_of n) n (rw c.in-Ok-clone_in.ensures at c.in_err-step_member.ensures) in
-    pass_notes _ _ c.from_residual.ensures.0 (subst (λ (bs : List State). HaveStepped φ p c.args.wait (step d x) c.args.inside m bs (Err (fault_of n)) n) c.deref_mut-ran-items.ensures.value failed)
+    let failed = notes_fail φ p c.args.wait d x c.args.inside m all l.ran-items l.ran-index l.outputs.items l.turns.items l.meter c.ran-item.result (omega (arith, c.loop-ran-test.true, l.auto.ran-items)) l.invariant.goes_on (meter_fault n) n (rw c.in-Ok-clone_in.ensures at c.in_err-step_member.ensures) in
+    pass_notes _ _ c.from_residual.ensures.0 (subst (λ (bs : List State). HaveStepped φ p c.args.wait (step d x) c.args.inside m bs (Err (meter_fault n)) n) c.deref_mut-ran-items.ensures.value failed)
 
 pub step_noted-loop-ran-preserved : goal.step_noted-loop-ran-preserved
 step_noted-loop-ran-preserved g t c =
@@ -845,7 +845,7 @@ step_again-returns-in_err-repeat-in-Stays g t c =
     let n = c.repeat.new.self in
     let turn = turn_at c.args.turns.each.now l.at _ c.in-Stays.is c.loop-at-test.true in
     pass_turns _ _ c.from_residual.ensures.0 (turns_stay_not φ p c.args.turns.wait c.args.context.now.dt c.args.turns.inside c.args.meter.now c.args.states.now.items c.args.outputs.now.items c.args.turns.each.now l.states.items l.outputs.items c.args.turns.each.now l.at l.meter l.invariant.goes_on
-    c.in-Stays.spent n turn (omega (arith, c.loop-at-test.true, l.invariant.states)) (omega (arith, c.loop-at-test.true, l.invariant.outputs)) (fault_of n) c.in_err-repeat-in-Stays.ensures)
+    c.in-Stays.spent n turn (omega (arith, c.loop-at-test.true, l.invariant.states)) (omega (arith, c.loop-at-test.true, l.invariant.outputs)) (meter_fault n) c.in_err-repeat-in-Stays.ensures)
 
 pub step_again-returns-in_err-step_waiting-in-Begins : goal.step_again-returns-in_err-step_waiting-in-Begins
 step_again-returns-in_err-step_waiting-in-Begins g t c =
@@ -855,7 +855,7 @@ step_again-returns-in_err-step_waiting-in-Begins g t c =
     let n = c.step_waiting.new.meter in
     let turn = turn_at c.args.turns.each.now l.at _ c.in-Begins.is c.loop-at-test.true in
     pass_turns _ _ c.from_residual-in_err-step_waiting-in-Begins.ensures.0 (turns_begin_not φ p c.args.turns.wait c.args.context.now.dt c.args.turns.inside c.args.meter.now c.args.states.now.items c.args.outputs.now.items c.args.turns.each.now l.states.items l.outputs.items c.args.turns.each.now l.at l.meter l.invariant.goes_on
-    c.index_mut.result.now c.index_mut-output.result.now n turn (omega (arith, c.loop-at-test.true, l.invariant.states)) (omega (arith, c.loop-at-test.true, l.invariant.outputs)) c.index_mut.ensures.value c.index_mut-output.ensures.value (fault_of n) c.in_err-step_waiting-in-Begins.ensures)
+    c.index_mut.result.now c.index_mut-output.result.now n turn (omega (arith, c.loop-at-test.true, l.invariant.states)) (omega (arith, c.loop-at-test.true, l.invariant.outputs)) c.index_mut.ensures.value c.index_mut-output.ensures.value (meter_fault n) c.in_err-step_waiting-in-Begins.ensures)
 
 pub step_again-loop-at-preserved : goal.step_again-loop-at-preserved
 step_again-loop-at-preserved g t c =
@@ -1025,7 +1025,7 @@ step_turns-returns-in_err-step_again g t c = λ rs own.
     let old = old_step φ p run bs own c.args.edit.draft d i c.args.edit.inside m n ds ys gs c.in_ok-noted.ensures in
     let os = c.in-Ok.outputs.items in
     let turned = not_turned_so φ p run bs c.args.edit.draft d i c.args.edit.inside m n ds ys os gs c.in_ok-noted.ensures c.in-Ok.ensures.long c.step_again.new.meter c.unwrap_or.ensures c.in-Ok-change_all.ensures.states c.in-Ok-change_all.ensures.outputs (c.deref.ensures.value ∙ c.in-Ok-change_all.ensures.turns) _ c.in_err-step_again.ensures in
-    pass_edit _ _ c.from_residual-in_err-step_again.ensures.0 (members_fail_anew old refl (new_stop φ p run bs own c.args.edit.draft d i c.args.edit.inside m n ds ys gs c.in_ok-noted.ensures _ c.step_again.new.meter turned))
+    pass_edit _ _ c.from_residual-in_err-step_again.ensures.0 (Edits.new_fails old refl (new_stop φ p run bs own c.args.edit.draft d i c.args.edit.inside m n ds ys gs c.in_ok-noted.ensures _ c.step_again.new.meter turned))
 
 pub step_turns-returns-in-Ok-table_after : goal.step_turns-returns-in-Ok-table_after
 step_turns-returns-in-Ok-table_after g t c = λ rs own.
@@ -1049,7 +1049,7 @@ step_turns-returns-in-Ok-table_after g t c = λ rs own.
     let ks = c.in-Ok-new.all.value in
     let before = c.in-Ok.before in
     new_run old refl (new_step φ p run bs own c.args.edit.draft d i c.args.edit.inside m n ds ys gs c.in_ok-noted.ensures es turned.vs ks c.step_again.new.meter c.in-Ok-new.ensures.ok turned.turned)
-    (shows_so c.args.edit.shown (table (rows_under run.keys ys)) c.in-Ok-table_after.rows before (λ zs. table (rows_under ks zs)) zs turned.vs c.in-Ok.ensures.shows (λ none. turned.same (ap (all_changed (λ a. i) cs) (c.in-Ok.ensures.same none))) c.in-Ok-table_after.ensures)
+    (shows_so c.args.edit.shown (table (keyed_rows run.keys ys)) c.in-Ok-table_after.rows before (λ zs. table (keyed_rows ks zs)) zs turned.vs c.in-Ok.ensures.shows (λ none. turned.same (ap (all_changed (λ a. i) cs) (c.in-Ok.ensures.same none))) c.in-Ok-table_after.ensures)
 
 pub step_turns-returns : goal.step_turns-returns
 step_turns-returns g t c = λ rs own.
@@ -1069,7 +1069,7 @@ step_turns-returns g t c = λ rs own.
     let es = c.step_again.new.states.items in
     let zs = c.step_again.new.outputs.items in
     let turned = turned_so φ p run bs c.args.edit.draft d i c.args.edit.inside m n ds ys os gs c.in_ok-noted.ensures c.in-Ok.ensures.long c.step_again.new.meter c.unwrap_or.ensures c.in-Ok-change_all.ensures.states c.in-Ok-change_all.ensures.outputs (c.deref.ensures.value ∙ c.in-Ok-change_all.ensures.turns) es zs c.in_ok-step_again.ensures in
-    edit_stopped c.stop-in-Err.ensures.fault (members_fail_anew old refl (new_end φ p run bs own c.args.edit.draft d i c.args.edit.inside m n ds ys gs c.in_ok-noted.ensures es turned.vs c.step_again.new.meter c.stop-in-Err.new.self c.stop-in-Err.ensures.entered c.stop-in-Err.ensures.height turned.turned))
+    edit_stopped c.stop-in-Err.ensures.fault (Edits.new_fails old refl (new_end φ p run bs own c.args.edit.draft d i c.args.edit.inside m n ds ys gs c.in_ok-noted.ensures es turned.vs c.step_again.new.meter c.stop-in-Err.new.self c.stop-in-Err.ensures.entered c.stop-in-Err.ensures.height turned.turned))
 
 -- ## step_members
 
@@ -1078,7 +1078,7 @@ step_members-returns-in_err-outputs g t c = λ low ms L G.
     let φ = g.R.Holds.answers c.args.context.now.functions.now in
     let p = c.args.context.now.plan.now in
     let n = c.step_list.new.meter in
-    pass_exit _ _ c.from_residual.ensures.0 (members_fail φ p c.args.members.now c.args.context.now.dt c.args.value.now c.args.meter.now n c.args.inside (fault_of n) c.in_err-outputs.ensures low ms L G)
+    pass_exit _ _ c.from_residual.ensures.0 (members_fail φ p c.args.members.now c.args.context.now.dt c.args.value.now c.args.meter.now n c.args.inside (meter_fault n) c.in_err-outputs.ensures low ms L G)
 
 pub step_members-returns-in-Ok : goal.step_members-returns-in-Ok
 step_members-returns-in-Ok g t c =
@@ -1158,7 +1158,7 @@ step_each-loop-state-init g t c =
     let m = c.args.meter.now in
     let bs = c.deref_mut-state-items.result.now in
     record {
-      goes_on = subst (λ ys. EachContinues φ p c.args.wait bs d x m [] ys bs m c.args.inside) (sym c.in-Ok.ensures.items) (each_first φ p c.args.wait bs d x m c.args.inside);
+      goes_on = subst (λ ys. Continues φ p c.args.wait bs d x m [] ys bs m c.args.inside) (sym c.in-Ok.ensures.items) (each_first φ p c.args.wait bs d x m c.args.inside);
       as_many = c.in-Ok.ensures.len;
       room = omega (arith, c.in-Ok.ensures.capacity, c.len.ensures, ap length c.deref_mut-state-items.ensures.value);
     }
@@ -1180,7 +1180,7 @@ step_each-returns-in_err-step_member g t c =
     let x = c.args.value.now in
     let m = c.args.meter.now in
     let l = c.loop-state in
-    let f = fault_of c.step_member.new.meter in
+    let f = meter_fault c.step_member.new.meter in
     let n = c.step_member.new.meter in
     let failed = each_fails φ p c.args.wait _ d x m l.state-items l.state-index l.outputs.items l.meter c.args.inside c.state-item.result (omega (arith, c.loop-state-test.true, l.auto.state-items)) l.invariant.goes_on
     f n (rw c.in-Ok-clone_in.ensures at c.in_err-step_member.ensures) in
@@ -1202,7 +1202,7 @@ step_each-loop-state-preserved g t c =
     let n = c.step_member.new.meter in
     let bs = set l.state-items l.state-index c.step_member.new.state in
     record {
-      goes_on = subst (λ ys. EachContinues φ p c.args.wait c.deref_mut-state-items.result.now d x m (take (l.state-index + 1) bs) ys (drop (l.state-index + 1) bs) n c.args.inside) (sym c.push_reserved.ensures.items)
+      goes_on = subst (λ ys. Continues φ p c.args.wait c.deref_mut-state-items.result.now d x m (take (l.state-index + 1) bs) ys (drop (l.state-index + 1) bs) n c.args.inside) (sym c.push_reserved.ensures.items)
           (each_next φ p c.args.wait c.deref_mut-state-items.result.now d x m l.state-items l.state-index l.outputs.items l.meter c.args.inside c.state-item.result (omega (arith, c.loop-state-test.true, l.auto.state-items)) l.invariant.goes_on
           c.step_member.new.state c.step_member.new.value n (rw c.in-Ok-clone_in.ensures at c.in_ok-step_member.ensures));
       as_many = c.push_reserved.ensures.len ∙ ap (λ k. k + 1) l.invariant.as_many;
@@ -1252,4 +1252,4 @@ pub step_gathered-returns : goal.step_gathered-returns
 step_gathered-returns g t c =
     let φ = g.R.Holds.answers c.args.context.now.functions.now in
     let p = c.args.context.now.plan.now in
-    gathered_so φ p c.args.members.now c.args.context.now.dt c.args.value.now c.args.meter.now c.step_members.new.meter c.args.inside c.step_members.result c.step_members.new.members c.step_members.new.value (fault_of c.step_members.new.meter) c.step_members.ensures
+    gathered_so φ p c.args.members.now c.args.context.now.dt c.args.value.now c.args.meter.now c.step_members.new.meter c.args.inside c.step_members.result c.step_members.new.members c.step_members.new.value (meter_fault c.step_members.new.meter) c.step_members.ensures

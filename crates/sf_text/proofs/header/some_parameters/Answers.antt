@@ -2,7 +2,7 @@ use Rattle.std.proofs.Common.{true, List, sym, subst}
 use Rattle.sf_term.specs.Parameters.{PlacedParameter, binding_of}
 use Rattle.sf_text.specs.Parsing.Answers.{ahead}
 use Rattle.sf_text.specs.Parsing.Consuming.{spots_ahead}
-use Rattle.sf_text.specs.Answers.{bindings_in}
+use Rattle.sf_text.specs.Answers.{parameter_bindings}
 use Rattle.sf_text.proofs.Lists.{ReadParameters, no_parameters_read, parameters_go_on, next_parameter, parameter_stops, parameter_separator_stops, stopped_as}
 use Rattle.sf_text.proofs.header.some_parameters.Goals as goal
 
@@ -13,13 +13,13 @@ loop-more-init c =
 
 pub returns-in_err-parameter-clause-reads : goal.returns-in_err-parameter-clause-reads
 returns-in_err-parameter-clause-reads c =
-    stopped_as bindings_in c.from_residual.result c.parameter.new.cursor c.in_err-parameter.field-0.0 _ c.from_residual.ensures.1
+    stopped_as parameter_bindings c.from_residual.result c.parameter.new.cursor c.in_err-parameter.field-0.0 _ c.from_residual.ensures.1
     (parameter_stops c.args.version c.args.cursor.now.tokens.now (ahead c.loop-more.cursor) (spots_ahead c.loop-more.cursor) c.loop-more.parameters.items c.in_err-parameter.field-0.0
     (parameters_go_on c.loop-more-test.true c.loop-more.invariant) c.in_err-parameter.ensures.reads)
 
 pub returns-in_err-more-clause-reads : goal.returns-in_err-more-clause-reads
 returns-in_err-more-clause-reads c =
-    stopped_as bindings_in c.from_residual-in_err-more.result c.separator.new.cursor c.in_err-more.field-0.0 _ c.from_residual-in_err-more.ensures.1
+    stopped_as parameter_bindings c.from_residual-in_err-more.result c.separator.new.cursor c.in_err-more.field-0.0 _ c.from_residual-in_err-more.ensures.1
     (parameter_separator_stops c.args.version c.args.cursor.now.tokens.now (ahead c.loop-more.cursor) (ahead c.parameter.new.cursor) (spots_ahead c.loop-more.cursor) c.loop-more.parameters.items (binding_of c.in_ok-parameter.parameter)
     c.in_err-more.field-0.0 (parameters_go_on c.loop-more-test.true c.loop-more.invariant) c.in_ok-parameter.ensures.reads c.in_err-more.ensures.reads)
 

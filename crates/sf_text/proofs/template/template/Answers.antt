@@ -3,7 +3,7 @@ use Rattle.sf_lex.specs.Words.{IsName}
 use Rattle.sf_text.specs.declared.parts.stop.Stop.{Stop}
 use Rattle.sf_grammar.specs.Reading.{parse_template}
 use Rattle.sf_text.specs.Parsing.Answers.{StopsReading, counts_of, ahead, stop_for}
-use Rattle.sf_text.specs.Answers.{kinds_in}
+use Rattle.sf_text.specs.Answers.{declared_kinds}
 use Rattle.sf_text.proofs.Parsing.Found.{refused_for_memory}
 use Rattle.sf_text.proofs.Placed.{signature_counted, template_read}
 use Rattle.sf_text.proofs.template.template.Goals as goal
@@ -18,5 +18,5 @@ returns-in-Err-clause-reads c =
 pub returns-in-Ok-clause-placed : goal.returns-in-Ok-clause-placed
 returns-in-Ok-clause-placed c =
     template_read c.in_ok-body.ensures.reads.kept c.in-Ok.ensures.ok c.in_ok-titled.ensures.placed c.in_ok-types.ensures.behind
-    (signature_counted c.args.version c.heading.new.cursor.tokens.now c.signature.new.cursor.tokens.now (kinds_in c.in_ok-types.types) c.in_ok-types.ensures.reads c.in_ok-types.ensures.behind)
+    (signature_counted c.args.version c.heading.new.cursor.tokens.now c.signature.new.cursor.tokens.now (declared_kinds c.in_ok-types.types) c.in_ok-types.ensures.reads c.in_ok-types.ensures.behind)
     c.in_ok-body.ensures.placed c.in_ok-symbol.ensures.behind

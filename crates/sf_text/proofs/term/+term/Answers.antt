@@ -7,9 +7,9 @@ use Rattle.sf_text.specs.declared.parts.stop.Stop.{Stop}
 use Rattle.sf_text.specs.Parsing.Answers.{StopsReading, counts_of, ahead}
 use Rattle.sf_text.specs.Parsing.Consuming.{spots_ahead, Consumes}
 use Rattle.sf_grammar.specs.Placing.{ArgumentsPlaced}
-use Rattle.sf_term.proofs.Kept.{keeps_trans, collection_at_kept}
-use Rattle.sf_text.proofs.Found.{term_built, headed_ready, transformed_ready, joined_ready, sided_ready, switching_ready, keeping_ready, call_ready, body_found, collection_shared, added_found, dropped_found, kept_found, chosen_found, members_found, members_shallow, gathered_ready, releasing_ready, edit_found, editing_ready, value_found, process_found, collection_found}
-use Rattle.sf_text.proofs.Placed.{headed_read, transformed_read, joined_read, sided_read, switching_read, keeping_read, call_read, value_read, process_read, collection_read, shared_placed, added_read, dropped_read, kept_read, chosen_read, members_read, gathered_read, releasing_read, editing_read, no_arguments_placed_behind, each_argument_placed}
+use Rattle.sf_term.proofs.Extended.{keeps_trans, collection_at_kept}
+use Rattle.sf_text.proofs.Found.{term_built, headed_ready, transformed_ready, joined_ready, sided_ready, switching_ready, continuing_ready, call_ready, body_found, collection_shared, added_found, dropped_found, kept_found, chosen_found, members_found, members_shallow, gathered_ready, releasing_ready, edit_found, editing_ready, value_found, process_found, collection_found}
+use Rattle.sf_text.proofs.Placed.{headed_read, transformed_read, joined_read, sided_read, switching_read, continuing_read, call_read, value_read, process_read, collection_read, shared_placed, added_read, dropped_read, kept_read, chosen_read, members_read, gathered_read, releasing_read, editing_read, no_arguments_placed_behind, each_argument_placed}
 use Rattle.sf_text.proofs.Lists.{ReadArguments, arguments_go_on, no_arguments_read, next_argument, argument_stops, argument_separator_stops, all_arguments, arguments_stopped_as}
 use Rattle.sf_text.proofs.Parsing.Found.{if_built, if_built_on, refused_for_memory}
 use Rattle.sf_text.proofs.Parsing.Placed.{parted_read}
@@ -65,15 +65,15 @@ pub switching-returns-clause-placed : goal.switching-returns-clause-placed
 switching-returns-clause-placed t c = if_built_on _ _ _ c.args.start.ahead c.switching-added.result c.built.result c.built.ensures c.switching-added.ensures.builds.ok c.switching-added.ensures.placed (λ id added there.
     switching_read c.in_ok-pattern.ensures.reads.kept.trees added there c.in_ok-symbol.ensures.behind c.in_ok-source.ensures.placed c.in_ok-symbol-2.ensures.behind c.in_ok-pattern.ensures.placed c.in_ok-symbol-3.ensures.behind)
 
-pub keeping-returns-clause-reads : goal.keeping-returns-clause-reads
-keeping-returns-clause-reads t c = λ whole counted.
-    term_built _ _ _ c.args.start.ahead c.keeping-added.result c.built.result
-    (keeping_ready c.args.version c.args.left (ahead c.args.reader.now.cursor) c.requires.shallow c.in_ok-symbol.ensures.reads c.in_ok-source.ensures.reads c.in_ok-symbol-2.ensures.reads c.in_ok-observer.ensures.reads c.in_ok-symbol-3.ensures.reads c.in_ok-process.ensures.reads c.in_ok-symbol-4.ensures.reads c.in_ok-pattern.ensures.reads c.in_ok-symbol-5.ensures.reads (c.in_ok-known.ensures.ok ∙ c.as_str.ensures.text))
-    (keeps_trans _ _ _ c.in_ok-source.ensures.reads.kept (keeps_trans _ _ _ c.in_ok-observer.ensures.reads.kept c.in_ok-pattern.ensures.reads.kept)) counted c.built.ensures c.keeping-added.ensures.builds (subst IsName (sym c.in_ok-known.ensures.ok) c.as_str.ensures.named, c.in_ok-pattern.ensures.reads.names)
+pub continuing-returns-clause-reads : goal.continuing-returns-clause-reads
+continuing-returns-clause-reads t c = λ whole counted.
+    term_built _ _ _ c.args.start.ahead c.continuing-added.result c.built.result
+    (continuing_ready c.args.version c.args.left (ahead c.args.reader.now.cursor) c.requires.shallow c.in_ok-symbol.ensures.reads c.in_ok-source.ensures.reads c.in_ok-symbol-2.ensures.reads c.in_ok-observer.ensures.reads c.in_ok-symbol-3.ensures.reads c.in_ok-process.ensures.reads c.in_ok-symbol-4.ensures.reads c.in_ok-pattern.ensures.reads c.in_ok-symbol-5.ensures.reads (c.in_ok-known.ensures.ok ∙ c.as_str.ensures.text))
+    (keeps_trans _ _ _ c.in_ok-source.ensures.reads.kept (keeps_trans _ _ _ c.in_ok-observer.ensures.reads.kept c.in_ok-pattern.ensures.reads.kept)) counted c.built.ensures c.continuing-added.ensures.builds (subst IsName (sym c.in_ok-known.ensures.ok) c.as_str.ensures.named, c.in_ok-pattern.ensures.reads.names)
 
-pub keeping-returns-clause-placed : goal.keeping-returns-clause-placed
-keeping-returns-clause-placed t c = if_built_on _ _ _ c.args.start.ahead c.keeping-added.result c.built.result c.built.ensures c.keeping-added.ensures.builds.ok c.keeping-added.ensures.placed (λ id added there.
-    keeping_read c.in_ok-observer.ensures.reads.kept.trees c.in_ok-pattern.ensures.reads.kept.trees added there c.in_ok-symbol.ensures.behind c.in_ok-source.ensures.placed c.in_ok-symbol-2.ensures.behind c.in_ok-observer.ensures.placed c.in_ok-symbol-3.ensures.behind
+pub continuing-returns-clause-placed : goal.continuing-returns-clause-placed
+continuing-returns-clause-placed t c = if_built_on _ _ _ c.args.start.ahead c.continuing-added.result c.built.result c.built.ensures c.continuing-added.ensures.builds.ok c.continuing-added.ensures.placed (λ id added there.
+    continuing_read c.in_ok-observer.ensures.reads.kept.trees c.in_ok-pattern.ensures.reads.kept.trees added there c.in_ok-symbol.ensures.behind c.in_ok-source.ensures.placed c.in_ok-symbol-2.ensures.behind c.in_ok-observer.ensures.placed c.in_ok-symbol-3.ensures.behind
     c.in_ok-process.ensures.placed c.in_ok-symbol-4.ensures.behind c.in_ok-pattern.ensures.placed c.in_ok-symbol-5.ensures.behind)
 
 pub call-returns-clause-reads : goal.call-returns-clause-reads

@@ -64,8 +64,8 @@ decreases-switching l = 8 * l.left + 5
 abbrev pub decreases-joined : goal.decreases-joined
 decreases-joined l = 8 * l.left + 5
 
-abbrev pub decreases-keeping : goal.decreases-keeping
-decreases-keeping l = 8 * l.left + 5
+abbrev pub decreases-continuing : goal.decreases-continuing
+decreases-continuing l = 8 * l.left + 5
 
 abbrev pub decreases-body : goal.decreases-body
 decreases-body l = 8 * l.left + 1

@@ -2,7 +2,7 @@ use Rattle.sf_text.specs.Parsing.Answers.{ahead}
 use Rattle.sf_text.proofs.Found.{term_built, accumulated_ready}
 use Rattle.sf_text.proofs.Placed.{accumulated_read}
 use Rattle.sf_text.proofs.Parsing.Found.{if_built}
-use Rattle.sf_term.proofs.Kept.{keeps_trans}
+use Rattle.sf_term.proofs.Extended.{keeps_trans}
 use Rattle.sf_text.proofs.term.accumulated.Goals as goal
 
 pub returns-clause-reads : goal.returns-clause-reads

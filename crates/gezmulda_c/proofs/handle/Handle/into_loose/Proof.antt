@@ -1,7 +1,7 @@
 -- The pointer of a box owns what the handle owned.
 use Rattle.std.proofs.Common.{◌≡◌, List, [], ◌∷◌, ◌++◌, refl, sym, ap, ◌∙◌, subst, Option, Some, None, IsSome}
 use mir.Val.{Val, vptr, vstruct, vcons, vnil, of_list}
-use mir.Raw.{raw as bare}
+use mir.Raw
 use base.Logic.{SProp, ent, id⊢, fst∗, never}
 use base.Fml.{ftrue}
 use types.Logic.{sem}
@@ -63,7 +63,7 @@ into_loose_spec 𝓤 𝓛 𝓜 𝓡 wired =
     split ! $ drop ! $ fsplit3 ! $ fsplit ! $ fpick ! (λ vss. fsplit ! $ feq_l ! (λ ev. fsplit ! $ feq_l ! (λ ep. drop ! $
     -- [what the handle holds; the allocator; nothing]
     rewrite ! 0 (λ (o : Option Session). ‵ (owns_at v.at o)) is refl $
-    in_a_block ! v.at (λ p. box_owns freeable session.the_row p h) (fst∗ 𝓤 (never 𝓤) (sem 𝓛 (freeable (bare (box.τ E)) null_ptr))) (λ b o at.
+    in_a_block ! v.at (λ p. box_owns freeable session.the_row p h) (fst∗ 𝓤 (never 𝓤) (sem 𝓛 (freeable (Raw.raw (box.τ E)) null_ptr))) (λ b o at.
     move ! (1 ∷ []) $ handle_tells E.al ! a z.0.4.1.0 (λ hv eh fa.
     let w : Val = vstruct (vcons (vptr b o) vnil) in let out = box.word E hv b o in let us : List Val = w ∷ hv ∷ [] in
     let ew : z.0.4.0 ≡ w ∷ [] = ev ∙ (λ j. vstruct (of_list ((ep ∙ ap (λ (p : Ptr). ptr_val p ∷ []) at) j ++ [])) ∷ []) in

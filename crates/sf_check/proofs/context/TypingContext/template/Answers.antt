@@ -1,7 +1,7 @@
 use Rattle.std.proofs.Common.{◌≡◌, ◌∙◌, None, Some, sym, ap, subst, arith, length, map}
 use Rattle.sf_value.specs.Values.{Name}
 use Rattle.sf_expr.specs.Arena.{name_at}
-use Rattle.sf_term.specs.Arena.{template_in, templates_of}
+use Rattle.sf_term.specs.Arena.{term_template, templates_of}
 use Rattle.sf_mean.specs.Contexts.{signature_of, signature_named}
 use Rattle.sf_check.specs.Names.{program_names}
 use Rattle.sf_check.proofs.Templates.{header_at}
@@ -27,4 +27,4 @@ returns-clause-found c =
     let same = ap length c.templates.ensures.templates in
     let h = c.index-templates-place.result in
     let found = signature_is x (templates_of p) (named_is p x c.in_ok-place.place place h (header_at p _ _ _ c.templates.ensures.templates (omega arith) c.index-templates-place.is)) in
-    subst (λ (x : Name). signature_named x (map signature_of (templates_of p)) ≡ Some (signature_of (template_in p h))) name found
+    subst (λ (x : Name). signature_named x (map signature_of (templates_of p)) ≡ Some (signature_of (term_template p h))) name found

@@ -1,7 +1,7 @@
 use Rattle.std.proofs.Common.{refl, sym}
 use Rattle.sf_engine.specs.Saving.{returned_nowhere, has_no_save, returned_no_memory, returns_to}
 use Rattle.sf_engine.proofs.Going.{no_history, some_started, runs_on}
-use Rattle.sf_engine.proofs.Keeping.{finds_some, finds_none}
+use Rattle.sf_engine.proofs.Saving.{finds_some, finds_none}
 use Rattle.sf_engine.proofs.engine.Engine.back.Goals as goal
 
 pub returns-then-not-is_started-clause-running : goal.returns-then-not-is_started-clause-running

@@ -1,5 +1,5 @@
 use Rattle.std.proofs.Common.{refl, sym, subst, IsTrue}
-use Rattle.sf_engine.proofs.Keeping.{has_place_there, has_place_behind}
+use Rattle.sf_engine.proofs.Saving.{has_place_there, has_place_behind}
 use Rattle.sf_engine.proofs.engine.Engine.has_place.Goals as goal
 
 pub returns-then-contains_key : goal.returns-then-contains_key

@@ -1,6 +1,6 @@
 use Rattle.sf_engine.specs.Saving.{saved_nothing, has_no_place, saved_no_memory, saves}
 use Rattle.sf_engine.proofs.Going.{no_history, some_started}
-use Rattle.sf_engine.proofs.Keeping.{no_place}
+use Rattle.sf_engine.proofs.Saving.{no_place}
 use Rattle.sf_engine.proofs.engine.Engine.save.Goals as goal
 
 pub returns-then-not-is_started-clause-running : goal.returns-then-not-is_started-clause-running

@@ -1,6 +1,6 @@
 use Rattle.std.proofs.Common.{refl, arith}
 use Rattle.sf_arena.proofs.Grown.{more_put}
-use Rattle.sf_expr.specs.Arena.{count_of}
+use Rattle.sf_expr.specs.Arena.{arena_count}
 use Rattle.sf_expr.proofs.Entered.{adds_added, unchanged, arena_put, functions_grown, many_still, deep_still}
 use Rattle.sf_expr.proofs.exprs.Exprs.add.Goals as goal
 
@@ -20,19 +20,19 @@ pub returns-in-Ok-clause-ok : goal.returns-in-Ok-clause-ok
 returns-in-Ok-clause-ok c = adds_added c.args.self.now _ _ _ _ _ c.in-Ok.ensures.ok refl refl refl refl
 
 pub returns-in-Ok-clause-many : goal.returns-in-Ok-clause-many
-unfolding count_of
+unfolding arena_count
 returns-in-Ok-clause-many c = (λ e. cc, λ h. let q = c.in-Ok.ensures.many.1 h in cc)
 
 pub returns-in-Ok-clause-deep : goal.returns-in-Ok-clause-deep
-unfolding count_of
+unfolding arena_count
 returns-in-Ok-clause-deep c = (λ e. cc, λ h. let q = c.in-Ok.ensures.deep.1 (h.0, omega (arith, h.1, c.depth_with-depth.ensures.value)) in cc)
 
 pub returns-in-Err-clause-many : goal.returns-in-Err-clause-many
-unfolding count_of
+unfolding arena_count
 returns-in-Err-clause-many c = many_still _ _ c.in-Err.ensures.many
 
 pub returns-in-Err-clause-deep : goal.returns-in-Err-clause-deep
-unfolding count_of
+unfolding arena_count
 returns-in-Err-clause-deep c =
     let deep = deep_still _ _ c.in-Err.ensures.deep in
     (λ e. let h = deep.0 e in (h.0, omega (arith, h.1, c.depth_with-depth.ensures.value)), λ h. deep.1 (h.0, omega (arith, h.1, c.depth_with-depth.ensures.value)))

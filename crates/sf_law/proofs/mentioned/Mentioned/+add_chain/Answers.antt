@@ -8,7 +8,7 @@ use Rattle.sf_law.specs.Mentioned.{is_mentioned}
 use Rattle.std.proofs.lemmas.Result.{on_ok_weaker}
 use Rattle.sf_expr.specs.Arena.{function_at}
 use Rattle.sf_code.specs.declared.open.OpenCode.{OpenCode}
-use Rattle.sf_code.specs.Compiling.{place_in}
+use Rattle.sf_code.specs.Compiling.{place_of_name}
 use Rattle.sf_code.specs.Around.{patterns_around}
 use Rattle.sf_law.proofs.Naming.{function_mentions, ok_both}
 use Rattle.sf_law.proofs.mentioned.Mentioned.+add_chain.Goals as goal
@@ -20,7 +20,7 @@ returns-in-Lone-clause-added t c = λ coded.
     let around = patterns_around x c.in-Lone.code.value.around in
     rw c.in-Lone.is
     (on_ok_weaker c.add_code.result
-    (λ added y m. added y (subst (λ (o : OpenCode). is_some (place_in y (patterns_around x o.around)) ≡ true) (sym c.deref.ensures) (function_mentions around (function_at x c.in-Lone.field-0) y k.closed m)))
+    (λ added y m. added y (subst (λ (o : OpenCode). is_some (place_of_name y (patterns_around x o.around)) ≡ true) (sym c.deref.ensures) (function_mentions around (function_at x c.in-Lone.field-0) y k.closed m)))
     c.add_code.ensures.added)
 
 pub returns-in-OnSide-clause-added : goal.returns-in-OnSide-clause-added

@@ -4,10 +4,10 @@ use Rattle.std.proofs.lemmas.Result.{on_ok_weaker}
 use Rattle.sf_value.specs.Values.{Name}
 use Rattle.sf_expr.specs.declared.exprs.Exprs.{Exprs}
 use Rattle.sf_expr.specs.Patterns.{PlacedPattern, pattern_of}
-use Rattle.sf_expr.specs.Arena.{name_at, placed_at}
+use Rattle.sf_expr.specs.Arena.{name_at, stored_pattern}
 use Rattle.sf_coincidence.specs.Mentions.{BindsOthers}
 use Rattle.sf_law.proofs.Naming.{ok_both}
-use Rattle.sf_law.proofs.Covering.{covers_primitive, covers_headed, covers_transformed, covers_keeping, covers_gathered, covers_pipeline}
+use Rattle.sf_law.proofs.Covering.{covers_primitive, covers_headed, covers_transformed, covers_continuing, covers_gathered, covers_pipeline}
 use Rattle.sf_law.proofs.mentioned.Mentioned.add_node.Goals as goal
 
 pub returns-in-Primitive : goal.returns-in-Primitive
@@ -25,16 +25,16 @@ returns-in_ok-add_code-in-Transformed c = λ t B.
     (λ kept added. covers_transformed c.args.plan.now c.add_part-in-Transformed.new.self (rw c.in-Transformed.is at B) (λ x h. kept x (c.in_ok-add_code-in-Transformed.ensures.added x h)) (λ x h. added x (c.requires c.in-Transformed.part x h)))
     c.add_part-in-Transformed.ensures.kept c.add_part-in-Transformed.ensures.added
 
-pub returns-in_ok-add_part-in-Keeping-2 : goal.returns-in_ok-add_part-in-Keeping-2
-returns-in_ok-add_part-in-Keeping-2 c = λ t B.
+pub returns-in_ok-add_part-in-Continuation-2 : goal.returns-in_ok-add_part-in-Continuation-2
+returns-in_ok-add_part-in-Continuation-2 c = λ t B.
     let p = c.args.plan.now in
-    let k = c.in-Keeping.form in
-    let first = c.in_ok-add_part-in-Keeping.ensures in
-    let second = c.in_ok-add_part-in-Keeping-2.ensures in
-    ok_both c.add_body-in-Keeping.result
-    (λ kept added. covers_keeping p c.add_body-in-Keeping.new.self (rw c.in-Keeping.is at B) (λ x h. kept x (second.kept x (first.added x (c.requires k.source x h)))) (λ x h. kept x (second.added x (c.requires k.observer x h)))
+    let k = c.in-Continuation.form in
+    let first = c.in_ok-add_part-in-Continuation.ensures in
+    let second = c.in_ok-add_part-in-Continuation-2.ensures in
+    ok_both c.add_body-in-Continuation.result
+    (λ kept added. covers_continuing p c.add_body-in-Continuation.new.self (rw c.in-Continuation.is at B) (λ x h. kept x (second.kept x (first.added x (c.requires k.source x h)))) (λ x h. kept x (second.added x (c.requires k.observer x h)))
     (λ x h free. added x (c.requires k.body x h) free))
-    c.add_body-in-Keeping.ensures.kept c.add_body-in-Keeping.ensures.added
+    c.add_body-in-Continuation.ensures.kept c.add_body-in-Continuation.ensures.added
 
 pub returns-in-Gathered : goal.returns-in-Gathered
 returns-in-Gathered c = λ t B. let d = c.deref-in-Gathered.ensures in covers_gathered c.args.plan.now c.add_collection.result c.add_collection.new.self (rw c.in-Gathered.is at B) (rw d at c.add_collection.ensures.added)

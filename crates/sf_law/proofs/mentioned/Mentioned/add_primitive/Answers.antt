@@ -5,7 +5,7 @@ use Rattle.sf_value.specs.Values.{Name}
 use Rattle.sf_expr.specs.Expressions.{Expression}
 use Rattle.sf_expr.specs.Arena.{expression, function_at}
 use Rattle.sf_code.specs.declared.open.OpenCode.{OpenCode}
-use Rattle.sf_code.specs.Compiling.{place_in}
+use Rattle.sf_code.specs.Compiling.{place_of_name}
 use Rattle.sf_code.specs.Around.{patterns_around}
 use Rattle.sf_code.specs.Worth.{IsCodeOf}
 use Rattle.sf_coincidence.specs.Mentions.{ExpressionMentions}
@@ -21,7 +21,7 @@ returns-in-Arrow c = λ coded.
     let around = patterns_around x c.in-Arrow.code.value.around in
     rw c.in-Arrow.is
     (on_ok_weaker c.add_code.result
-    (λ added y m. added y (subst (λ (o : OpenCode). is_some (place_in y (patterns_around x o.around)) ≡ true) (sym c.deref.ensures) (function_mentions around (function_at x c.in-Arrow.field-0) y k.closed m)))
+    (λ added y m. added y (subst (λ (o : OpenCode). is_some (place_of_name y (patterns_around x o.around)) ≡ true) (sym c.deref.ensures) (function_mentions around (function_at x c.in-Arrow.field-0) y k.closed m)))
     c.add_code.ensures.added)
 
 pub returns-in-Fused : goal.returns-in-Fused
@@ -35,7 +35,7 @@ returns-in_ok-add_code-in-Accumulated c = λ coded.
     rw c.in-Accumulated.is
     (ok_both c.add_code-in-Accumulated-2.result
     (λ kept added y m. ⊎_elim (λ h. kept y (c.in_ok-add_code-in-Accumulated.ensures.added y (closed_mentions (patterns_around x c.in-Accumulated.start.around) (expression x c.in-Accumulated.field-1) y k.0.closed h)))
-    (λ h. added y (subst (λ (o : OpenCode). is_some (place_in y (patterns_around x o.around)) ≡ true) (sym c.deref-in-Accumulated.ensures) (function_mentions around (function_at x c.in-Accumulated.field-3) y k.1.closed h))) m)
+    (λ h. added y (subst (λ (o : OpenCode). is_some (place_of_name y (patterns_around x o.around)) ≡ true) (sym c.deref-in-Accumulated.ensures) (function_mentions around (function_at x c.in-Accumulated.field-3) y k.1.closed h))) m)
     c.add_code-in-Accumulated-2.ensures.kept c.add_code-in-Accumulated-2.ensures.added)
 
 pub returns-in-WithValue : goal.returns-in-WithValue

@@ -3,7 +3,7 @@ use Rattle.sf_law.specs.Entries.{node_among}
 use Rattle.sf_law.proofs.Placed.{arena_put}
 use Rattle.sf_law.proofs.Enough.{any_asked}
 use Rattle.sf_law.proofs.Covering.{few_put, covered_put}
-use Rattle.sf_law.proofs.Kept.{added_keeps, same_keeps, adds_added}
+use Rattle.sf_law.proofs.Extended.{added_keeps, same_keeps, adds_added}
 use Rattle.sf_law.proofs.plan.Plan.add.Goals as goal
 
 pub invariant_of-self-2 : goal.invariant_of-self-2

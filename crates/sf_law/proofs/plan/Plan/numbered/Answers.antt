@@ -1,5 +1,5 @@
 use Rattle.std.proofs.Common.{sym, subst}
-use Rattle.sf_expr.specs.Arena.{name_at, placed_at}
+use Rattle.sf_expr.specs.Arena.{name_at, stored_pattern}
 use Rattle.sf_expr.specs.Patterns.{pattern_of}
 use Rattle.sf_expr.specs.Numbered.{number_at, TellsName}
 use Rattle.sf_law.specs.Arena.{plan_expressions, plan_numbers}
@@ -9,4 +9,4 @@ pub returns : goal.returns
 returns c = λ k.
     let p = c.args.self.now in
     let e = plan_expressions p in
-    subst (λ s. TellsName (number_at (plan_numbers p) k) (name_at e k) s (pattern_of (placed_at e c.args.pattern))) (sym c.pattern.ensures) (p.told.patterns k c.args.pattern)
+    subst (λ s. TellsName (number_at (plan_numbers p) k) (name_at e k) s (pattern_of (stored_pattern e c.args.pattern))) (sym c.pattern.ensures) (p.told.patterns k c.args.pattern)

@@ -1,5 +1,5 @@
 use Rattle.std.proofs.Common.{arith}
-use Rattle.sf_law.proofs.Kept.{tree_past}
+use Rattle.sf_law.proofs.Extended.{tree_past}
 use Rattle.sf_law.proofs.plan.Plan.passing.Goals as goal
 
 pub returns : goal.returns

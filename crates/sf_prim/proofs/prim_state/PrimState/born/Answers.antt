@@ -1,6 +1,6 @@
 use Rattle.std.proofs.Common.{w64}
 use Rattle.std.proofs.lemmas.Int.{to_z-of_z}
-use Rattle.sf_prim.specs.Keeping.{begins, keeps_no_event}
+use Rattle.sf_prim.specs.Remembering.{begins, remembers_no_event}
 use Rattle.sf_law.specs.Entries.{chain_over}
 use Rattle.sf_prim.proofs.Linked.{fused_begins}
 use Rattle.sf_prim.proofs.Primitives.{begins_exit, timed_exit, timed_as, selected_keeps, memory_exit, accumulated_made, accumulated_fails}
@@ -10,7 +10,7 @@ pub returns-in-Bare : goal.returns-in-Bare
 returns-in-Bare g c = λ h. rw c.in-Bare.is (begins (c.bare.ensures _))
 
 pub returns-in-Never : goal.returns-in-Never
-returns-in-Never g c = λ h. rw c.in-Never.is (begins keeps_no_event)
+returns-in-Never g c = λ h. rw c.in-Never.is (begins remembers_no_event)
 
 pub returns-in_err-value-in-WithValue : goal.returns-in_err-value-in-WithValue
 returns-in_err-value-in-WithValue g c = λ h. rw c.in-WithValue.is (begins_exit _ _ _ _ _ c.from_residual.ensures.1 (c.in_err-value-in-WithValue.ensures _ (rw c.in-WithValue.is at h)))

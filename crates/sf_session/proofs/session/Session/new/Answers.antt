@@ -1,7 +1,7 @@
 use Rattle.std.proofs.Common.{[], refl}
 use Rattle.sf_refusal.specs.Refusals.{no_memory}
 use Rattle.sf_term.specs.Arena.{templates_of}
-use Rattle.sf_check.specs.Accepting.{program_of, checked_main}
+use Rattle.sf_check.specs.Accepting.{accepted_program, checked_main}
 use Rattle.sf_accept.specs.Refusals.{IsAcceptedText}
 use Rattle.sf_player.proofs.Refusing.{main_found}
 use Rattle.sf_session.specs.Alone.{alone}
@@ -14,7 +14,7 @@ returns-in_default-clause-refused c = no_memory
 pub returns-in-Ok-new-clause-started : goal.returns-in-Ok-new-clause-started
 returns-in-Ok-new-clause-started c =
     let checked = c.in_ok-checked.checked in
-    let templates = templates_of (program_of checked) in
+    let templates = templates_of (accepted_program checked) in
     let accepted : IsAcceptedText [] c.args.net.now templates = rw c.new-functions.ensures.types at c.in_ok-checked.ensures.accepted in
     record {
       templates = templates;

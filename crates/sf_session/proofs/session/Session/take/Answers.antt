@@ -1,5 +1,5 @@
 use Rattle.std.proofs.Common.{◌≡◌, ◌+◌, ◌-◌, ◌++◌, drop, min, length, refl, ap, ◌∙◌}
-use Rattle.sf_player.specs.Playing.{gathered, line_in}
+use Rattle.sf_player.specs.Playing.{gathered, line_of_stop}
 use Rattle.sf_session.proofs.Fed.{takes_fed, left_behind}
 use Rattle.sf_session.proofs.session.Session.take.Goals as goal
 
@@ -12,6 +12,6 @@ returns-clause-fed c =
     λ probes n m fed given F. takes_fed F (record {
       most = c.copy_out-taken.ensures.count;
       written = c.copy_out-taken.ensures.front;
-      left = ap (λ x. x ++ drop (old.told + (taken - k)) (line_in old.stop)) c.forget.ensures.left ∙ left_behind k taken old.told (gathered old.player) (line_in old.stop) least;
+      left = ap (λ x. x ++ drop (old.told + (taken - k)) (line_of_stop old.stop)) c.forget.ensures.left ∙ left_behind k taken old.told (gathered old.player) (line_of_stop old.stop) least;
       stop = refl;
     }) least c.forget.ensures

@@ -4,7 +4,7 @@ use Rattle.std.proofs.lemmas.Result.{IfOk-weaker}
 use Rattle.sf_value.specs.Values.{Name}
 use Rattle.sf_expr.specs.Expressions.{Pattern}
 use Rattle.sf_expr.specs.Patterns.{pattern_of}
-use Rattle.sf_expr.specs.Arena.{name_at, placed_at}
+use Rattle.sf_expr.specs.Arena.{name_at, stored_pattern}
 use Rattle.sf_coincidence.specs.Mentions.{BindsOthers}
 use Rattle.sf_law.specs.Arena.{plan_expressions}
 use Rattle.sf_state.specs.declared.env.Binding.{Binding}
@@ -23,7 +23,7 @@ returns-in_ok-around-in-Bound t c =
     let p = c.args.plan.now in
     let m = c.args.mentioned.now in
     let b = c.in-Bound.binding.value in
-    let pattern = ap (λ (a : Binding). pattern_of (placed_at (plan_expressions p) a.pattern)) c.deref.ensures in
+    let pattern = ap (λ (a : Binding). pattern_of (stored_pattern (plan_expressions p) a.pattern)) c.deref.ensures in
     IfOk-weaker c.over.result _ _
     (λ r over φ e N. inside_pattern φ p b (λ d. IfSome r (λ names. HasMentioned φ p m names d))
     (λ d M. over φ p m c.in_ok-left-in-Bound.left d (λ x w free. c.in_ok-left-in-Bound.ensures x w (subst (λ (q : Pattern). BindsOthers q x) (sym pattern) free))
@@ -35,8 +35,8 @@ returns-in_ok-around-in-Bound-2 t c =
     let p = c.args.plan.now in
     let m = c.args.mentioned.now in
     let b = c.in-Bound.binding.value in
-    let q = pattern_of (placed_at (plan_expressions p) b.pattern) in
-    let pattern = ap (λ (a : Binding). pattern_of (placed_at (plan_expressions p) a.pattern)) c.deref.ensures in
+    let q = pattern_of (stored_pattern (plan_expressions p) b.pattern) in
+    let pattern = ap (λ (a : Binding). pattern_of (stored_pattern (plan_expressions p) a.pattern)) c.deref.ensures in
     IfOk-weaker c.or_shared.result _ _
     (λ r shared φ e N. inside_pattern φ p b (λ d. IfSome r (λ names. HasMentioned φ p m names d))
     (λ d M. pattern_fell φ p m d q b.value.value r (λ x w. subst (λ (q : Pattern). BindsOthers q x) pattern (c.is_bound_by.ensures c.if-is_bound_by.false x w))

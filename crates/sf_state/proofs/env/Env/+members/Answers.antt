@@ -9,7 +9,7 @@ use Rattle.sf_state.specs.declared.env.Call.{Call}
 use Rattle.sf_state.specs.declared.env.Running.{Running}
 use Rattle.sf_state.specs.declared.env.Collected.{Collected}
 use Rattle.sf_state.specs.Names.{given_members, given_at}
-use Rattle.sf_state.specs.Held.{held_in}
+use Rattle.sf_state.specs.Held.{gathered_holding}
 use Rattle.sf_state.specs.Standing.{IsNames, AreFound}
 use Rattle.sf_state.proofs.Scopes.{members_value, members_outside, members_there, members_further, members_process, members_behind, names_called, members_called}
 use Rattle.sf_state.proofs.env.Env.+members.Goals as goal
@@ -53,9 +53,9 @@ returns-then-same_name-2 t c = λ φ e N.
     let p = c.args.plan.now in
     let x = name_at (plan_expressions p) c.args.name in
     let b = c.in-Collected.collected.value in
-    let found : AreFound φ p (Some (held_in b.members)) (members_of x e) =
+    let found : AreFound φ p (Some (gathered_holding b.members)) (members_of x e) =
     members_there φ p x c.in-Collected.collected e (ap (λ (a : Collected). bytes_eq x (name_at (plan_expressions p) a.name)) (sym c.deref-in-Collected.ensures) ∙ sym c.same_name-in-Collected.ensures ∙ c.if-same_name-2.true) (rw c.in-Collected.is at N) in
-    subst (λ (r : Collected). AreFound φ p (Some (held_in r.members)) (members_of x e)) (sym c.deref-then-same_name-2.ensures) found
+    subst (λ (r : Collected). AreFound φ p (Some (gathered_holding r.members)) (members_of x e)) (sym c.deref-then-same_name-2.ensures) found
 
 pub returns-else-same_name-2 : goal.returns-else-same_name-2
 returns-else-same_name-2 t c = λ φ e N.

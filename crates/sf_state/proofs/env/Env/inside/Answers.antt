@@ -1,5 +1,5 @@
 use Rattle.std.proofs.Common.{ap, sym, ◌∙◌, subst}
-use Rattle.sf_expr.specs.Arena.{placed_at}
+use Rattle.sf_expr.specs.Arena.{stored_pattern}
 use Rattle.sf_expr.specs.Expressions.{Pattern}
 use Rattle.sf_expr.specs.Patterns.{pattern_of}
 use Rattle.sf_mean.specs.Lives.{bind}
@@ -14,5 +14,5 @@ returns c = λ φ p same e N. names_bound_inside φ p _ c.in_ok-binding.binding.
 pub returns-then-binds_nothing : goal.returns-then-binds_nothing
 returns-then-binds_nothing c = λ φ p same e N.
     let i = c.args.pattern in
-    let own = sym (ap (λ x. pattern_of (placed_at x i)) same) ∙ ap pattern_of (sym c.placed.ensures) ∙ c.binds_nothing.ensures c.if-binds_nothing.true in
+    let own = sym (ap (λ x. pattern_of (stored_pattern x i)) same) ∙ ap pattern_of (sym c.placed.ensures) ∙ c.binds_nothing.ensures c.if-binds_nothing.true in
     subst (λ (q : Pattern). IsNames φ p c.in_ok-around.around (bind q c.args.value.value e)) (sym own) (c.in_ok-around.ensures φ p e N)

@@ -16,10 +16,10 @@ returns-in-Switch-clause-stands c = λ φ p P L A.
     let names = c.args.self.now.names in
     rw c.in-Switch.is at (kept_around φ p names c.in_ok-around.around c.in_ok-node.field-0 (c.in_ok-around.ensures φ p) P L (c.in_ok-node.ensures φ p names P L A))
 
-pub returns-in-Keeping-clause-stands : goal.returns-in-Keeping-clause-stands
-returns-in-Keeping-clause-stands c = λ φ p P L A.
+pub returns-in-Continuation-clause-stands : goal.returns-in-Continuation-clause-stands
+returns-in-Continuation-clause-stands c = λ φ p P L A.
     let names = c.args.self.now.names in
-    rw c.in-Keeping.is at (kept_around φ p names c.in_ok-around.around c.in_ok-node.field-0 (c.in_ok-around.ensures φ p) P L (c.in_ok-node.ensures φ p names P L A))
+    rw c.in-Continuation.is at (kept_around φ p names c.in_ok-around.around c.in_ok-node.field-0 (c.in_ok-around.ensures φ p) P L (c.in_ok-node.ensures φ p names P L A))
 
 pub returns-in-Gathering-clause-stands : goal.returns-in-Gathering-clause-stands
 returns-in-Gathering-clause-stands c = λ φ p P L A.

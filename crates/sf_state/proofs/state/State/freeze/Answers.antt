@@ -1,5 +1,5 @@
 use Rattle.std.proofs.Common.{sym, subst, ⊎_elim}
-use Rattle.sf_state.proofs.Copies.{IsFresh, same_follows, primitive_follows, alive_follows, same_waits, watching_follows, same_keeps, keeping_follows, same_gathers, gathering_follows, primitive_lived, alive_lived, watching_lived, keeping_lived, gathering_lived, unborn_fresh, frozen_fresh, lived_frozen, fresh_frozen}
+use Rattle.sf_state.proofs.Copies.{IsFresh, same_follows, primitive_follows, alive_follows, same_waits, watching_follows, same_keeps, continuing_follows, same_gathers, gathering_follows, primitive_lived, alive_lived, watching_lived, continuing_lived, gathering_lived, unborn_fresh, frozen_fresh, lived_frozen, fresh_frozen}
 use Rattle.sf_state.proofs.state.State.freeze.Goals as goal
 
 pub returns-in_ok-copy-in-Primitive : goal.returns-in_ok-copy-in-Primitive
@@ -24,13 +24,13 @@ returns-in_ok-switch-in-Switch c =
     rw c.in-Switch.is (lived_frozen _ _ c.args.wait c.freeze_node-in-Switch.result (λ φ p. watching_lived φ p names old)
     (λ φ p. watching_follows φ p names names old new (λ e N. N) (same_waits φ p old new c.in_ok-switch-in-Switch.ensures.cases)) c.freeze_node-in-Switch.ensures)
 
-pub returns-in_ok-keeping-in-Keeping : goal.returns-in_ok-keeping-in-Keeping
-returns-in_ok-keeping-in-Keeping c =
-    let names = c.in-Keeping.names in
-    let old = c.in-Keeping.node.value in
-    let new = c.in_ok-keeping-in-Keeping.keeping.value in
-    rw c.in-Keeping.is (lived_frozen _ _ c.args.wait c.freeze_node-in-Keeping.result (λ φ p. keeping_lived φ p names old)
-    (λ φ p. keeping_follows φ p names names old new (λ e N. N) (same_keeps φ p old new c.in_ok-keeping-in-Keeping.ensures.cases)) c.freeze_node-in-Keeping.ensures)
+pub returns-in_ok-continuing-in-Continuation : goal.returns-in_ok-continuing-in-Continuation
+returns-in_ok-continuing-in-Continuation c =
+    let names = c.in-Continuation.names in
+    let old = c.in-Continuation.node.value in
+    let new = c.in_ok-continuing-in-Continuation.continuing.value in
+    rw c.in-Continuation.is (lived_frozen _ _ c.args.wait c.freeze_node-in-Continuation.result (λ φ p. continuing_lived φ p names old)
+    (λ φ p. continuing_follows φ p names names old new (λ e N. N) (same_keeps φ p old new c.in_ok-continuing-in-Continuation.ensures.cases)) c.freeze_node-in-Continuation.ensures)
 
 pub returns-in-Unborn : goal.returns-in-Unborn
 returns-in-Unborn c =

@@ -1,4 +1,4 @@
-use Rattle.sf_state.proofs.Copies.{same_follows, unborn_follows, alive_follows, same_waits, watching_follows, same_keeps, keeping_follows, same_gathers, gathering_follows, frozen_follows}
+use Rattle.sf_state.proofs.Copies.{same_follows, unborn_follows, alive_follows, same_waits, watching_follows, same_keeps, continuing_follows, same_gathers, gathering_follows, frozen_follows}
 use Rattle.sf_state.proofs.state.State.share_node.Goals as goal
 
 pub returns-in_ok-same-in-Unborn : goal.returns-in_ok-same-in-Unborn
@@ -15,10 +15,10 @@ returns-in_ok-watching-in-Switch c = λ φ p P L A.
     watching_follows φ p c.in-Switch.names c.in_ok-kept-in-Switch.kept c.in-Switch.node.value c.in_ok-watching-in-Switch.watching.value
     (c.in_ok-kept-in-Switch.ensures φ p) (same_waits φ p _ _ c.in_ok-watching-in-Switch.ensures.cases) P L (rw c.in-Switch.is at A)
 
-pub returns-in_ok-keeping-in-Keeping : goal.returns-in_ok-keeping-in-Keeping
-returns-in_ok-keeping-in-Keeping c = λ φ p P L A.
-    keeping_follows φ p c.in-Keeping.names c.in_ok-outer-in-Keeping.outer c.in-Keeping.node.value c.in_ok-keeping-in-Keeping.keeping.value
-    (c.in_ok-outer-in-Keeping.ensures φ p) (same_keeps φ p _ _ c.in_ok-keeping-in-Keeping.ensures.cases) P L (rw c.in-Keeping.is at A)
+pub returns-in_ok-continuing-in-Continuation : goal.returns-in_ok-continuing-in-Continuation
+returns-in_ok-continuing-in-Continuation c = λ φ p P L A.
+    continuing_follows φ p c.in-Continuation.names c.in_ok-outer-in-Continuation.outer c.in-Continuation.node.value c.in_ok-continuing-in-Continuation.continuing.value
+    (c.in_ok-outer-in-Continuation.ensures φ p) (same_keeps φ p _ _ c.in_ok-continuing-in-Continuation.ensures.cases) P L (rw c.in-Continuation.is at A)
 
 pub returns-in_ok-rest-in-Frozen : goal.returns-in_ok-rest-in-Frozen
 returns-in_ok-rest-in-Frozen c = λ φ p P L A.

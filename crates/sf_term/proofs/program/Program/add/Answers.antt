@@ -6,10 +6,10 @@ use Rattle.sf_arena.specs.declared.entry.Entry.{Entry}
 use Rattle.sf_term.specs.declared.node.Node.{Node}
 use Rattle.sf_term.specs.Entries.{identity_entry}
 use Rattle.sf_term.specs.Trees.{term_depth}
-use Rattle.sf_term.specs.Arena.{base_of, headers_of, term_count}
+use Rattle.sf_term.specs.Arena.{term_base, headers_of, term_count}
 use Rattle.sf_term.proofs.Entered.{arena_put, same_lists}
 use Rattle.sf_term.proofs.Refused.{arena_took, arena_refused}
-use Rattle.sf_term.proofs.Kept.{node-made, parts_needed, adds_added, unchanged, same_expressions}
+use Rattle.sf_term.proofs.Extended.{node-made, parts_needed, adds_added, unchanged, same_expressions}
 use Rattle.sf_term.proofs.program.Program.add.Goals as goal
 
 pub invariant_of-self : goal.invariant_of-self
@@ -19,7 +19,7 @@ invariant_of-self c =
     let shallow : (n : ℕ) → Added (entries_of p.terms) (entries_of c.add.new.self) (record { node = c.args.node; depth = c.depth_with-depth.result; spot = c.args.spot }) n → c.depth_with-depth.result ≤ 64 =
     λ n added. omega (arith, shallow_at (entries_of c.add.new.self) identity_entry n (shallow_entries c.add.new.self) (omega arith), ap (λ (e : Entry Node). e.depth) (added_item _ _ _ _ added identity_entry)) in
     record {
-      arena = arena_put (base_of p) (entries_of p.terms) (entries_of c.add.new.self) (record { node = c.args.node; depth = c.depth_with-depth.result; spot = c.args.spot }) c.add.result c.add.ensures.ok c.add.ensures.err shallow p.arena needed (c.depth_with-depth.ensures ∙ ap (λ t. min (term_depth t) (2 ^ 32 - 1)) (node-made p c.args.node));
+      arena = arena_put (term_base p) (entries_of p.terms) (entries_of c.add.new.self) (record { node = c.args.node; depth = c.depth_with-depth.result; spot = c.args.spot }) c.add.result c.add.ensures.ok c.add.ensures.err shallow p.arena needed (c.depth_with-depth.ensures ∙ ap (λ t. min (term_depth t) (2 ^ 32 - 1)) (node-made p c.args.node));
       bodies = omega (arith, p.bodies, more_put _ _ _ c.add.result c.add.ensures.ok c.add.ensures.err);
     }
 

@@ -5,9 +5,9 @@ use Rattle.sf_term.specs.declared.collection.CollExpr.{CollExpr}
 use Rattle.sf_term.specs.Trees.{collection_depth}
 use Rattle.sf_term.specs.declared.refusal.BuildRefusal.TheVariants.{Memory}
 use Rattle.sf_term.specs.Entries.{TermBase, absent_collection, collections_in}
-use Rattle.sf_term.specs.Arena.{base_of, lists_of, headers_of, HoldsCollection, collection_of, collection_under, next_collection}
+use Rattle.sf_term.specs.Arena.{term_base, lists_of, headers_of, HoldsCollection, collection_of, collection_node, next_collection}
 use Rattle.sf_term.proofs.Entered.{arena_grown, unchanged_grown, MoreLists, same_items, items_put, items_pushed, lists_copied, pushed_at, stored_put, collections_put, collections_counted}
-use Rattle.sf_term.proofs.Kept.{unchanged, same_expressions, same_self, members_end, unchanged_keeps, collection_kept}
+use Rattle.sf_term.proofs.Extended.{unchanged, same_expressions, same_self, members_end, unchanged_keeps, collection_kept}
 use Rattle.sf_term.proofs.Refused.{builds_none, builds_starved, still_room}
 use Rattle.sf_term.proofs.program.Program.add_collection.Goals as goal
 
@@ -20,7 +20,7 @@ invariant_of-self c =
     let grown = unchanged_grown p.expressions p.expressions (same_expressions p.expressions) in
     let more : MoreLists (lists_of p) b.lists = record { arguments = same_items _ _ _ refl; collections = items_put _ _ _ c.args.collection.value _ put } in
     record {
-      arena = arena_grown (base_of p) b (entries_of p.terms) grown more (stored_put (base_of p) _ (entries_of p.terms) c.args.collection.value _ put (needed.1, needed.2, needed.3) p.arena) p.arena;
+      arena = arena_grown (term_base p) b (entries_of p.terms) grown more (stored_put (term_base p) _ (entries_of p.terms) c.args.collection.value _ put (needed.1, needed.2, needed.3) p.arena) p.arena;
       bodies = p.bodies;
     }
 
@@ -35,7 +35,7 @@ returns-in_err-push c =
     (unchanged p _ (same_expressions p.expressions) (lists_copied _ _ refl (ap collections_in c.in_err-push.ensures.items)) refl refl)
 
 pub returns : goal.returns
-unfolding headers_of HoldsCollection collection_under next_collection
+unfolding headers_of HoldsCollection collection_node next_collection
 returns c =
     let p = c.args.self.now in
     let put = collections_put p.collections.items _ c.args.collection true c.in_ok-push.ensures.items in

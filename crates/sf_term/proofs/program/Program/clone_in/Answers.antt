@@ -4,9 +4,9 @@ use Rattle.sf_arena.specs.Arenas.{entries_of}
 use Rattle.sf_term.specs.declared.node.Node.{Node}
 use Rattle.sf_term.specs.Headers.{bodies_end}
 use Rattle.sf_term.specs.Entries.{TermBase, AreTerms, collections_in}
-use Rattle.sf_term.specs.Arena.{base_of, lists_of, headers_of}
+use Rattle.sf_term.specs.Arena.{term_base, lists_of, headers_of}
 use Rattle.sf_term.proofs.Entered.{arena_grown, still_stored, unchanged_grown, lists_copied}
-use Rattle.sf_term.proofs.Kept.{unchanged}
+use Rattle.sf_term.proofs.Extended.{unchanged}
 use Rattle.sf_term.proofs.program.Program.clone_in.Goals as goal
 
 pub invariant_of-result : goal.invariant_of-result
@@ -19,7 +19,7 @@ invariant_of-result c =
     let lists = lists_copied (lists_of p) b.lists (c.in_ok-arguments.ensures ∙ c.deref-2.ensures.value) collections in
     let grown = unchanged_grown p.expressions x c.in_ok-expressions.ensures in
     record {
-      arena = subst (λ (es : List (Entry Node)). AreTerms b es) (sym c.in_ok-terms.ensures) (arena_grown (base_of p) b (entries_of p.terms) grown lists (still_stored (base_of p) b (entries_of p.terms) grown collections p.arena) p.arena);
+      arena = subst (λ (es : List (Entry Node)). AreTerms b es) (sym c.in_ok-terms.ensures) (arena_grown (term_base p) b (entries_of p.terms) grown lists (still_stored (term_base p) b (entries_of p.terms) grown collections p.arena) p.arena);
       bodies = omega (arith, ap bodies_end templates, ap (λ (es : List (Entry Node)). length es) c.in_ok-terms.ensures, p.bodies);
     }
 

@@ -1,13 +1,13 @@
 use Rattle.std.proofs.Common.{refl, arith}
 use Rattle.sf_arena.specs.Arenas.{entries_of}
-use Rattle.sf_term.specs.Arena.{lists_of, headers_of, expression_under, HoldsExpression}
+use Rattle.sf_term.specs.Arena.{lists_of, headers_of, program_expression, HoldsExpression}
 use Rattle.sf_term.proofs.Entered.{arena_with, function_grown_by, same_lists}
-use Rattle.sf_term.proofs.Kept.{adds_function, unchanged, same_self}
+use Rattle.sf_term.proofs.Extended.{adds_function, unchanged, same_self}
 use Rattle.sf_term.proofs.Refused.{builds_none, still_room}
 use Rattle.sf_term.proofs.program.Program.function.Goals as goal
 
 pub returns-in_err-room : goal.returns-in_err-room
-unfolding expression_under
+unfolding program_expression
 returns-in_err-room c = builds_none _ _ _ _ _ _ c.from_residual.result _ c.from_residual.ensures.1 c.in_err-room.ensures refl (omega (arith, c.max-depth.ensures, c.depth.ensures, c.depth-2.ensures.value)) c.has_names.ensures (same_self c.args.self.now)
 
 pub function-requires : goal.function-requires
@@ -24,7 +24,7 @@ invariant_of-self c =
     }
 
 pub returns-in-Ok : goal.returns-in-Ok
-unfolding headers_of expression_under
+unfolding headers_of program_expression
 returns-in-Ok c = record {
   ok = adds_function c.args.self.now _ _ _ _ c.in-Ok.ensures.ok (same_lists _) refl refl;
   refused = still_room _ _ _ _ _ _ c.in_ok-room.ensures refl (omega (arith, c.max-depth.ensures, c.depth.ensures, c.depth-2.ensures.value)) c.has_names.ensures tt;
@@ -32,7 +32,7 @@ returns-in-Ok c = record {
 }
 
 pub returns-in-Err : goal.returns-in-Err
-unfolding headers_of expression_under
+unfolding headers_of program_expression
 returns-in-Err c = record {
   ok = tt;
   refused = still_room _ _ _ _ _ _ c.in_ok-room.ensures refl (omega (arith, c.max-depth.ensures, c.depth.ensures, c.depth-2.ensures.value)) c.has_names.ensures refl;

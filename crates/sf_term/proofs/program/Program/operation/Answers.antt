@@ -1,10 +1,10 @@
-use Rattle.sf_term.specs.Arena.{expressions_of, expression_under, HoldsExpression}
+use Rattle.sf_term.specs.Arena.{program_expressions, program_expression, HoldsExpression}
 use Rattle.sf_term.proofs.program.Program.operation.Goals as goal
 
 pub add_expression-requires : goal.add_expression-requires
-unfolding expressions_of HoldsExpression
+unfolding program_expressions HoldsExpression
 add_expression-requires c = (c.requires.left_held, c.requires.right_held)
 
 pub returns : goal.returns
-unfolding expressions_of expression_under
+unfolding program_expressions program_expression
 returns c = c.add_expression.ensures

@@ -2,9 +2,9 @@ use Rattle.std.proofs.Common.{◌≡◌, ◌∙◌, ℕ, [], length, ap, refl, a
 use Rattle.sf_arena.specs.Arenas.{entries_of}
 use Rattle.sf_term.specs.declared.node.ArgumentsId.{ArgumentsId}
 use Rattle.sf_term.specs.Entries.{TermBase, collections_in}
-use Rattle.sf_term.specs.Arena.{base_of, lists_of, headers_of, expressions_of, HoldsArguments, arguments_under, next_arguments}
+use Rattle.sf_term.specs.Arena.{term_base, lists_of, headers_of, program_expressions, HoldsArguments, argument_nodes, next_arguments}
 use Rattle.sf_term.proofs.Entered.{arena_grown, still_stored, unchanged_grown, MoreLists, same_items, items_put, items_pushed, lists_copied, pushed_at}
-use Rattle.sf_term.proofs.Kept.{unchanged, same_expressions}
+use Rattle.sf_term.proofs.Extended.{unchanged, same_expressions}
 use Rattle.sf_term.proofs.program.Program.place_arguments.Goals as goal
 
 pub invariant_of-self : goal.invariant_of-self
@@ -14,7 +14,7 @@ invariant_of-self c =
     let grown = unchanged_grown p.expressions p.expressions (same_expressions p.expressions) in
     let more : MoreLists (lists_of p) b.lists = record { arguments = items_put _ p.arguments.items c.push.new.self.items c.new.result _ c.push.ensures.items; collections = same_items _ _ _ refl } in
     record {
-      arena = arena_grown (base_of p) b (entries_of p.terms) grown more (still_stored (base_of p) b (entries_of p.terms) grown refl p.arena) p.arena;
+      arena = arena_grown (term_base p) b (entries_of p.terms) grown more (still_stored (term_base p) b (entries_of p.terms) grown refl p.arena) p.arena;
       bodies = p.bodies;
     }
 
@@ -25,7 +25,7 @@ returns-in_err-push-clause-same c =
     unchanged p _ (same_expressions p.expressions) (lists_copied _ _ c.in_err-push.ensures.items refl) refl refl
 
 pub returns-in_err-push-clause-expressions : goal.returns-in_err-push-clause-expressions
-unfolding expressions_of
+unfolding program_expressions
 returns-in_err-push-clause-expressions c = refl
 
 pub returns-clause-next : goal.returns-clause-next
@@ -41,7 +41,7 @@ returns-clause-within c =
     (pushed_at [] c.args.self.now.arguments.items _ c.new.result _ c.in_ok-push.ensures.items number).0
 
 pub returns-clause-is : goal.returns-clause-is
-unfolding arguments_under
+unfolding argument_nodes
 returns-clause-is c =
     let number : c.len.result ≡ length c.args.self.now.arguments.items = omega (arith, c.len.ensures, c.args.self.now.arguments.ok.0) in
     (pushed_at [] c.args.self.now.arguments.items _ c.new.result _ c.in_ok-push.ensures.items number).1 ∙ c.new.ensures
@@ -53,5 +53,5 @@ returns-clause-same c =
     unchanged p _ (same_expressions p.expressions) (record { arguments = items_pushed _ _ _ c.new.result c.in_ok-push.ensures.items; collections = same_items _ _ _ refl }) refl refl
 
 pub returns-clause-expressions : goal.returns-clause-expressions
-unfolding expressions_of
+unfolding program_expressions
 returns-clause-expressions c = refl

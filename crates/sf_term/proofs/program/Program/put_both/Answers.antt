@@ -3,9 +3,9 @@ use Rattle.sf_arena.specs.Arenas.{entries_of}
 use Rattle.sf_lex.specs.Words.{IsName}
 use Rattle.sf_expr.specs.Patterns.{pattern_of}
 use Rattle.sf_term.specs.Names.{HasNames}
-use Rattle.sf_term.specs.Arena.{lists_of, headers_of, expressions_of}
+use Rattle.sf_term.specs.Arena.{lists_of, headers_of, program_expressions}
 use Rattle.sf_term.proofs.Entered.{arena_with, grown_trans, name_grown_by, pattern_grown_by, unchanged_grown, same_lists}
-use Rattle.sf_term.proofs.Kept.{name_and_pattern, name_beside, pattern_beside, beside_trans, unchanged_beside, put_beside, unchanged, same_self}
+use Rattle.sf_term.proofs.Extended.{name_and_pattern, name_beside, pattern_beside, beside_trans, unchanged_beside, put_beside, unchanged, same_self}
 use Rattle.sf_term.proofs.Refused.{hands_on, still_room}
 use Rattle.sf_term.proofs.program.Program.put_both.Goals as goal
 
@@ -35,7 +35,7 @@ pub returns-in_err-room-clause-same : goal.returns-in_err-room-clause-same
 returns-in_err-room-clause-same c = same_self c.args.self.now
 
 pub returns-in-Ok-pattern_in-clause-ok : goal.returns-in-Ok-pattern_in-clause-ok
-unfolding expressions_of
+unfolding program_expressions
 returns-in-Ok-pattern_in-clause-ok c = name_and_pattern _ _ _ _ _ _ _ c.in-Ok.ensures.ok c.in-Ok-pattern_in.ensures.ok
 
 pub returns-in-Ok-pattern_in-clause-refused : goal.returns-in-Ok-pattern_in-clause-refused

@@ -3,7 +3,7 @@ use Rattle.sf_arena.specs.Arenas.{entries_of}
 use Rattle.sf_lex.specs.Words.{IsName}
 use Rattle.sf_term.specs.Arena.{lists_of, headers_of, next_arguments}
 use Rattle.sf_term.proofs.Entered.{arena_with, name_grown_by, same_lists}
-use Rattle.sf_term.proofs.Kept.{name_beside, put_beside, unchanged, same_self}
+use Rattle.sf_term.proofs.Extended.{name_beside, put_beside, unchanged, same_self}
 use Rattle.sf_term.proofs.Refused.{hands_on, still_room}
 use Rattle.sf_term.proofs.program.Program.put_name.Goals as goal
 

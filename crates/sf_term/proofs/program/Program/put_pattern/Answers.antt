@@ -2,7 +2,7 @@ use Rattle.std.proofs.Common.{refl, arith}
 use Rattle.sf_arena.specs.Arenas.{entries_of}
 use Rattle.sf_term.specs.Arena.{lists_of, headers_of}
 use Rattle.sf_term.proofs.Entered.{arena_with, pattern_grown_by, same_lists}
-use Rattle.sf_term.proofs.Kept.{pattern_beside, put_beside, unchanged, same_self}
+use Rattle.sf_term.proofs.Extended.{pattern_beside, put_beside, unchanged, same_self}
 use Rattle.sf_term.proofs.Refused.{hands_on, still_room}
 use Rattle.sf_term.proofs.program.Program.put_pattern.Goals as goal
 

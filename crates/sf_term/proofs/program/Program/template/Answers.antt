@@ -6,7 +6,7 @@ use Rattle.sf_term.specs.Parameters.{PlacedParameter}
 use Rattle.sf_term.specs.Headers.{Header}
 use Rattle.sf_term.specs.Arena.{headers_of, HoldsTerm}
 use Rattle.sf_term.proofs.Entered.{same_lists}
-use Rattle.sf_term.proofs.Kept.{bodies_put, adds_template, unchanged, same_expressions, same_self}
+use Rattle.sf_term.proofs.Extended.{bodies_put, adds_template, unchanged, same_expressions, same_self}
 use Rattle.sf_term.proofs.Refused.{builds_none, builds_starved, still_room}
 use Rattle.sf_term.proofs.program.Program.template.Goals as goal
 

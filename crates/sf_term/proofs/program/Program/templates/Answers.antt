@@ -1,7 +1,7 @@
 use Rattle.std.proofs.Common.{All, List, sym, subst}
 use Rattle.sf_term.specs.Headers.{Header}
 use Rattle.sf_term.specs.Arena.{HoldsTerm, headers_of}
-use Rattle.sf_term.proofs.Kept.{bodies_held}
+use Rattle.sf_term.proofs.Extended.{bodies_held}
 use Rattle.sf_term.proofs.program.Program.templates.Goals as goal
 
 pub returns-clause-held : goal.returns-clause-held

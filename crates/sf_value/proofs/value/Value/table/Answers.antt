@@ -1,7 +1,7 @@
 use Rattle.std.proofs.Common.{◌∙◌, length, ap, sym, subst}
 use Rattle.sf_value.specs.Values.{table}
 use Rattle.sf_value.specs.Keys.{AreDifferentKeys}
-use Rattle.sf_value.specs.View.{rows_under}
+use Rattle.sf_value.specs.View.{keyed_rows}
 use Rattle.sf_value.proofs.Parting.{none_parted, one_parted, as_many, all_parted, repeat_here}
 use Rattle.sf_value.proofs.value.Value.table.Goals as goal
 
@@ -23,5 +23,5 @@ under-requires c = ap length c.in_ok-new.ensures.ok ∙ as_many c.loop-key.invar
 
 pub returns-clause-ok : goal.returns-clause-ok
 returns-clause-ok c =
-    c.in_ok-under.ensures ∙ ap (λ ks. table (rows_under ks c.loop-key.values.items)) c.in_ok-new.ensures.ok
+    c.in_ok-under.ensures ∙ ap (λ ks. table (keyed_rows ks c.loop-key.values.items)) c.in_ok-new.ensures.ok
     ∙ ap table (all_parted c.loop-key.invariant (sym c.loop-key.key-iterator.rest.ok.0 ∙ c.in-None.ensures.steps.0))

@@ -5,13 +5,13 @@ use Rattle.sf_value.specs.Values.{Name}
 use Rattle.sf_expr.specs.declared.exprs.numbers.NumberedPattern.{NumberedPattern}
 use Rattle.sf_expr.specs.declared.exprs.numbers.NumberedPattern.TheVariants.{Unnamed}
 use Rattle.sf_expr.specs.Patterns.{PlacedPattern, placed_unnamed, pattern_of}
-use Rattle.sf_expr.specs.Arena.{name_at, placed_at}
-use Rattle.sf_expr.specs.Numbered.{number_at, numbered_at, IsNumber, IsNumbered}
+use Rattle.sf_expr.specs.Arena.{name_at, stored_pattern}
+use Rattle.sf_expr.specs.Numbered.{number_at, numbered_pattern, IsNumber, IsNumbered}
 use Rattle.sf_expr.proofs.Numbered.{told, pattern_told, pairs_still, pair_at}
 use Rattle.sf_expr.proofs.exprs.numbers.Numbers.of.Goals as goal
 
 pub returns : goal.returns
-unfolding name_at placed_at number_at numbered_at
+unfolding name_at stored_pattern number_at numbered_pattern
 returns c =
     let x = c.args.exprs.now in
     let ks = c.numbered_each.new.texts.keys in

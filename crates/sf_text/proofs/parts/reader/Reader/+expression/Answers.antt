@@ -1,7 +1,7 @@
 use Rattle.std.proofs.Common.{◌∙◌, subst, sym}
 use Rattle.sf_lex.specs.Words.{IsName}
 use Rattle.sf_text.specs.Parsing.Answers.{ahead}
-use Rattle.sf_term.proofs.Kept.{keeps_trans}
+use Rattle.sf_term.proofs.Extended.{keeps_trans}
 use Rattle.sf_text.proofs.Parsing.Found.{expression_built, if_built, if_built_on, linked_ready, prefixed_ready, one_in_brackets_ready, two_in_brackets_ready, conditional_ready, let_ready, mapping_found, one_and_function_ready, two_and_function_ready, called_ready}
 use Rattle.sf_text.proofs.Parsing.Placed.{linked_read, prefixed_read, one_in_brackets_read, two_in_brackets_read, conditional_read, parted_read, let_read, one_and_function_read, two_and_function_read, called_read}
 use Rattle.sf_text.proofs.parts.reader.Reader.+expression.Goals as goal

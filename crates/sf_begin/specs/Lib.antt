@@ -1,0 +1,4 @@
+pub mod Beginning
+pub mod Collecting
+pub mod Contexts
+pub mod Drafting

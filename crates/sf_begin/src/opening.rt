@@ -1,0 +1,441 @@
+//! How a part begins: what its term is before its first sample.
+ghost use Rattle.std.specs.Prelude.{◌≡◌, [], ◌∷◌, false, All, IfOk, IfSome, Ok, IsTrue};
+ghost use Rattle.std.specs.Prelude;
+ghost use Rattle.sf_value.specs.Values.{Data};
+ghost use Rattle.sf_func.specs.Registries.{AnswersByName};
+ghost use Rattle.sf_expr.specs.declared.exprs.ExprId.{ExprId};
+ghost use Rattle.sf_expr.specs.declared.exprs.FunctionId.{FunctionId};
+ghost use Rattle.sf_expr.specs.declared.exprs.NameId as name_ids;
+ghost use Rattle.sf_expr.specs.Arena.{stored_pattern, name_at, function_at};
+ghost use Rattle.sf_expr.specs.Patterns.{pattern_of};
+ghost use Rattle.sf_term.specs.Trees.{Term};
+ghost use Rattle.sf_term.specs.Trees;
+ghost use Rattle.sf_law.specs.Arena.{plan_tree, plan_collection, plan_asks, plan_expressions, plan_expression_at, header_at, network_of_plan, BuildsPlan};
+ghost use Rattle.sf_code.specs.Worth.{IsCodeOfFunction};
+ghost use Rattle.sf_law.specs.Entries.{IsCodedExpression, IsCodedArgument, IsCodedCollection};
+ghost use Rattle.sf_law.specs.Asking.{start_asked, arguments_asked};
+ghost use Rattle.sf_law.specs.declared.node.PlanId as plan_ids;
+ghost use Rattle.sf_law.specs.declared.node.PlanArgument as plan_argument_nodes;
+ghost use Rattle.sf_law.specs.declared.node.PlanNode.TheVariants as NodeOf;
+ghost use Rattle.sf_law.specs.declared.plan.Plan as plans;
+ghost use Rattle.sf_mean.specs.Lives.{Environment};
+ghost use Rattle.sf_state.specs.Standing.{AreJoined, IsNames};
+ghost use Rattle.sf_begin.specs.Beginning.{Opens, WrapsAtFirst, BeginsAs, AllBegin, is_awake};
+ghost use Rattle.sf_begin.specs.Contexts.{plan_in};
+
+use crate::calling::{called, started};
+use crate::collecting::collect;
+use crate::context::{SampleContext, constant_in, fault_of, made_in};
+use crate::wrapping::{on_side, with_head};
+use sf_code::OpenCode;
+use sf_expr::NameId;
+use sf_func::Holds;
+use sf_law::{
+    Plan, PlanArgument, PlanCollection, PlanContinuation, PlanEditing, PlanId, PlanNode,
+    PlanPrimitive, PlanReleasing, PlanSwitch, TemplateId,
+};
+use sf_prim::PrimState;
+use sf_state::{
+    Continuation, Editing, Env, Gathering, Live, NamesIn, Process, Releasing, State, Switch, Wrap,
+};
+use sf_term::{Heading, Join, Start};
+use sf_value::{Fault, Value};
+use std::alloc::{AllocError, Global};
+use std::rc::Rc;
+
+/// What a part that begins has become.
+#[derive(Clone, Copy, Debug, PartialEq, Eq)]
+pub enum Begun {
+    /// Itself, prepared for its first sample.
+    Itself,
+    /// What it refers to.
+    Referred,
+}
+
+/// Puts a term before its first sample, on this input, with the names around it, in place of a state, and says what it has
+/// become. The error is the first fault of its constants, or want of memory.
+#[cold]
+#[inline(never)]
+pub fn begin<R: Holds>(
+    context: &SampleContext<R>,
+    state: &mut State,
+    term: PlanId,
+    names: Env,
+    input: &Value,
+) -> Result<Begun, Fault>
+    ensures begins { (e : Environment) → IsNames (R.answers context.now.functions.now) (plan_in context.now) names e →
+        BeginsAs (R.answers context.now.functions.now) (plan_in context.now) (plan_tree (plan_in context.now) term) e input.now state.new result }
+    ensures awake { IfOk result (λ b. b ≡ Begun.Itself → IsTrue (is_awake state.new)) }
+{
+    match open(context, term, &names, input) {
+        Ok(opened) => {
+            let (next, begun) = prepared(opened, names);
+            state.put(next);
+            Ok(begun)
+        }
+        Err(fault) => Err(fault),
+    }
+}
+
+// A part that is opened, as a state that is prepared for its first sample, with the names around it.
+fn prepared(opened: Opened, names: Env) -> (State, Begun)
+    ensures begins { (φ : AnswersByName) (p : plans.Plan) (u : Term) (x : Data) → ((e : Environment) → IsNames φ p names e → Opens φ p u e x (Ok opened)) →
+        (e : Environment) → IsNames φ p names e → BeginsAs φ p u e x result.0 (Ok result.1) }
+    ensures awake { result.1 ≡ Begun.Itself → IsTrue (is_awake result.0) }
+{
+    match opened {
+        Opened::Primitive(prim) => (State::Primitive(prim), Begun::Itself),
+        Opened::Live(node) => (State::Live(names, node), Begun::Itself),
+        Opened::Switch(watching) => (State::Switch(names, watching), Begun::Itself),
+        Opened::Continuation(kept) => (State::Continuation(names, kept), Begun::Itself),
+        Opened::Gathering(members) => (State::Gathering(names, members), Begun::Itself),
+        Opened::Running(process) => (process, Begun::Referred),
+    }
+}
+
+/// A part before its first sample.
+#[derive(Drop)]
+pub(crate) enum Opened {
+    /// A primitive.
+    Primitive(PrimState),
+    /// Another one that goes on as it is.
+    Live(Rc<Live>),
+    /// A switch.
+    Switch(Rc<Switch>),
+    /// A switch that keeps its source.
+    Continuation(Rc<Continuation>),
+    /// Members that wait for an event.
+    Gathering(Rc<Gathering>),
+    /// What is referred to, which stands in the place of its name or call.
+    Running(State),
+}
+
+// A term before its first sample, on this input, with the names around it. Each group of forms opens in a function of its own,
+// which makes room for its own values alone.
+fn open<R: Holds>(
+    context: &SampleContext<R>,
+    term: PlanId,
+    names: &Env,
+    input: &Value,
+) -> Result<Opened, Fault>
+    ensures { (e : Environment) → IsNames (R.answers context.now.functions.now) (plan_in context.now) names.now e →
+        Opens (R.answers context.now.functions.now) (plan_in context.now) (plan_tree (plan_in context.now) term) e input.now result }
+{
+    match context.plan.node(term) {
+        PlanNode::Primitive(primitive) => open_primitive(context, primitive, names),
+        PlanNode::Joined(join, left, right) => {
+            joined(context.alloc, *join, *left, *right, names)
+        }
+        PlanNode::Sided(side, part) => wrapped(context.alloc, on_side(*side), *part, names),
+        PlanNode::Headed(heading, _, code, part) => {
+            headed(context, *heading, code, *part, names)
+        }
+        PlanNode::Transformed(_, code, part) => transformed(context, code, *part, names, input),
+        PlanNode::Switching(form) => switching(context.alloc, form, names),
+        PlanNode::Pipeline(stages) => pipeline(context.alloc, stages, names),
+        PlanNode::Continuation(form) => continuing(context.alloc, context.plan, form, names),
+        PlanNode::Gathered(members) => gathered(context, members, names),
+        PlanNode::Releasing(releasing) => members_under(context, releasing, names),
+        PlanNode::Editing(editing) => members_edited(context, editing, names),
+        PlanNode::Started(start, name) => referred(context, *start, *name, names),
+        PlanNode::Probe(name) => probe(context.alloc, name),
+        PlanNode::Call(_, template, arguments) => call(context, *template, arguments, names),
+    }
+}
+
+// A primitive before its first sample, with the names around it.
+#[inline(never)]
+fn open_primitive<R: Holds>(
+    context: &SampleContext<R>,
+    primitive: &PlanPrimitive,
+    names: &Env,
+) -> Result<Opened, Fault>
+    ensures { (t : Term) → BuildsPlan (plan_in context.now) (NodeOf.Primitive primitive.now) t → (x : Data) (e : Environment) →
+        IsNames (R.answers context.now.functions.now) (plan_in context.now) names.now e → Opens (R.answers context.now.functions.now) (plan_in context.now) t e x result }
+{
+    let plan = context.plan;
+    let around = NamesIn { plan, names };
+    match PrimState::born(context.alloc, primitive, context.functions, &around) {
+        Ok(prim) => Ok(Opened::Primitive(prim)),
+        Err(fault) => Err(fault_of(fault)),
+    }
+}
+
+// A probe, which is the same before its first sample.
+#[inline(never)]
+fn probe(alloc: Global, name: &Rc<String>) -> Result<Opened, Fault>
+    ensures { (φ : AnswersByName) (p : plans.Plan) (t : Term) → BuildsPlan p (NodeOf.Probe name.now) t → (x : Data) (e : Environment) → Opens φ p t e x result }
+{
+    let same = name.clone()?;
+    let node = Rc::new(alloc, Live::Probe(same))?;
+    Ok(Opened::Live(node))
+}
+
+// What a name refers to, with the names around it.
+#[inline(never)]
+fn referred<R: Holds>(
+    context: &SampleContext<R>,
+    start: Start,
+    name: NameId,
+    names: &Env,
+) -> Result<Opened, Fault>
+    requires { IsTrue (start_asked false (plan_asks (plan_in context.now) (name_at (plan_expressions (plan_in context.now)) name)) start) }
+    ensures { (t : Term) → BuildsPlan (plan_in context.now) (NodeOf.Started start name) t → (x : Data) (e : Environment) →
+        IsNames (R.answers context.now.functions.now) (plan_in context.now) names.now e → Opens (R.answers context.now.functions.now) (plan_in context.now) t e x result }
+{
+    let process = started(context.alloc, context.plan, names, start, name)?;
+    Ok(Opened::Running(process))
+}
+
+// A call of a template, with the names around it.
+#[inline(never)]
+fn call<R: Holds>(
+    context: &SampleContext<R>,
+    template: TemplateId,
+    arguments: &[PlanArgument],
+    names: &Env,
+) -> Result<Opened, Fault>
+    requires coded { All (IsCodedArgument (plan_expressions (plan_in context.now))) arguments.now }
+    requires asked { IsTrue (arguments_asked (plan_expressions (plan_in context.now)) (plan_asks (plan_in context.now)) (header_at (plan_in context.now) template).parameters arguments.now) }
+    ensures { (k : name_ids.NameId) (v : Prelude.Vec plan_argument_nodes.PlanArgument Global) (t : Term) → v.items ≡ arguments.now → BuildsPlan (plan_in context.now) (NodeOf.Call k template v) t → (x : Data) (e : Environment) →
+        IsNames (R.answers context.now.functions.now) (plan_in context.now) names.now e → Opens (R.answers context.now.functions.now) (plan_in context.now) t e x result }
+{
+    let body = called(context, template, arguments, names)?;
+    Ok(Opened::Running(body))
+}
+
+// Stages before their first sample, with the names around them: two are joined, in one node.
+#[inline(never)]
+fn pipeline(alloc: Global, stages: &[PlanId], names: &Env) -> Result<Opened, Fault>
+    ensures { (φ : AnswersByName) (p : plans.Plan) (v : Prelude.Vec plan_ids.PlanId Global) (t : Term) → v.items ≡ stages.now → BuildsPlan p (NodeOf.Pipeline v) t → (x : Data) (e : Environment) → IsNames φ p names.now e → Opens φ p t e x result }
+{
+    if let Some((first, second)) = two_of(stages) {
+        return joined(alloc, Join::InSequence, first, second, names);
+    }
+    let begun = begin_all(alloc, stages, names)?;
+    let node = Rc::new(alloc, Live::Pipeline(begun))?;
+    Ok(Opened::Live(node))
+}
+
+// The stages, where they are two.
+fn two_of(stages: &[PlanId]) -> Option<(PlanId, PlanId)>
+    ensures { IfSome result (λ s. stages.now ≡ s.0 ∷ s.1 ∷ []) }
+{
+    match stages {
+        [first, second] => Some((*first, *second)),
+        _ => None,
+    }
+}
+
+// Two parts joined, before their first sample, with the names around them.
+#[inline(never)]
+fn joined(
+    alloc: Global,
+    join: Join,
+    left: PlanId,
+    right: PlanId,
+    names: &Env,
+) -> Result<Opened, Fault>
+    ensures { (φ : AnswersByName) (p : plans.Plan) (t : Term) → AreJoined join (plan_tree p left) (plan_tree p right) t → (x : Data) (e : Environment) →
+        IsNames φ p names.now e → Opens φ p t e x result }
+{
+    let one = names.share()?;
+    let two = names.share()?;
+    let first = State::Unborn(Process {
+        term: left,
+        names: one,
+    });
+    let second = State::Unborn(Process {
+        term: right,
+        names: two,
+    });
+    let node = Rc::new(alloc, Live::Join(join, first, second))?;
+    Ok(Opened::Live(node))
+}
+
+// A part with an expression at its head, before its first sample, with the names around it.
+#[inline(never)]
+fn headed<R: Holds>(
+    context: &SampleContext<R>,
+    heading: Heading,
+    code: &OpenCode,
+    part: PlanId,
+    names: &Env,
+) -> Result<Opened, Fault>
+    ensures { let p = plan_in context.now in (head : ExprId) (x : Data) (e : Environment) → IsCodedExpression (plan_expressions p) head code.now →
+        IsNames (R.answers context.now.functions.now) p names.now e →
+        Opens (R.answers context.now.functions.now) p (Trees.headed heading (plan_expression_at p head) (plan_tree p part)) e x result }
+{
+    let worth = constant_in(context, code, names);
+    match with_head(heading, worth) {
+        Ok(wrap) => wrapped(context.alloc, wrap, part, names),
+        Err(fault) => Err(fault),
+    }
+}
+
+// A part whose first input is what a function makes of this one, before its first sample, with the names around it.
+#[inline(never)]
+fn transformed<R: Holds>(
+    context: &SampleContext<R>,
+    code: &OpenCode,
+    part: PlanId,
+    names: &Env,
+    input: &Value,
+) -> Result<Opened, Fault>
+    ensures { let p = plan_in context.now in (function : FunctionId) (e : Environment) → IsCodeOfFunction (plan_expressions p) (function_at (plan_expressions p) function) code.now →
+        IsNames (R.answers context.now.functions.now) p names.now e →
+        Opens (R.answers context.now.functions.now) p (Trees.transformed (function_at (plan_expressions p) function) (plan_tree p part)) e input.now result }
+{
+    match made_in(context, code, input, names) {
+        Ok(first) => wrapped(context.alloc, Wrap::Replaced(Some(first)), part, names),
+        Err(fault) => Err(fault_of(fault)),
+    }
+}
+
+// A switch before its first sample, with the names around it.
+#[inline(never)]
+fn switching(alloc: Global, form: &PlanSwitch, names: &Env) -> Result<Opened, Fault>
+    ensures { let s = form.now in (φ : AnswersByName) (p : plans.Plan) (x : Data) (e : Environment) → IsNames φ p names.now e →
+        Opens φ p (Trees.switching s.form (plan_tree p s.source) (pattern_of (stored_pattern (plan_expressions p) s.pattern)) (plan_tree p s.body)) e x result }
+{
+    let shared = names.share()?;
+    let switch = Switch {
+        form: form.form,
+        running: State::Unborn(Process {
+            term: form.source,
+            names: shared,
+        }),
+        pattern: form.pattern,
+        body: form.body,
+    };
+    let node = Rc::new(alloc, switch)?;
+    Ok(Opened::Switch(node))
+}
+
+// A switch that keeps its source, likewise. What it keeps has the names that its term mentions alone.
+#[inline(never)]
+fn continuing(
+    alloc: Global,
+    plan: &Plan,
+    form: &PlanContinuation,
+    names: &Env,
+) -> Result<Opened, Fault>
+    ensures { let p = plan.now in let s = form.now in (φ : AnswersByName) (x : Data) (e : Environment) → IsNames φ p names.now e →
+        Opens φ p (Trees.continuing s.shown (plan_tree p s.source) (plan_tree p s.observer) (name_at (plan_expressions p) s.name) (pattern_of (stored_pattern (plan_expressions p) s.pattern)) (plan_tree p s.body))
+        e x result }
+{
+    let running = Process::within(alloc, plan, form.source, names)?;
+    let around = names.share()?;
+    let continuing = Continuation {
+        shown: form.shown,
+        first: form.source,
+        source: State::Unborn(running),
+        before: State::unborn(form.source),
+        observer: State::Unborn(Process {
+            term: form.observer,
+            names: around,
+        }),
+        name: form.name,
+        pattern: form.pattern,
+        body: form.body,
+    };
+    let node = Rc::new(alloc, continuing)?;
+    Ok(Opened::Continuation(node))
+}
+
+// The members of a collection before their first sample, with the names around it.
+#[inline(never)]
+fn gathered<R: Holds>(
+    context: &SampleContext<R>,
+    members: &PlanCollection,
+    names: &Env,
+) -> Result<Opened, Fault>
+    ensures { let p = plan_in context.now in (x : Data) (e : Environment) → IsCodedCollection (plan_expressions p) members.now →
+        IsNames (R.answers context.now.functions.now) p names.now e → Opens (R.answers context.now.functions.now) p (Trees.gathered (plan_collection p members.now)) e x result }
+{
+    let all = collect(context, members, names)?;
+    let node = Rc::new(context.alloc, Live::Gathered(all))?;
+    Ok(Opened::Live(node))
+}
+
+// Members under an observer, before their first sample, with the names around them.
+#[inline(never)]
+fn members_under<R: Holds>(
+    context: &SampleContext<R>,
+    form: &PlanReleasing,
+    names: &Env,
+) -> Result<Opened, Fault>
+    ensures { (t : Term) → BuildsPlan (plan_in context.now) (NodeOf.Releasing form.now) t → (x : Data) (e : Environment) →
+        IsNames (R.answers context.now.functions.now) (plan_in context.now) names.now e → Opens (R.answers context.now.functions.now) (plan_in context.now) t e x result }
+{
+    let members = collect(context, &form.members, names)?;
+    let before = members.share()?;
+    let around = names.share()?;
+    let releasing = Releasing {
+        shown: form.shown,
+        members,
+        before,
+        observer: State::Unborn(Process {
+            term: form.observer,
+            names: around,
+        }),
+        name: form.name,
+        pattern: form.pattern,
+        body: form.body,
+    };
+    let node = Rc::new(context.alloc, Gathering::Releasing(releasing))?;
+    Ok(Opened::Gathering(node))
+}
+
+// Members that are edited, likewise.
+#[inline(never)]
+fn members_edited<R: Holds>(
+    context: &SampleContext<R>,
+    form: &PlanEditing,
+    names: &Env,
+) -> Result<Opened, Fault>
+    ensures { (t : Term) → BuildsPlan (plan_in context.now) (NodeOf.Editing form.now) t → (x : Data) (e : Environment) →
+        IsNames (R.answers context.now.functions.now) (plan_in context.now) names.now e → Opens (R.answers context.now.functions.now) (plan_in context.now) t e x result }
+{
+    let members = collect(context, &form.members, names)?;
+    let edit = form.edit.clone()?;
+    let editing = Editing {
+        shown: form.shown,
+        members,
+        name: form.name,
+        pattern: form.pattern,
+        edit,
+    };
+    let node = Rc::new(context.alloc, Gathering::Editing(editing))?;
+    Ok(Opened::Gathering(node))
+}
+
+// Stages before their first sample, with the names around them.
+fn begin_all(alloc: Global, stages: &[PlanId], names: &Env) -> Result<Vec<State>, AllocError>
+    ensures { IfOk result (λ begun. (φ : AnswersByName) (p : plans.Plan) (e : Environment) → IsNames φ p names.now e → AllBegin φ p e stages.now begun.items) }
+{
+    let mut begun = Vec::with_capacity(alloc, stages.len())?;
+    for stage in stages {
+        let around = names.share()?;
+        begun.push(State::Unborn(Process {
+            term: *stage,
+            names: around,
+        }))?;
+    }
+    Ok(begun)
+}
+
+// A form with one part, before its first sample.
+#[inline(never)]
+fn wrapped(alloc: Global, wrap: Wrap, part: PlanId, names: &Env) -> Result<Opened, Fault>
+    ensures { (φ : AnswersByName) (p : plans.Plan) (t : Term) (x : Data) (e : Environment) → IsNames φ p names.now e →
+        WrapsAtFirst (network_of_plan φ p) t e x (plan_tree p part) (Ok wrap) → Opens φ p t e x result }
+{
+    let inner = names.share()?;
+    let part = State::Unborn(Process {
+        term: part,
+        names: inner,
+    });
+    let node = Rc::new(alloc, Live::Wrap(wrap, part))?;
+    Ok(Opened::Live(node))
+}

@@ -1,8 +1,0 @@
-use Rattle.sf_parts.proofs.Begins.{open_prim, open_prim_fails}
-use Rattle.sf_parts.proofs.opening.open_primitive.Goals as goal
-
-pub returns-in-Ok : goal.returns-in-Ok
-returns-in-Ok g c = λ t B. open_prim (g.R.Holds.answers c.args.context.now.functions.now) c.args.context.now.plan.now c.args.primitive.now t c.args.names.now c.in-Ok.prim B c.in-Ok.ensures
-
-pub returns-in-Err : goal.returns-in-Err
-returns-in-Err g c = λ t B. rw c.fault_of.ensures (open_prim_fails (g.R.Holds.answers c.args.context.now.functions.now) c.args.context.now.plan.now c.args.primitive.now t c.args.names.now c.in-Err.fault B c.in-Err.ensures)

@@ -1,0 +1,124 @@
+//! What values are taken apart into, and what forms with one part and switches put in place.
+ghost use Rattle.std.specs.Prelude.{◌≡◌, IfOk, IfErr, OnOk, Ok, Err, None, unwrap_or};
+ghost use Rattle.std.specs.Option.{option_map};
+ghost use Rattle.sf_value.specs.Values.{pair, first_of, second_of};
+ghost use Rattle.sf_func.specs.Registries.{AnswersByName};
+ghost use Rattle.sf_law.specs.declared.plan.Plan.{Plan};
+ghost use Rattle.sf_mean.specs.Lives.{Life, Process};
+ghost use Rattle.sf_mean.specs.Formulas.{occurring};
+ghost use Rattle.sf_mean.specs.Meaning.{switched_value};
+ghost use Rattle.sf_state.specs.Standing.{Stands};
+
+use sf_state::State;
+use sf_term::Observation;
+use sf_value::{Form, Value, ValueFault};
+use std::alloc::{AllocError, Global};
+use std::mem;
+use std::rc::Rc;
+
+/// The first part of a pair, and the payload of the event beside it, if it occurs; a value that is no pair stands for both
+/// parts. It leaves a number in its place.
+#[inline(always)]
+pub(crate) fn value_and_payload(
+    alloc: Global,
+    value: &mut Value,
+) -> Result<(Value, Option<Rc<Value>>), AllocError>
+    ensures { IfOk result (λ x. (x.0 ≡ first_of value.old) × (option_map (λ r. r.value) x.1 ≡ occurring (second_of value.old))) }
+{
+    let both = mem::replace(value, Value::int(0));
+    let (first, event) = both.into_halves(alloc)?;
+    Ok((first, payload_of(event)))
+}
+
+/// The payload of an event that occurs, which may be shared; none of another value.
+#[inline(always)]
+pub(crate) fn payload_of(event: Value) -> Option<Rc<Value>>
+    ensures { option_map (λ x. x.value) result ≡ occurring event }
+{
+    match event.into_form() {
+        Form::Event(payload) => Some(payload),
+        _ => None,
+    }
+}
+
+/// What a switch shows at the step of its event: its body's value in place of that of what ran before, or that still.
+#[inline(always)]
+pub(crate) fn show(shown: Observation, value: &mut Value, new: Value)
+    ensures { value.new ≡ switched_value shown value.old new }
+{
+    match shown {
+        Observation::Immediate => *value = new,
+        Observation::Delayed => drop(new),
+    }
+}
+
+/// Puts the value of a head, which is kept before the first sample alone, in the place of the part's.
+pub(crate) fn put_first(first: &mut Option<Value>, value: &mut Value)
+    ensures value { value.new ≡ unwrap_or first.old value.old }
+    ensures first { first.new ≡ None }
+{
+    if let Some(initial) = first.take() {
+        *value = initial;
+    }
+}
+
+/// Puts what a part gave at the step before, or at first the constant at its head, in the place of the part's value, which is
+/// kept for the next step. The error is the fault of the constant.
+pub(crate) fn put_last(
+    last: &mut Result<Value, ValueFault>,
+    value: &mut Value,
+) -> Result<(), ValueFault>
+    ensures value { OnOk result (last.old ≡ Ok value.new) }
+    ensures last { OnOk result (last.new ≡ Ok value.old) }
+    ensures fault { IfErr result (λ fault. last.old ≡ Err fault) }
+{
+    match last {
+        Ok(kept) => {
+            mem::swap(kept, value);
+            Ok(())
+        }
+        Err(fault) => Err(*fault),
+    }
+}
+
+/// What takes over from a state stands in its place, if anything does.
+#[inline(always)]
+pub(crate) fn take_over(state: &mut State, over: Option<State>)
+    ensures { state.new ≡ unwrap_or over state.old }
+{
+    if let Some(body) = over {
+        *state = body;
+    }
+}
+
+/// Before a sample: what runs goes on in nodes of its own, and what it was takes the place of what it was before.
+#[inline(always)]
+pub(crate) fn hold_back(
+    alloc: Global,
+    source: &mut State,
+    before: &mut State,
+) -> Result<(), AllocError>
+    ensures held { OnOk result (before.new ≡ source.old) }
+    ensures runs_on { OnOk result ((φ : AnswersByName) (p : Plan) (P : Process) (L : Life) → Stands φ p source.old P L → Stands φ p source.new P L) }
+{
+    before.renew(alloc, source)?;
+    mem::swap(source, before);
+    Ok(())
+}
+
+/// A sample's input twice, for the observer of a switch and for its body.
+#[inline(always)]
+pub(crate) fn copies(alloc: Global, input: &Value) -> Result<(Value, Value), AllocError>
+    ensures { IfOk result (λ both. (both.0 ≡ input.now) × (both.1 ≡ input.now)) }
+{
+    Ok((input.clone_in(alloc)?, input.clone_in(alloc)?))
+}
+
+/// The input beside a copy of a value, as one pair.
+#[inline(always)]
+pub(crate) fn beside(alloc: Global, input: Value, given: &Value) -> Result<Value, AllocError>
+    ensures { IfOk result (λ both. both ≡ pair input given.now) }
+{
+    let copy = given.clone_in(alloc)?;
+    Value::pair(alloc, input, copy)
+}
