@@ -54,8 +54,9 @@ pub struct Draft {
     pub changes: Vec<Change>,
 }
 
-/// The members that an edit makes of those that run, with these names around it. None where it takes other members, or leaves out
-/// many by their keys; an error where it has a fault, or for want of memory.
+/// The members that an edit makes of those that run, with these names around it. It answers none where the edit takes other members,
+/// or leaves out many by their keys, and an error where it has a fault, or for want of memory. Of these nothing is promised: but for
+/// want of memory, its caller has the members made anew then.
 #[cold]
 #[inline(never)]
 pub fn draft_of<R: Holds>(
