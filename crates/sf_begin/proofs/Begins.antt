@@ -8,7 +8,6 @@ use Rattle.sf_coincidence.proofs.Same.{alike_itself}
 use Rattle.sf_value.specs.Values.{Data}
 use Rattle.sf_value.specs.declared.fault.Fault.{Fault}
 use Rattle.sf_value.specs.declared.fault.Fault.TheVariants.{Memory}
-use Rattle.sf_func.specs.Registries.{AnswersByName}
 use Rattle.sf_operator.specs.Answers.{Evaluates}
 use Rattle.sf_operator.specs.declared.fault.EvalFault.{EvalFault}
 use Rattle.sf_operator.specs.declared.fault.EvalFault.TheVariants.{Value as EValue, Memory as EMemory}
@@ -35,7 +34,6 @@ use Rattle.sf_term.specs.Trees.{rest, Primitive, probe, Term, primitive, referen
 use Rattle.sf_mean.specs.Lives.{step, Life, closure, Environment, process_started, scope_around}
 use Rattle.sf_mean.specs.Collections.{collect}
 use Rattle.sf_mean.specs.Meaning.{Network, recorded, as_outcome, Made, nothing_made, value_made, process_made, members_made, make, left_life, right_life, gives, Outputs, not_begun, of_constants, of_form, of_primitive, at_start, no_tables}
-use Rattle.sf_law.specs.declared.plan.Plan.{Plan}
 use Rattle.sf_law.specs.declared.node.PlanId.{PlanId}
 use Rattle.sf_law.specs.declared.node.TemplateId.{TemplateId}
 use Rattle.sf_law.specs.declared.node.PlanArgument.{PlanArgument}
@@ -47,7 +45,7 @@ use Rattle.sf_law.specs.declared.node.PlanReleasing.{PlanReleasing}
 use Rattle.sf_law.specs.declared.node.PlanEditing.{PlanEditing}
 use Rattle.sf_law.specs.declared.node.PlanNode.TheVariants.{Primitive as NPrimitive, Joined as NJoined, Sided as NSided, Headed as NHeaded, Transformed as NTransformed, Switching as NSwitching, Continuation as NContinuation, Started as NStarted, Probe as NProbe, Call as NCall, Pipeline as NPipeline, Gathered as NGathered, Releasing as NReleasing, Editing as NEditing}
 use Rattle.sf_law.specs.Entries.{primitive_over, IsCodedPrimitive, IsCodedExpression, IsCodedArgument, IsCodedCollection, stages, pipeline}
-use Rattle.sf_law.specs.Arena.{plan_tree, plan_collection, plan_expressions, plan_expression_at, plan_arguments, header_at, network_of_plan, BuildsPlan, builds_primitive, builds_joined, builds_sided, builds_headed, builds_transformed, builds_switching, builds_continuing, builds_started, builds_probe, builds_call, builds_pipeline, builds_gathered, builds_releasing, builds_editing}
+use Rattle.sf_law.specs.Arena.{plan_tree, plan_collection, plan_expressions, plan_expression_at, plan_arguments, header_at, BuildsPlan, builds_primitive, builds_joined, builds_sided, builds_headed, builds_transformed, builds_switching, builds_continuing, builds_started, builds_probe, builds_call, builds_pipeline, builds_gathered, builds_releasing, builds_editing}
 use Rattle.sf_law.proofs.Called.{called}
 use Rattle.sf_prim.specs.declared.prim_state.PrimState.{PrimState}
 use Rattle.sf_prim.specs.Remembering.{Begins, begins, begins_with_fault}
@@ -66,6 +64,7 @@ use Rattle.sf_state.specs.declared.env.Env.{Env}
 use Rattle.sf_state.specs.Names.{values_around}
 use Rattle.sf_state.specs.Standing.{Stands, Recalls, itself, unborn, recalls, waits_so, recurs_so, continues_so, releases_so, edits_so, ready, AreJoined, as_join, as_pipeline, lives_probe, lives_join, lives_wrap, Wraps, wraps_transformed, StagesStand, last_stands, stage_stands, is_closure, IsNames, IsProcess, closed_over}
 use Rattle.sf_state.specs.declared.state.Process as process_states
+use Rattle.sf_state.specs.Machine.{Machine, machine_network}
 use Rattle.sf_state.proofs.Scopes.{scope_is}
 use Rattle.sf_state.proofs.Copies.{pipeline_lives, members_live, held_hidden}
 use Rattle.sf_begin.specs.Collecting.{MakesMembers}
@@ -88,44 +87,44 @@ right_none InSequence = refl
 right_none InParallel = refl
 right_none FannedOut = refl
 
-module _ (φ : AnswersByName) (p : Plan) where
+module _ (μ : Machine) where
   abbrev net : Network
-  net = network_of_plan φ p
+  net = machine_network μ
 
   -- ## Terms
 
-  prim_opens : {x : Data} (q : Primitive) (e : Environment) (i : PrimState) → Begins (scope_around φ e) q (Ok i) → Opens φ p (primitive q) e x (Ok (opened.Primitive i))
+  prim_opens : {x : Data} (q : Primitive) (e : Environment) (i : PrimState) → Begins (scope_around μ.answers e) q (Ok i) → Opens μ (primitive q) e x (Ok (opened.Primitive i))
   prim_opens q e i (begins K) = opens_primitive (recalls not_begun K)
 
-  prim_opens_with_fault : {x : Data} (q : Primitive) (e : Environment) (f : EvalFault) → Begins (scope_around φ e) q (Err f) → Opens φ p (primitive q) e x (Err (sample_fault f))
+  prim_opens_with_fault : {x : Data} (q : Primitive) (e : Environment) (f : EvalFault) → Begins (scope_around μ.answers e) q (Err f) → Opens μ (primitive q) e x (Err (sample_fault f))
   prim_opens_with_fault {x} q e (EValue y) (begins_with_fault h) = opens_with_fault (λ d. gives not_begun (of_form refl (of_primitive (ap (λ o. as_outcome o (recorded q (step d x))) (h (step d x))))))
   prim_opens_with_fault q e EMemory h = opens_without_memory
 
-  pub open_failure : {x : Data} (t : Term) (e : Environment) (r : Result Opened Fault) (f : Fault) → IsErrAnd r (λ e. e ≡ f) → Opens φ p t e x (Err f) → Opens φ p t e x r
+  pub open_failure : {x : Data} (t : Term) (e : Environment) (r : Result Opened Fault) (f : Fault) → IsErrAnd r (λ e. e ≡ f) → Opens μ t e x (Err f) → Opens μ t e x r
   open_failure t e (Ok l) f h O = absurd h
-  open_failure {x} t e (Err g) f h O = subst (λ (f : Fault). Opens φ p t e x (Err f)) (sym h) O
+  open_failure {x} t e (Err g) f h O = subst (λ (f : Fault). Opens μ t e x (Err f)) (sym h) O
 
-  pub open_exit : {x : Data} (t : Term) (e : Environment) (r : Result Opened Fault) → IsErrAnd r (λ e. e ≡ Memory) → Opens φ p t e x r
+  pub open_exit : {x : Data} (t : Term) (e : Environment) (r : Result Opened Fault) → IsErrAnd r (λ e. e ≡ Memory) → Opens μ t e x r
   open_exit t e r h = open_failure t e r Memory h opens_without_memory
 
   -- the scope around a part, as its names have it
   abbrev scope_in : Env → Scope
-  scope_in names = scope_with (values_around p names) φ
+  scope_in names = scope_with (values_around μ.plan names) μ.answers
 
-  pub open_prim : (q : PlanPrimitive) (t : Term) (names : Env) (i : PrimState) → BuildsPlan p (NPrimitive q) t → (IsCodedPrimitive (plan_expressions p) q → Begins (scope_in names) (primitive_over (plan_expressions p) q) (Ok i))
-      → (x : Data) (e : Environment) → IsNames φ p names e → Opens φ p t e x (Ok (opened.Primitive i))
-  open_prim q t names i (builds_primitive C) h x e N = prim_opens _ e i (subst (λ (s : Scope). Begins s (primitive_over (plan_expressions p) q) (Ok i)) (scope_is φ p names e N) (h C))
+  pub open_prim : (q : PlanPrimitive) (t : Term) (names : Env) (i : PrimState) → BuildsPlan μ.plan (NPrimitive q) t → (IsCodedPrimitive (plan_expressions μ.plan) q → Begins (scope_in names) (primitive_over (plan_expressions μ.plan) q) (Ok i))
+      → (x : Data) (e : Environment) → IsNames μ names e → Opens μ t e x (Ok (opened.Primitive i))
+  open_prim q t names i (builds_primitive C) h x e N = prim_opens _ e i (subst (λ (s : Scope). Begins s (primitive_over (plan_expressions μ.plan) q) (Ok i)) (scope_is μ names e N) (h C))
 
-  pub open_prim_fails : (q : PlanPrimitive) (t : Term) (names : Env) (f : EvalFault) → BuildsPlan p (NPrimitive q) t → (IsCodedPrimitive (plan_expressions p) q → Begins (scope_in names) (primitive_over (plan_expressions p) q) (Err f))
-      → (x : Data) (e : Environment) → IsNames φ p names e → Opens φ p t e x (Err (sample_fault f))
-  open_prim_fails q t names f (builds_primitive C) h x e N = prim_opens_with_fault _ e f (subst (λ (s : Scope). Begins s (primitive_over (plan_expressions p) q) (Err f)) (scope_is φ p names e N) (h C))
+  pub open_prim_fails : (q : PlanPrimitive) (t : Term) (names : Env) (f : EvalFault) → BuildsPlan μ.plan (NPrimitive q) t → (IsCodedPrimitive (plan_expressions μ.plan) q → Begins (scope_in names) (primitive_over (plan_expressions μ.plan) q) (Err f))
+      → (x : Data) (e : Environment) → IsNames μ names e → Opens μ t e x (Err (sample_fault f))
+  open_prim_fails q t names f (builds_primitive C) h x e N = prim_opens_with_fault _ e f (subst (λ (s : Scope). Begins s (primitive_over (plan_expressions μ.plan) q) (Err f)) (scope_is μ names e N) (h C))
 
-  recalls_of : {t : Term} {e : Environment} {x : Data} {i : PrimState} → Opens φ p t e x (Ok (opened.Primitive i)) → Recalls φ p i (closure t e) []
+  recalls_of : {t : Term} {e : Environment} {x : Data} {i : PrimState} → Opens μ t e x (Ok (opened.Primitive i)) → Recalls μ i (closure t e) []
   recalls_of (opens_primitive K) = K
 
   -- a primitive that begins has lived no sample
-  pub first_recalls : (q : PlanPrimitive) (t : Term) (names : Env) (i : PrimState) → BuildsPlan p (NPrimitive q) t → (IsCodedPrimitive (plan_expressions p) q → Begins (scope_in names) (primitive_over (plan_expressions p) q) (Ok i))
-      → (x : Data) (e : Environment) → IsNames φ p names e → Recalls φ p i (closure t e) []
+  pub first_recalls : (q : PlanPrimitive) (t : Term) (names : Env) (i : PrimState) → BuildsPlan μ.plan (NPrimitive q) t → (IsCodedPrimitive (plan_expressions μ.plan) q → Begins (scope_in names) (primitive_over (plan_expressions μ.plan) q) (Ok i))
+      → (x : Data) (e : Environment) → IsNames μ names e → Recalls μ i (closure t e) []
   first_recalls q t names i B h x e N = recalls_of (open_prim q t names i B h x e N)
 
   join_makes : {j : Join} {f g t : Term} (e : Environment) (x : Data) → AreJoined j f g t → make net t e x ≡ answer nothing_made
@@ -133,59 +132,59 @@ module _ (φ : AnswersByName) (p : Plan) where
   join_makes e x as_pipeline = refl
 
   pub open_join : (j : Join) (a b : PlanId) (t : Term) (names one two : Env) (l : Rc Live Global) → l.value ≡ LJoin j (Unborn (closed_over a one)) (Unborn (closed_over b two))
-      → ((e : Environment) → IsNames φ p names e → IsNames φ p one e) → ((e : Environment) → IsNames φ p names e → IsNames φ p two e)
-      → AreJoined j (plan_tree p a) (plan_tree p b) t → (x : Data) (e : Environment) → IsNames φ p names e → Opens φ p t e x (Ok (opened.Live l))
+      → ((e : Environment) → IsNames μ names e → IsNames μ one e) → ((e : Environment) → IsNames μ names e → IsNames μ two e)
+      → AreJoined j (plan_tree μ.plan a) (plan_tree μ.plan b) t → (x : Data) (e : Environment) → IsNames μ names e → Opens μ t e x (Ok (opened.Live l))
   open_join j a b t names one two l same h g J x e N =
-      let A = subst (λ (K : Life). Stands φ p (Unborn (closed_over a one)) (closure (plan_tree p a) e) K) (sym (left_none j)) (itself (unborn (is_closure (alike_itself _) (h e N)))) in
-      let B = subst (λ (K : Life). Stands φ p (Unborn (closed_over b two)) (closure (plan_tree p b) e) K) (sym (right_none j)) (itself (unborn (is_closure (alike_itself _) (g e N)))) in
-      let O = subst (λ (K : Life). Outputs net (closure (plan_tree p a) e) K []) (sym (left_none j)) not_begun in
+      let A = subst (λ (K : Life). Stands μ (Unborn (closed_over a one)) (closure (plan_tree μ.plan a) e) K) (sym (left_none j)) (itself (unborn (is_closure (alike_itself _) (h e N)))) in
+      let B = subst (λ (K : Life). Stands μ (Unborn (closed_over b two)) (closure (plan_tree μ.plan b) e) K) (sym (right_none j)) (itself (unborn (is_closure (alike_itself _) (g e N)))) in
+      let O = subst (λ (K : Life). Outputs net (closure (plan_tree μ.plan a) e) K []) (sym (left_none j)) not_begun in
       opens same (ready (join_makes e x J) not_begun (lives_join J O A B))
 
   -- two stages go by `>>>`
-  pub two_joined : (i j : PlanId) (v : Vec PlanId Global) (t : Term) → v.items ≡ i ∷ j ∷ [] → BuildsPlan p (NPipeline v) t → AreJoined InSequence (plan_tree p i) (plan_tree p j) t
-  two_joined i j v t same (builds_pipeline two) = subst (λ (ids : List PlanId). AreJoined InSequence (plan_tree p i) (plan_tree p j) (pipeline (map (λ k. plan_tree p k) ids))) (sym same) as_pipeline
+  pub two_joined : (i j : PlanId) (v : Vec PlanId Global) (t : Term) → v.items ≡ i ∷ j ∷ [] → BuildsPlan μ.plan (NPipeline v) t → AreJoined InSequence (plan_tree μ.plan i) (plan_tree μ.plan j) t
+  two_joined i j v t same (builds_pipeline two) = subst (λ (ids : List PlanId). AreJoined InSequence (plan_tree μ.plan i) (plan_tree μ.plan j) (pipeline (map (λ k. plan_tree μ.plan k) ids))) (sym same) as_pipeline
 
   -- the two parts of a node are joined in it
-  pub parts_joined : (j : Join) (a b : PlanId) (t : Term) → BuildsPlan p (NJoined j a b) t → AreJoined j (plan_tree p a) (plan_tree p b) t
+  pub parts_joined : (j : Join) (a b : PlanId) (t : Term) → BuildsPlan μ.plan (NJoined j a b) t → AreJoined j (plan_tree μ.plan a) (plan_tree μ.plan b) t
   parts_joined j a b t builds_joined = as_join
 
-  pub open_wrap : (w : Wrap) (a : PlanId) (names inner : Env) (l : Rc Live Global) → l.value ≡ LWrap w (Unborn (closed_over a inner)) → ((e : Environment) → IsNames φ p names e → IsNames φ p inner e)
-      → (t : Term) (x : Data) (e : Environment) → IsNames φ p names e → WrapsAtFirst net t e x (plan_tree p a) (Ok w) → Opens φ p t e x (Ok (opened.Live l))
+  pub open_wrap : (w : Wrap) (a : PlanId) (names inner : Env) (l : Rc Live Global) → l.value ≡ LWrap w (Unborn (closed_over a inner)) → ((e : Environment) → IsNames μ names e → IsNames μ inner e)
+      → (t : Term) (x : Data) (e : Environment) → IsNames μ names e → WrapsAtFirst net t e x (plan_tree μ.plan a) (Ok w) → Opens μ t e x (Ok (opened.Live l))
   open_wrap w a names inner l same g t x e N (makes h W) = opens same (ready h not_begun (lives_wrap W (itself (unborn (is_closure (alike_itself _) (g e N))))))
 
   -- what stands before the part has a fault
-  pub open_wrap_fails : (t u : Term) (x : Data) (e : Environment) (f : Fault) → WrapsAtFirst net t e x u (Err f) → Opens φ p t e x (Err f)
+  pub open_wrap_fails : (t u : Term) (x : Data) (e : Environment) (f : Fault) → WrapsAtFirst net t e x u (Err f) → Opens μ t e x (Err f)
   open_wrap_fails t u x e f (makes_fault h) = opens_with_fault (λ d. gives not_begun (of_constants h))
   open_wrap_fails t u x e f makes_nothing = opens_without_memory
 
-  pub open_sided : (d : Side) (a : PlanId) (t : Term) (names : Env) (w : Wrap) (r : Result Opened Fault) → BuildsPlan p (NSided d a) t
+  pub open_sided : (d : Side) (a : PlanId) (t : Term) (names : Env) (w : Wrap) (r : Result Opened Fault) → BuildsPlan μ.plan (NSided d a) t
       → ((n : Network) (t : Term) (e : Environment) (m : Made) → Wraps n w (sided d t) e m [] t [])
-      → ((φ : AnswersByName) (p : Plan) (t : Term) (x : Data) (e : Environment) → IsNames φ p names e → WrapsAtFirst (network_of_plan φ p) t e x (plan_tree p a) (Ok w) → Opens φ p t e x r)
-      → (x : Data) (e : Environment) → IsNames φ p names e → Opens φ p t e x r
-  open_sided d a t names w r builds_sided W h x e N = h φ p _ x e N (makes refl (W net (plan_tree p a) e nothing_made))
+      → ((μ : Machine) (t : Term) (x : Data) (e : Environment) → IsNames μ names e → WrapsAtFirst (machine_network μ) t e x (plan_tree μ.plan a) (Ok w) → Opens μ t e x r)
+      → (x : Data) (e : Environment) → IsNames μ names e → Opens μ t e x r
+  open_sided d a t names w r builds_sided W h x e N = h μ _ x e N (makes refl (W net (plan_tree μ.plan a) e nothing_made))
 
   -- a part with a head opens as it does where its head's code is the head's
-  pub open_builds_headed : {x : Data} (i : Heading) (j : ExprId) (c : OpenCode) (a : PlanId) (t : Term) (names : Env) (r : Result Opened Fault) → BuildsPlan p (NHeaded i j c a) t
-      → ((e : Environment) → IsCodedExpression (plan_expressions p) j c → IsNames φ p names e → Opens φ p (headed i (plan_expression_at p j) (plan_tree p a)) e x r)
-      → (e : Environment) → IsNames φ p names e → Opens φ p t e x r
+  pub open_builds_headed : {x : Data} (i : Heading) (j : ExprId) (c : OpenCode) (a : PlanId) (t : Term) (names : Env) (r : Result Opened Fault) → BuildsPlan μ.plan (NHeaded i j c a) t
+      → ((e : Environment) → IsCodedExpression (plan_expressions μ.plan) j c → IsNames μ names e → Opens μ (headed i (plan_expression_at μ.plan j) (plan_tree μ.plan a)) e x r)
+      → (e : Environment) → IsNames μ names e → Opens μ t e x r
   open_builds_headed i j c a t names r (builds_headed C) h e N = h e C N
 
-  pub open_builds_transformed : {x : Data} (i : FunctionId) (c : OpenCode) (a : PlanId) (t : Term) (names : Env) (r : Result Opened Fault) → BuildsPlan p (NTransformed i c a) t
-      → ((e : Environment) → IsCodeOfFunction (plan_expressions p) (function_at (plan_expressions p) i) c → IsNames φ p names e → Opens φ p (transformed (function_at (plan_expressions p) i) (plan_tree p a)) e x r)
-      → (e : Environment) → IsNames φ p names e → Opens φ p t e x r
+  pub open_builds_transformed : {x : Data} (i : FunctionId) (c : OpenCode) (a : PlanId) (t : Term) (names : Env) (r : Result Opened Fault) → BuildsPlan μ.plan (NTransformed i c a) t
+      → ((e : Environment) → IsCodeOfFunction (plan_expressions μ.plan) (function_at (plan_expressions μ.plan) i) c → IsNames μ names e → Opens μ (transformed (function_at (plan_expressions μ.plan) i) (plan_tree μ.plan a)) e x r)
+      → (e : Environment) → IsNames μ names e → Opens μ t e x r
   open_builds_transformed i c a t names r (builds_transformed C) h e N = h e C N
 
   -- what it keeps at first, by what its head is worth among the names around it
   pub headed_at_first : (i : Heading) (j : ExprId) (c : OpenCode) (u : Term) (names : Env) (o : Result Data EvalFault) (w : Result Wrap Fault)
-      → (IsCodedExpression (plan_expressions p) j c → Evaluates o (eval (plan_expression_at p j) (scope_in names)))
+      → (IsCodedExpression (plan_expressions μ.plan) j c → Evaluates o (eval (plan_expression_at μ.plan j) (scope_in names)))
       → ((n : Network) (j : Expression) (t : Term) (e : Environment) (x : Data) → Evaluates o (eval j (scope_around n.functions e)) → WrapsAtFirst n (headed i j t) e x t w)
-      → (x : Data) (e : Environment) → IsCodedExpression (plan_expressions p) j c → IsNames φ p names e → WrapsAtFirst net (headed i (plan_expression_at p j) u) e x u w
-  headed_at_first i j c u names o w g W x e C N = W net _ u e x (subst (λ (s : Scope). Evaluates o (eval (plan_expression_at p j) s)) (scope_is φ p names e N) (g C))
+      → (x : Data) (e : Environment) → IsCodedExpression (plan_expressions μ.plan) j c → IsNames μ names e → WrapsAtFirst net (headed i (plan_expression_at μ.plan j) u) e x u w
+  headed_at_first i j c u names o w g W x e C N = W net _ u e x (subst (λ (s : Scope). Evaluates o (eval (plan_expression_at μ.plan j) s)) (scope_is μ names e N) (g C))
 
   -- the same by what a function makes of the first input
-  module _ (f : Function) (u : Term) (names : Env) (x : Data) (e : Environment) (N : IsNames φ p names e) where
+  module _ (f : Function) (u : Term) (names : Env) (x : Data) (e : Environment) (N : IsNames μ names e) where
     made_around : make net (transformed f u) e x ≡ (apply f x (scope_in names) >>= λ v. answer (value_made v))
-    made_around = ap (λ s. apply f x s >>= λ v. answer (value_made v)) (sym (scope_is φ p names e N))
+    made_around = ap (λ s. apply f x s >>= λ v. answer (value_made v)) (sym (scope_is μ names e N))
 
     pub transformed_at_first : (v : Data) → Evaluates (Ok v) (apply f x (scope_in names)) → WrapsAtFirst net (transformed f u) e x u (Ok (Replaced (Some v)))
     transformed_at_first v h = makes (made_around ∙ ap (λ o. o >>= λ v. answer (value_made v)) h) wraps_transformed
@@ -195,15 +194,15 @@ module _ (φ : AnswersByName) (p : Plan) where
     transformed_fails EMemory h = makes_nothing
 
   -- a switch waits at first, and its first term isn't born
-  pub open_switch : (w : Switching) (a b : PlanId) (q : PatternId) (names around : Env) (l : Rc Switch Global) → l.value ≡ (record { form = w; running = Unborn (closed_over a around); pattern = q; body = b }) → ((e : Environment) → IsNames φ p names e → IsNames φ p around e)
-      → (x : Data) (e : Environment) → IsNames φ p names e → Opens φ p (switching w (plan_tree p a) (pattern_of (stored_pattern (plan_expressions p) q)) (plan_tree p b)) e x (Ok (opened.Switch l))
+  pub open_switch : (w : Switching) (a b : PlanId) (q : PatternId) (names around : Env) (l : Rc Switch Global) → l.value ≡ (record { form = w; running = Unborn (closed_over a around); pattern = q; body = b }) → ((e : Environment) → IsNames μ names e → IsNames μ around e)
+      → (x : Data) (e : Environment) → IsNames μ names e → Opens μ (switching w (plan_tree μ.plan a) (pattern_of (stored_pattern (plan_expressions μ.plan) q)) (plan_tree μ.plan b)) e x (Ok (opened.Switch l))
   open_switch (Basic w) a b q names around l same g x e N = opens_watching same (waits_so refl at_start not_begun (itself (unborn (is_closure (alike_itself _) (g e N)))))
   open_switch (Recurring w) a b q names around l same g x e N = opens_watching same (recurs_so refl not_begun (itself (unborn (is_closure (alike_itself _) (g e N)))))
 
   -- and so does one that keeps its source, whose observer isn't born either
   pub open_continuing : (w : Observation) (a b c : PlanId) (k : NameId) (q : PatternId) (names two : Env) (one : process_states.Process) (x : State) (l : Rc Continuation Global) → l.value ≡ (record { shown = w; first = a; source = Unborn one; before = x; observer = Unborn (closed_over b two); name = k; pattern = q; body = c })
-      → ((e : Environment) → IsNames φ p names e → IsProcess φ p one (closure (plan_tree p a) e)) → ((e : Environment) → IsNames φ p names e → IsNames φ p two e)
-      → (i : Data) (e : Environment) → IsNames φ p names e → Opens φ p (continuing w (plan_tree p a) (plan_tree p b) (name_at (plan_expressions p) k) (pattern_of (stored_pattern (plan_expressions p) q)) (plan_tree p c)) e i (Ok (opened.Continuation l))
+      → ((e : Environment) → IsNames μ names e → IsProcess μ one (closure (plan_tree μ.plan a) e)) → ((e : Environment) → IsNames μ names e → IsNames μ two e)
+      → (i : Data) (e : Environment) → IsNames μ names e → Opens μ (continuing w (plan_tree μ.plan a) (plan_tree μ.plan b) (name_at (plan_expressions μ.plan) k) (pattern_of (stored_pattern (plan_expressions μ.plan) q)) (plan_tree μ.plan c)) e i (Ok (opened.Continuation l))
   open_continuing w a b c k q names two one x l same f g i e N =
       opens_continuing same (continues_so at_start not_begun not_begun (itself (unborn (f e N))) (itself (unborn (is_closure (alike_itself _) (g e N)))))
 
@@ -211,161 +210,161 @@ module _ (φ : AnswersByName) (p : Plan) where
 
   -- what a collection makes among names
   abbrev AreMade : PlanCollection → Environment → Result Gathered Fault → Type 0
-  AreMade i e r = MakesMembers φ p (collect φ (plan_collection p i) e) r
+  AreMade i e r = MakesMembers μ (collect μ.answers (plan_collection μ.plan i) e) r
 
-  pub open_gathered : (i : PlanCollection) (g : Gathered) (l : Rc Live Global) → l.value ≡ LGathered g → (x : Data) (e : Environment) → AreMade i e (Ok g) → Opens φ p (gathered (plan_collection p i)) e x (Ok (opened.Live l))
-  open_gathered i g l same x e (makes h G) = opens same (ready (ap (λ w. w >>= λ ms. answer (members_made ms)) h) not_begun (members_live φ p g no_tables G))
+  pub open_gathered : (i : PlanCollection) (g : Gathered) (l : Rc Live Global) → l.value ≡ LGathered g → (x : Data) (e : Environment) → AreMade i e (Ok g) → Opens μ (gathered (plan_collection μ.plan i)) e x (Ok (opened.Live l))
+  open_gathered i g l same x e (makes h G) = opens same (ready (ap (λ w. w >>= λ ms. answer (members_made ms)) h) not_begun (members_live μ g no_tables G))
 
   -- a form whose members are not made
-  open_members_fails : (t : Term) (i : PlanCollection) (x : Data) (e : Environment) (f : Fault) → make net t e x ≡ (collect φ (plan_collection p i) e >>= λ ms. answer (members_made ms)) → AreMade i e (Err f) → Opens φ p t e x (Err f)
+  open_members_fails : (t : Term) (i : PlanCollection) (x : Data) (e : Environment) (f : Fault) → make net t e x ≡ (collect μ.answers (plan_collection μ.plan i) e >>= λ ms. answer (members_made ms)) → AreMade i e (Err f) → Opens μ t e x (Err f)
   open_members_fails t i x e f is (makes_fault h) = opens_with_fault (λ d. gives not_begun (of_constants (is ∙ ap (λ w. w >>= λ ms. answer (members_made ms)) h)))
   open_members_fails t i x e f is makes_nothing = opens_without_memory
 
-  pub open_gathered_fails : (i : PlanCollection) (x : Data) (e : Environment) (f : Fault) → AreMade i e (Err f) → Opens φ p (gathered (plan_collection p i)) e x (Err f)
-  open_gathered_fails i x e f h = open_members_fails (gathered (plan_collection p i)) i x e f refl h
+  pub open_gathered_fails : (i : PlanCollection) (x : Data) (e : Environment) (f : Fault) → AreMade i e (Err f) → Opens μ (gathered (plan_collection μ.plan i)) e x (Err f)
+  open_gathered_fails i x e f h = open_members_fails (gathered (plan_collection μ.plan i)) i x e f refl h
 
-  pub open_builds_gathered : (i : Rc PlanCollection Global) (t : Term) (names : Env) (r : Result Opened Fault) → BuildsPlan p (NGathered i) t
-      → ((x : Data) (e : Environment) → IsCodedCollection (plan_expressions p) i.value → IsNames φ p names e → Opens φ p (gathered (plan_collection p i.value)) e x r) → (x : Data) (e : Environment) → IsNames φ p names e → Opens φ p t e x r
+  pub open_builds_gathered : (i : Rc PlanCollection Global) (t : Term) (names : Env) (r : Result Opened Fault) → BuildsPlan μ.plan (NGathered i) t
+      → ((x : Data) (e : Environment) → IsCodedCollection (plan_expressions μ.plan) i.value → IsNames μ names e → Opens μ (gathered (plan_collection μ.plan i.value)) e x r) → (x : Data) (e : Environment) → IsNames μ names e → Opens μ t e x r
   open_builds_gathered i t names r (builds_gathered C) h x e N = h x e C N
 
   module _ (s : PlanReleasing) where
     abbrev ReleasedMade : Environment → Result Gathered Fault → Type 0
-    ReleasedMade e r = IsCodedCollection (plan_expressions p) s.members.value → AreMade s.members.value e r
+    ReleasedMade e r = IsCodedCollection (plan_expressions μ.plan) s.members.value → AreMade s.members.value e r
 
-    pub open_releasing : (t : Term) (members before : Gathered) (around : Env) (l : Rc Gathering Global) → l.value ≡ GReleasing (record { shown = s.shown; members = members; before = before; observer = Unborn (closed_over s.observer around); name = s.name; pattern = s.pattern; body = s.body }) → BuildsPlan p (NReleasing s) t
-        → (x : Data) (e : Environment) → ReleasedMade e (Ok members) → IsNames φ p around e → Opens φ p t e x (Ok (opened.Gathering l))
+    pub open_releasing : (t : Term) (members before : Gathered) (around : Env) (l : Rc Gathering Global) → l.value ≡ GReleasing (record { shown = s.shown; members = members; before = before; observer = Unborn (closed_over s.observer around); name = s.name; pattern = s.pattern; body = s.body }) → BuildsPlan μ.plan (NReleasing s) t
+        → (x : Data) (e : Environment) → ReleasedMade e (Ok members) → IsNames μ around e → Opens μ t e x (Ok (opened.Gathering l))
     open_releasing t members before around l same (builds_releasing C) x e f N = by (f C)
       where
-        by : AreMade s.members.value e (Ok members) → Opens φ p (releasing s.shown (plan_collection p s.members.value) (plan_tree p s.observer) (name_at (plan_expressions p) s.name) (pattern_of (stored_pattern (plan_expressions p) s.pattern)) (plan_tree p s.body)) e x (Ok (opened.Gathering l))
-        by (makes h G) = opens_gathering same (releases_so h at_start not_begun no_tables (held_hidden φ p members (states_are members.states.value) G) (itself (unborn (is_closure (alike_itself _) N))))
+        by : AreMade s.members.value e (Ok members) → Opens μ (releasing s.shown (plan_collection μ.plan s.members.value) (plan_tree μ.plan s.observer) (name_at (plan_expressions μ.plan) s.name) (pattern_of (stored_pattern (plan_expressions μ.plan) s.pattern)) (plan_tree μ.plan s.body)) e x (Ok (opened.Gathering l))
+        by (makes h G) = opens_gathering same (releases_so h at_start not_begun no_tables (held_hidden μ members (states_are members.states.value) G) (itself (unborn (is_closure (alike_itself _) N))))
 
-    pub open_releasing_fails : (t : Term) (f : Fault) → BuildsPlan p (NReleasing s) t → (x : Data) (e : Environment) → ReleasedMade e (Err f) → Opens φ p t e x (Err f)
+    pub open_releasing_fails : (t : Term) (f : Fault) → BuildsPlan μ.plan (NReleasing s) t → (x : Data) (e : Environment) → ReleasedMade e (Err f) → Opens μ t e x (Err f)
     open_releasing_fails t f (builds_releasing C) x e h = open_members_fails _ s.members.value x e f refl (h C)
 
   module _ (s : PlanEditing) where
     abbrev EditedMade : Environment → Result Gathered Fault → Type 0
-    EditedMade e r = IsCodedCollection (plan_expressions p) s.members.value → AreMade s.members.value e r
+    EditedMade e r = IsCodedCollection (plan_expressions μ.plan) s.members.value → AreMade s.members.value e r
 
     abbrev edited_by : PlanCollection → Term
-    edited_by i = editing s.shown (plan_collection p s.members.value) (name_at (plan_expressions p) s.name) (pattern_of (stored_pattern (plan_expressions p) s.pattern)) (plan_collection p i)
+    edited_by i = editing s.shown (plan_collection μ.plan s.members.value) (name_at (plan_expressions μ.plan) s.name) (pattern_of (stored_pattern (plan_expressions μ.plan) s.pattern)) (plan_collection μ.plan i)
 
-    pub open_editing : (t : Term) (members : Gathered) (edit : Rc PlanCollection Global) (l : Rc Gathering Global) → edit.value ≡ s.edit.value → l.value ≡ GEditing (record { shown = s.shown; members = members; name = s.name; pattern = s.pattern; edit = edit }) → BuildsPlan p (NEditing s) t
-        → (x : Data) (e : Environment) → EditedMade e (Ok members) → Opens φ p t e x (Ok (opened.Gathering l))
+    pub open_editing : (t : Term) (members : Gathered) (edit : Rc PlanCollection Global) (l : Rc Gathering Global) → edit.value ≡ s.edit.value → l.value ≡ GEditing (record { shown = s.shown; members = members; name = s.name; pattern = s.pattern; edit = edit }) → BuildsPlan μ.plan (NEditing s) t
+        → (x : Data) (e : Environment) → EditedMade e (Ok members) → Opens μ t e x (Ok (opened.Gathering l))
     open_editing t members edit l shared same (builds_editing C) x e f = by (f C.0)
       where
-        by : AreMade s.members.value e (Ok members) → Opens φ p (edited_by s.edit.value) e x (Ok (opened.Gathering l))
-        by (makes h G) = subst (λ i. Opens φ p (edited_by i) e x (Ok (opened.Gathering l))) shared (opens_gathering same (edits_so (subst (λ i. IsCodedCollection (plan_expressions p) i) (sym shared) C.1) h refl not_begun no_tables (held_hidden φ p members (states_are members.states.value) G)))
+        by : AreMade s.members.value e (Ok members) → Opens μ (edited_by s.edit.value) e x (Ok (opened.Gathering l))
+        by (makes h G) = subst (λ i. Opens μ (edited_by i) e x (Ok (opened.Gathering l))) shared (opens_gathering same (edits_so (subst (λ i. IsCodedCollection (plan_expressions μ.plan) i) (sym shared) C.1) h refl not_begun no_tables (held_hidden μ members (states_are members.states.value) G)))
 
-    pub open_editing_fails : (t : Term) (f : Fault) → BuildsPlan p (NEditing s) t → (x : Data) (e : Environment) → EditedMade e (Err f) → Opens φ p t e x (Err f)
+    pub open_editing_fails : (t : Term) (f : Fault) → BuildsPlan μ.plan (NEditing s) t → (x : Data) (e : Environment) → EditedMade e (Err f) → Opens μ t e x (Err f)
     open_editing_fails t f (builds_editing C) x e h = open_members_fails _ s.members.value x e f refl (h C.0)
 
   -- nodes of switches open as their terms do
-  pub open_builds_switch : {x : Data} (s : PlanSwitch) (t : Term) (names : Env) (r : Result Opened Fault) → BuildsPlan p (NSwitching s) t
-      → ((e : Environment) → IsNames φ p names e → Opens φ p (switching s.form (plan_tree p s.source) (pattern_of (stored_pattern (plan_expressions p) s.pattern)) (plan_tree p s.body)) e x r)
-      → (e : Environment) → IsNames φ p names e → Opens φ p t e x r
+  pub open_builds_switch : {x : Data} (s : PlanSwitch) (t : Term) (names : Env) (r : Result Opened Fault) → BuildsPlan μ.plan (NSwitching s) t
+      → ((e : Environment) → IsNames μ names e → Opens μ (switching s.form (plan_tree μ.plan s.source) (pattern_of (stored_pattern (plan_expressions μ.plan) s.pattern)) (plan_tree μ.plan s.body)) e x r)
+      → (e : Environment) → IsNames μ names e → Opens μ t e x r
   open_builds_switch s t names r builds_switching h = h
 
-  pub open_builds_continuing : {x : Data} (s : PlanContinuation) (t : Term) (names : Env) (r : Result Opened Fault) → BuildsPlan p (NContinuation s) t
-      → ((e : Environment) → IsNames φ p names e → Opens φ p (continuing s.shown (plan_tree p s.source) (plan_tree p s.observer) (name_at (plan_expressions p) s.name) (pattern_of (stored_pattern (plan_expressions p) s.pattern)) (plan_tree p s.body)) e x r)
-      → (e : Environment) → IsNames φ p names e → Opens φ p t e x r
+  pub open_builds_continuing : {x : Data} (s : PlanContinuation) (t : Term) (names : Env) (r : Result Opened Fault) → BuildsPlan μ.plan (NContinuation s) t
+      → ((e : Environment) → IsNames μ names e → Opens μ (continuing s.shown (plan_tree μ.plan s.source) (plan_tree μ.plan s.observer) (name_at (plan_expressions μ.plan) s.name) (pattern_of (stored_pattern (plan_expressions μ.plan) s.pattern)) (plan_tree μ.plan s.body)) e x r)
+      → (e : Environment) → IsNames μ names e → Opens μ t e x r
   open_builds_continuing s t names r builds_continuing h = h
 
-  pub open_started : (w : Start) (k : NameId) (t : Term) (names : Env) (a : State) → BuildsPlan p (NStarted w k) t
-      → ((e : Environment) → IsNames φ p names e → Stands φ p a (process_started w (name_at (plan_expressions p) k) e) [])
-      → (x : Data) (e : Environment) → IsNames φ p names e → Opens φ p t e x (Ok (opened.Running a))
+  pub open_started : (w : Start) (k : NameId) (t : Term) (names : Env) (a : State) → BuildsPlan μ.plan (NStarted w k) t
+      → ((e : Environment) → IsNames μ names e → Stands μ a (process_started w (name_at (plan_expressions μ.plan) k) e) [])
+      → (x : Data) (e : Environment) → IsNames μ names e → Opens μ t e x (Ok (opened.Running a))
   open_started w k t names a builds_started f x e N = opens_running refl refl (f e N)
 
   -- a probe keeps nothing
-  pub open_probe : (r r' : Rc (String Global) Global) (t : Term) (l : Rc Live Global) → l.value ≡ LProbe r' → BuildsPlan p (NProbe r) t → r'.value ≡ r.value → (x : Data) (e : Environment) → Opens φ p t e x (Ok (opened.Live l))
+  pub open_probe : (r r' : Rc (String Global) Global) (t : Term) (l : Rc Live Global) → l.value ≡ LProbe r' → BuildsPlan μ.plan (NProbe r) t → r'.value ≡ r.value → (x : Data) (e : Environment) → Opens μ t e x (Ok (opened.Live l))
   open_probe r r' t l there builds_probe same x e =
       let name : string_bytes r'.value ≡ string_bytes r.value = ap (λ (s : String Global). string_bytes s) same in
-      subst (λ n. Opens φ p (primitive (probe n)) e x (Ok (opened.Live l))) name (opens there (ready refl not_begun lives_probe))
+      subst (λ n. Opens μ (primitive (probe n)) e x (Ok (opened.Live l))) name (opens there (ready refl not_begun lives_probe))
 
   -- a call opens as its template, whose arguments have their code
-  pub coded_arguments : {k : NameId} {g : TemplateId} {v : Vec PlanArgument Global} {t : Term} → BuildsPlan p (NCall k g v) t → All (IsCodedArgument (plan_expressions p)) v.items
+  pub coded_arguments : {k : NameId} {g : TemplateId} {v : Vec PlanArgument Global} {t : Term} → BuildsPlan μ.plan (NCall k g v) t → All (IsCodedArgument (plan_expressions μ.plan)) v.items
   coded_arguments (builds_call is C) = C
 
-  pub open_call : (k : NameId) (g : TemplateId) (v : Vec PlanArgument Global) (t : Term) (names : Env) (a : State) → BuildsPlan p (NCall k g v) t
-      → ((e : Environment) → IsNames φ p names e → StandsCalled φ p (header_at p g) v.items e (Ok a)) → (x : Data) (e : Environment) → IsNames φ p names e → Opens φ p t e x (Ok (opened.Running a))
+  pub open_call : (k : NameId) (g : TemplateId) (v : Vec PlanArgument Global) (t : Term) (names : Env) (a : State) → BuildsPlan μ.plan (NCall k g v) t
+      → ((e : Environment) → IsNames μ names e → StandsCalled μ (header_at μ.plan g) v.items e (Ok a)) → (x : Data) (e : Environment) → IsNames μ names e → Opens μ t e x (Ok (opened.Running a))
   open_call k g v t names a (builds_call is C) f x e N = by (f e N)
     where
-      by : StandsCalled φ p (header_at p g) v.items e (Ok a) → Opens φ p (reference (call (name_at (plan_expressions p) k) (plan_arguments p v.items))) e x (Ok (opened.Running a))
-      by (makes h A) = opens_running refl (called φ p (name_at (plan_expressions p) k) (header_at p g) is (plan_arguments p v.items) e ∙ h) A
+      by : StandsCalled μ (header_at μ.plan g) v.items e (Ok a) → Opens μ (reference (call (name_at (plan_expressions μ.plan) k) (plan_arguments μ.plan v.items))) e x (Ok (opened.Running a))
+      by (makes h A) = opens_running refl (called μ.answers μ.plan (name_at (plan_expressions μ.plan) k) (header_at μ.plan g) is (plan_arguments μ.plan v.items) e ∙ h) A
 
-  pub open_call_fails : (k : NameId) (g : TemplateId) (v : Vec PlanArgument Global) (t : Term) (names : Env) (f : Fault) → BuildsPlan p (NCall k g v) t
-      → ((e : Environment) → IsNames φ p names e → StandsCalled φ p (header_at p g) v.items e (Err f)) → (x : Data) (e : Environment) → IsNames φ p names e → Opens φ p t e x (Err f)
+  pub open_call_fails : (k : NameId) (g : TemplateId) (v : Vec PlanArgument Global) (t : Term) (names : Env) (f : Fault) → BuildsPlan μ.plan (NCall k g v) t
+      → ((e : Environment) → IsNames μ names e → StandsCalled μ (header_at μ.plan g) v.items e (Err f)) → (x : Data) (e : Environment) → IsNames μ names e → Opens μ t e x (Err f)
   open_call_fails k g v t names f (builds_call is C) h x e N = by f (h e N)
     where
-      by : (f : Fault) → StandsCalled φ p (header_at p g) v.items e (Err f) → Opens φ p (reference (call (name_at (plan_expressions p) k) (plan_arguments p v.items))) e x (Err f)
-      by f (makes_fault w) = opens_with_fault (λ d. gives not_begun (of_constants (ap (λ w. w >>= λ P. answer (process_made P)) (called φ p (name_at (plan_expressions p) k) (header_at p g) is (plan_arguments p v.items) e ∙ w))))
+      by : (f : Fault) → StandsCalled μ (header_at μ.plan g) v.items e (Err f) → Opens μ (reference (call (name_at (plan_expressions μ.plan) k) (plan_arguments μ.plan v.items))) e x (Err f)
+      by f (makes_fault w) = opens_with_fault (λ d. gives not_begun (of_constants (ap (λ w. w >>= λ P. answer (process_made P)) (called μ.answers μ.plan (name_at (plan_expressions μ.plan) k) (header_at μ.plan g) is (plan_arguments μ.plan v.items) e ∙ w))))
       by f makes_nothing = opens_without_memory
 
   -- what a term opens to stands in its state
-  pub begin_primitive : {t : Term} {x : Data} (i : PrimState) (names : Env) → ((e : Environment) → IsNames φ p names e → Opens φ p t e x (Ok (opened.Primitive i))) → (e : Environment) → IsNames φ p names e → BeginsAs φ p t e x (SPrimitive i) (Ok begun.Itself)
+  pub begin_primitive : {t : Term} {x : Data} (i : PrimState) (names : Env) → ((e : Environment) → IsNames μ names e → Opens μ t e x (Ok (opened.Primitive i))) → (e : Environment) → IsNames μ names e → BeginsAs μ t e x (SPrimitive i) (Ok begun.Itself)
   begin_primitive {x = x} i names h e N = by (h e N)
     where
-      by : {t : Term} → Opens φ p t e x (Ok (opened.Primitive i)) → BeginsAs φ p t e x (SPrimitive i) (Ok begun.Itself)
+      by : {t : Term} → Opens μ t e x (Ok (opened.Primitive i)) → BeginsAs μ t e x (SPrimitive i) (Ok begun.Itself)
       by (opens_primitive R) = begins_itself (primitive_prepared R)
 
-  pub begin_live : {at : _} {t : Term} {x : Data} (l : Rc Live Global) (names : Env) → ((e : Environment) → IsNames φ p names e → Opens φ p t e x (Ok (opened.Live l))) → (e : Environment) → IsNames φ p names e → BeginsAs φ p t e x (Alive' names at l.value) (Ok begun.Itself)
+  pub begin_live : {at : _} {t : Term} {x : Data} (l : Rc Live Global) (names : Env) → ((e : Environment) → IsNames μ names e → Opens μ t e x (Ok (opened.Live l))) → (e : Environment) → IsNames μ names e → BeginsAs μ t e x (Alive' names at l.value) (Ok begun.Itself)
   begin_live {at} {t} {x} l names h e N = by (h e N)
     where
-      by : {t : Term} → Opens φ p t e x (Ok (opened.Live l)) → BeginsAs φ p t e x (Alive' names at l.value) (Ok begun.Itself)
-      by {t} (opens same R) = subst (λ (v : Live). BeginsAs φ p t e x (Alive' names at v) (Ok begun.Itself)) (sym same) (begins_itself (live_prepared N R))
+      by : {t : Term} → Opens μ t e x (Ok (opened.Live l)) → BeginsAs μ t e x (Alive' names at l.value) (Ok begun.Itself)
+      by {t} (opens same R) = subst (λ (v : Live). BeginsAs μ t e x (Alive' names at v) (Ok begun.Itself)) (sym same) (begins_itself (live_prepared N R))
 
-  pub begin_switch : {at : _} {t : Term} {x : Data} (k : Rc Switch Global) (names : Env) → ((e : Environment) → IsNames φ p names e → Opens φ p t e x (Ok (opened.Switch k))) → (e : Environment) → IsNames φ p names e
-      → BeginsAs φ p t e x (Watching' names at k.value.form k.value.running k.value.pattern k.value.body) (Ok begun.Itself)
+  pub begin_switch : {at : _} {t : Term} {x : Data} (k : Rc Switch Global) (names : Env) → ((e : Environment) → IsNames μ names e → Opens μ t e x (Ok (opened.Switch k))) → (e : Environment) → IsNames μ names e
+      → BeginsAs μ t e x (Watching' names at k.value.form k.value.running k.value.pattern k.value.body) (Ok begun.Itself)
   begin_switch {at} {t} {x} k names h e N = by (h e N)
     where
-      by : {t : Term} → Opens φ p t e x (Ok (opened.Switch k)) → BeginsAs φ p t e x (Watching' names at k.value.form k.value.running k.value.pattern k.value.body) (Ok begun.Itself)
-      by {t} (opens_watching same W) = subst (λ (k : Switch). BeginsAs φ p t e x (Watching' names at k.form k.running k.pattern k.body) (Ok begun.Itself)) (sym same) (begins_itself (switch_prepared N W))
+      by : {t : Term} → Opens μ t e x (Ok (opened.Switch k)) → BeginsAs μ t e x (Watching' names at k.value.form k.value.running k.value.pattern k.value.body) (Ok begun.Itself)
+      by {t} (opens_watching same W) = subst (λ (k : Switch). BeginsAs μ t e x (Watching' names at k.form k.running k.pattern k.body) (Ok begun.Itself)) (sym same) (begins_itself (switch_prepared N W))
 
-  pub begin_continuing : {at : _} {t : Term} {x : Data} (k : Rc Continuation Global) (names : Env) → ((e : Environment) → IsNames φ p names e → Opens φ p t e x (Ok (opened.Continuation k))) → (e : Environment) → IsNames φ p names e
-      → BeginsAs φ p t e x (Continuation' names at k.value.shown k.value.first k.value.source k.value.before k.value.observer k.value.name k.value.pattern k.value.body) (Ok begun.Itself)
+  pub begin_continuing : {at : _} {t : Term} {x : Data} (k : Rc Continuation Global) (names : Env) → ((e : Environment) → IsNames μ names e → Opens μ t e x (Ok (opened.Continuation k))) → (e : Environment) → IsNames μ names e
+      → BeginsAs μ t e x (Continuation' names at k.value.shown k.value.first k.value.source k.value.before k.value.observer k.value.name k.value.pattern k.value.body) (Ok begun.Itself)
   begin_continuing {at} {t} {x} k names h e N = by (h e N)
     where
-      by : {t : Term} → Opens φ p t e x (Ok (opened.Continuation k)) → BeginsAs φ p t e x (Continuation' names at k.value.shown k.value.first k.value.source k.value.before k.value.observer k.value.name k.value.pattern k.value.body) (Ok begun.Itself)
-      by {t} (opens_continuing same W) = subst (λ (k : Continuation). BeginsAs φ p t e x (Continuation' names at k.shown k.first k.source k.before k.observer k.name k.pattern k.body) (Ok begun.Itself)) (sym same) (begins_itself (continuing_prepared N W))
+      by : {t : Term} → Opens μ t e x (Ok (opened.Continuation k)) → BeginsAs μ t e x (Continuation' names at k.value.shown k.value.first k.value.source k.value.before k.value.observer k.value.name k.value.pattern k.value.body) (Ok begun.Itself)
+      by {t} (opens_continuing same W) = subst (λ (k : Continuation). BeginsAs μ t e x (Continuation' names at k.shown k.first k.source k.before k.observer k.name k.pattern k.body) (Ok begun.Itself)) (sym same) (begins_itself (continuing_prepared N W))
 
-  pub begin_gathering : {at : _} {t : Term} {x : Data} (k : Rc Gathering Global) (names : Env) → ((e : Environment) → IsNames φ p names e → Opens φ p t e x (Ok (opened.Gathering k))) → (e : Environment) → IsNames φ p names e → BeginsAs φ p t e x (Gathering' names at k.value) (Ok begun.Itself)
+  pub begin_gathering : {at : _} {t : Term} {x : Data} (k : Rc Gathering Global) (names : Env) → ((e : Environment) → IsNames μ names e → Opens μ t e x (Ok (opened.Gathering k))) → (e : Environment) → IsNames μ names e → BeginsAs μ t e x (Gathering' names at k.value) (Ok begun.Itself)
   begin_gathering {at} {t} {x} k names h e N = by (h e N)
     where
-      by : {t : Term} → Opens φ p t e x (Ok (opened.Gathering k)) → BeginsAs φ p t e x (Gathering' names at k.value) (Ok begun.Itself)
-      by {t} (opens_gathering same W) = subst (λ (g : Gathering). BeginsAs φ p t e x (Gathering' names at g) (Ok begun.Itself)) (sym same) (begins_itself (gathering_prepared N W))
+      by : {t : Term} → Opens μ t e x (Ok (opened.Gathering k)) → BeginsAs μ t e x (Gathering' names at k.value) (Ok begun.Itself)
+      by {t} (opens_gathering same W) = subst (λ (g : Gathering). BeginsAs μ t e x (Gathering' names at g) (Ok begun.Itself)) (sym same) (begins_itself (gathering_prepared N W))
 
-  pub begin_referred : {t : Term} {x : Data} (a : State) (names : Env) → ((e : Environment) → IsNames φ p names e → Opens φ p t e x (Ok (opened.Running a))) → (e : Environment) → IsNames φ p names e → BeginsAs φ p t e x a (Ok begun.Referred)
+  pub begin_referred : {t : Term} {x : Data} (a : State) (names : Env) → ((e : Environment) → IsNames μ names e → Opens μ t e x (Ok (opened.Running a))) → (e : Environment) → IsNames μ names e → BeginsAs μ t e x a (Ok begun.Referred)
   begin_referred {x = x} a names h e N = by (h e N)
     where
-      by : {t : Term} → Opens φ p t e x (Ok (opened.Running a)) → BeginsAs φ p t e x a (Ok begun.Referred)
+      by : {t : Term} → Opens μ t e x (Ok (opened.Running a)) → BeginsAs μ t e x a (Ok begun.Referred)
       by (opens_running same is A) = begins_referred same is A
 
-  pub begin_fails : {t : Term} {x : Data} (a : State) (f : Fault) (names : Env) → ((e : Environment) → IsNames φ p names e → Opens φ p t e x (Err f)) → (e : Environment) → IsNames φ p names e → BeginsAs φ p t e x a (Err f)
+  pub begin_fails : {t : Term} {x : Data} (a : State) (f : Fault) (names : Env) → ((e : Environment) → IsNames μ names e → Opens μ t e x (Err f)) → (e : Environment) → IsNames μ names e → BeginsAs μ t e x a (Err f)
   begin_fails a f names h e N = begins_not (h e N)
 
-  pub begin_memory : {t : Term} {e : Environment} {x : Data} (a : State) (r : Result Begun Fault) → IsErrAnd r (λ e. e ≡ Memory) → BeginsAs φ p t e x a r
+  pub begin_memory : {t : Term} {e : Environment} {x : Data} (a : State) (r : Result Begun Fault) → IsErrAnd r (λ e. e ≡ Memory) → BeginsAs μ t e x a r
   begin_memory a (Ok b) h = absurd h
-  begin_memory {t} {e} {x} a (Err g) h = subst (λ (f : Fault). BeginsAs φ p t e x a (Err f)) (sym h) (begins_not opens_without_memory)
+  begin_memory {t} {e} {x} a (Err g) h = subst (λ (f : Fault). BeginsAs μ t e x a (Err f)) (sym h) (begins_not opens_without_memory)
 
   -- ## Stages
 
-  begin_stand : (i : PlanId) (ids : List PlanId) (bs : List State) (e : Environment) → AllBegin φ p e (i ∷ ids) bs → StagesStand φ p bs (stages rest (plan_tree p i) (map (λ j. plan_tree p j) ids)) e []
+  begin_stand : (i : PlanId) (ids : List PlanId) (bs : List State) (e : Environment) → AllBegin μ e (i ∷ ids) bs → StagesStand μ bs (stages rest (plan_tree μ.plan i) (map (λ j. plan_tree μ.plan j) ids)) e []
   begin_stand i [] bs e (more_begin A none_begin) = last_stands A
   begin_stand i (j ∷ ids) bs e (more_begin A B) = stage_stands not_begun A (begin_stand j ids _ e B)
 
-  open_pipeline : {x : Data} (ids : List PlanId) (w : Vec State Global) (l : Rc Live Global) → l.value ≡ LPipeline w → (e : Environment) → IsTrue (nat_le 2 (length ids)) → AllBegin φ p e ids w.items → Opens φ p (pipeline (map (λ j. plan_tree p j) ids)) e x (Ok (opened.Live l))
+  open_pipeline : {x : Data} (ids : List PlanId) (w : Vec State Global) (l : Rc Live Global) → l.value ≡ LPipeline w → (e : Environment) → IsTrue (nat_le 2 (length ids)) → AllBegin μ e ids w.items → Opens μ (pipeline (map (λ j. plan_tree μ.plan j) ids)) e x (Ok (opened.Live l))
   open_pipeline [] w l same e two B = absurd cc
   open_pipeline (i ∷ []) w l same e two B = absurd cc
-  open_pipeline (i ∷ j ∷ ids) w l same e two B = opens same (ready refl not_begun (pipeline_lives φ p w (begin_stand i (j ∷ ids) w.items e B)))
+  open_pipeline (i ∷ j ∷ ids) w l same e two B = opens same (ready refl not_begun (pipeline_lives μ w (begin_stand i (j ∷ ids) w.items e B)))
 
-  pub open_staged : {x : Data} (v : Vec PlanId Global) (t : Term) (w : Vec State Global) (l : Rc Live Global) → l.value ≡ LPipeline w → (e : Environment) → BuildsPlan p (NPipeline v) t → AllBegin φ p e v.items w.items → Opens φ p t e x (Ok (opened.Live l))
+  pub open_staged : {x : Data} (v : Vec PlanId Global) (t : Term) (w : Vec State Global) (l : Rc Live Global) → l.value ≡ LPipeline w → (e : Environment) → BuildsPlan μ.plan (NPipeline v) t → AllBegin μ e v.items w.items → Opens μ t e x (Ok (opened.Live l))
   open_staged v t w l same e (builds_pipeline two) B = open_pipeline v.items w l same e two B
 
   -- one more stage begins
-  begin_push : (i : PlanId) (ids : List PlanId) (a : State) (bs : List State) (e : Environment) → AllBegin φ p e ids bs → Stands φ p a (closure (plan_tree p i) e) [] → AllBegin φ p e (ids ++ i ∷ []) (bs ++ a ∷ [])
+  begin_push : (i : PlanId) (ids : List PlanId) (a : State) (bs : List State) (e : Environment) → AllBegin μ e ids bs → Stands μ a (closure (plan_tree μ.plan i) e) [] → AllBegin μ e (ids ++ i ∷ []) (bs ++ a ∷ [])
   begin_push i [] a bs e none_begin A = more_begin A none_begin
   begin_push i (j ∷ ids) a bs e (more_begin B C) A = more_begin B (begin_push i ids a _ e C A)
 
-  pub begin_next : (ids : List PlanId) (k : ℕ) (names : Env) (bs cs : List State) (e : Environment) (d : PlanId) → AllBegin φ p e (take k ids) bs → k < length ids → IsNames φ p names e → cs ≡ bs ++ Unborn (closed_over (get_or ids k d) names) ∷ [] → AllBegin φ p e (take (k + 1) ids) cs
+  pub begin_next : (ids : List PlanId) (k : ℕ) (names : Env) (bs cs : List State) (e : Environment) (d : PlanId) → AllBegin μ e (take k ids) bs → k < length ids → IsNames μ names e → cs ≡ bs ++ Unborn (closed_over (get_or ids k d) names) ∷ [] → AllBegin μ e (take (k + 1) ids) cs
   begin_next ids k names bs cs e d B short N same =
       let more : k + 1 ≡ suc k = omega arith in
       rw (ap (λ j. take j ids) more ∙ take-suc ids k d short, same) (begin_push _ _ _ _ e B (itself (unborn (is_closure (alike_itself _) N))))

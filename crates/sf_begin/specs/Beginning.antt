@@ -6,7 +6,6 @@ use Rattle.sf_value.specs.Values.{Data}
 use Rattle.sf_value.specs.declared.fault.ValueFault.{ValueFault}
 use Rattle.sf_value.specs.declared.fault.Fault.{Fault}
 use Rattle.sf_value.specs.declared.fault.Fault.TheVariants.{Value, Memory}
-use Rattle.sf_func.specs.Registries.{AnswersByName}
 use Rattle.sf_expr.specs.declared.exprs.NameId.{NameId}
 use Rattle.sf_expr.specs.declared.exprs.PatternId.{PatternId}
 use Rattle.sf_expr.specs.Arena.{name_at}
@@ -16,11 +15,10 @@ use Rattle.sf_term.specs.declared.form.Switching.{Switching}
 use Rattle.sf_term.specs.Trees.{Term, Reference, reference}
 use Rattle.sf_mean.specs.Lives.{step, Life, Process, closure, Environment}
 use Rattle.sf_mean.specs.Meaning.{Network, faulted, entered_cost, argued, referred, make, Gives}
-use Rattle.sf_law.specs.declared.plan.Plan.{Plan}
 use Rattle.sf_law.specs.declared.node.PlanId.{PlanId}
 use Rattle.sf_law.specs.declared.node.PlanArgument.{PlanArgument}
 use Rattle.sf_law.specs.Headers.{ParameterHeader}
-use Rattle.sf_law.specs.Arena.{plan_tree, plan_expressions, plan_binding, plan_arguments, network_of_plan}
+use Rattle.sf_law.specs.Arena.{plan_tree, plan_expressions, plan_binding, plan_arguments}
 use Rattle.sf_prim.specs.declared.prim_state.PrimState.{PrimState}
 use Rattle.sf_state.specs.declared.state.State.{State}
 use Rattle.sf_state.specs.declared.state.State.TheVariants.{Unborn', Primitive as SPrimitive, Live' as Alive', Switch' as Watching', Continuation', Gathering', Frozen'}
@@ -32,6 +30,7 @@ use Rattle.sf_state.specs.declared.env.Env.{Env}
 use Rattle.sf_state.specs.declared.state.Wrap.{Wrap}
 use Rattle.sf_state.specs.declared.env.Given.{Given}
 use Rattle.sf_state.specs.Standing.{IsNames, AreGiven, Recalls, Stands, Waits, WaitsContinuation, WaitsGathered, Ready, Wraps}
+use Rattle.sf_state.specs.Machine.{Machine, machine_network}
 use Rattle.sf_begin.specs.declared.opening.Opened.{Opened}
 use Rattle.sf_begin.specs.declared.opening.Opened.TheVariants as opened
 use Rattle.sf_begin.specs.declared.opening.Begun.{Begun}
@@ -39,17 +38,17 @@ use Rattle.sf_begin.specs.declared.opening.Begun.TheVariants as begun
 
 -- A state is prepared for the next step of a process after a life, before its first sample too: the process that it was made
 -- of, and not one that it took over from; x is the input of the first step, past or to come.
-pub data Prepared (φ : AnswersByName) (p : Plan) : State → Process → (x : Data) → Life → Type 0 where
-  primitive_prepared : {i : PrimState} {P : Process} {x : Data} {L : Life} → Recalls φ p i P L → Prepared φ p (SPrimitive i) P x L
+pub data Prepared (μ : Machine) : State → Process → (x : Data) → Life → Type 0 where
+  primitive_prepared : {i : PrimState} {P : Process} {x : Data} {L : Life} → Recalls μ i P L → Prepared μ (SPrimitive i) P x L
   live_prepared : {at : _} {names : Env} {l : Live} {t : Term} {e : Environment} {x : Data} {L : Life}
-      → IsNames φ p names e → Ready φ p l (closure t e) x L → Prepared φ p (Alive' names at l) (closure t e) x L
+      → IsNames μ names e → Ready μ l (closure t e) x L → Prepared μ (Alive' names at l) (closure t e) x L
   switch_prepared : {at : _} {names : Env} {w : Switching} {a : State} {q : PatternId} {b : PlanId} {t : Term} {e : Environment} {x : Data} {L : Life}
-      → IsNames φ p names e → Waits φ p (record { form = w; running = a; pattern = q; body = b }) (closure t e) L → Prepared φ p (Watching' names at w a q b) (closure t e) x L
+      → IsNames μ names e → Waits μ (record { form = w; running = a; pattern = q; body = b }) (closure t e) L → Prepared μ (Watching' names at w a q b) (closure t e) x L
   continuing_prepared : {at : _} {names : Env} {w : Observation} {f : PlanId} {a c o : State} {k : NameId} {q : PatternId} {b : PlanId} {t : Term} {e : Environment} {x : Data} {L : Life}
-      → IsNames φ p names e → WaitsContinuation φ p (record { shown = w; first = f; source = a; before = c; observer = o; name = k; pattern = q; body = b }) (closure t e) L
-      → Prepared φ p (Continuation' names at w f a c o k q b) (closure t e) x L
+      → IsNames μ names e → WaitsContinuation μ (record { shown = w; first = f; source = a; before = c; observer = o; name = k; pattern = q; body = b }) (closure t e) L
+      → Prepared μ (Continuation' names at w f a c o k q b) (closure t e) x L
   gathering_prepared : {at : _} {names : Env} {g : Gathering} {t : Term} {e : Environment} {x : Data} {L : Life}
-      → IsNames φ p names e → WaitsGathered φ p g (closure t e) L → Prepared φ p (Gathering' names at g) (closure t e) x L
+      → IsNames μ names e → WaitsGathered μ g (closure t e) L → Prepared μ (Gathering' names at g) (closure t e) x L
 
 -- whether a state has begun and is awake: a sample counts it, and then steps it
 abbrev pub is_awake : State → Bool
@@ -61,16 +60,6 @@ is_awake (Continuation' names at w t a x o k q b) = true
 is_awake (Gathering' names at g) = true
 is_awake (Frozen' at d names k) = false
 
--- whether a sample steps it where it stands: a primitive, or a live part
-abbrev pub is_in_place : State → Bool
-is_in_place (Unborn' t names) = false
-is_in_place (SPrimitive i) = true
-is_in_place (Alive' names at l) = true
-is_in_place (Watching' names at w a q b) = false
-is_in_place (Continuation' names at w t a x o k q b) = false
-is_in_place (Gathering' names at g) = false
-is_in_place (Frozen' at d names k) = false
-
 -- What is made of something that is evaluated: it stands for the answer, or is its fault. Want of memory says nothing of it.
 pub data Makes {A B : Type 0} (stands : A → B → Type 0) (w : Evaluated B) : Result A Fault → Type 0 where
   makes : {a : A} {b : B} → w ≡ answer b → stands a b → Makes stands w (Ok a)
@@ -78,34 +67,34 @@ pub data Makes {A B : Type 0} (stands : A → B → Type 0) (w : Evaluated B) : 
   makes_nothing : Makes stands w (Err Memory)
 
 -- what an argument gives to a parameter where a call with these names around it binds it, or the fault of the argument
-abbrev pub GivesOne : AnswersByName → Plan → ParameterHeader → PlanArgument → Env → Result Given Fault → Type 0
-GivesOne φ p q v names r = (e d : Environment) → IsNames φ p names e
-    → Makes (λ g b. AreGiven φ p (name_at (plan_expressions p) q.name ∷ []) (g ∷ []) d b) (argued φ (plan_binding p q ∷ []) (plan_arguments p (v ∷ [])) e d) r
+abbrev pub GivesOne : Machine → ParameterHeader → PlanArgument → Env → Result Given Fault → Type 0
+GivesOne μ q v names r = (e d : Environment) → IsNames μ names e
+    → Makes (λ g b. AreGiven μ (name_at (plan_expressions μ.plan) q.name ∷ []) (g ∷ []) d b) (argued μ.answers (plan_binding μ.plan q ∷ []) (plan_arguments μ.plan (v ∷ [])) e d) r
 
 -- what a form with one part keeps before its first sample, which has the input x; or the fault of what stands before its part
 abbrev pub WrapsAtFirst : Network → Term → Environment → (x : Data) → (part : Term) → Result Wrap Fault → Type 0
 WrapsAtFirst n t e x part r = Makes (λ w m. Wraps n w t e m [] part []) (make n t e x) r
 
 -- a part before its first sample, which has the input x; or the fault of its constants
-pub data Opens (φ : AnswersByName) (p : Plan) (t : Term) (e : Environment) (x : Data) : Result Opened Fault → Type 0 where
-  opens_primitive : {i : PrimState} → Recalls φ p i (closure t e) [] → Opens φ p t e x (Ok (opened.Primitive i))
-  opens : {r : Rc Live Global} {l : Live} → r.value ≡ l → Ready φ p l (closure t e) x [] → Opens φ p t e x (Ok (opened.Live r))
-  opens_watching : {r : Rc Switch Global} {s : Switch} → r.value ≡ s → Waits φ p s (closure t e) [] → Opens φ p t e x (Ok (opened.Switch r))
-  opens_continuing : {r : Rc Continuation Global} {s : Continuation} → r.value ≡ s → WaitsContinuation φ p s (closure t e) [] → Opens φ p t e x (Ok (opened.Continuation r))
-  opens_gathering : {r : Rc Gathering Global} {g : Gathering} → r.value ≡ g → WaitsGathered φ p g (closure t e) [] → Opens φ p t e x (Ok (opened.Gathering r))
+pub data Opens (μ : Machine) (t : Term) (e : Environment) (x : Data) : Result Opened Fault → Type 0 where
+  opens_primitive : {i : PrimState} → Recalls μ i (closure t e) [] → Opens μ t e x (Ok (opened.Primitive i))
+  opens : {r : Rc Live Global} {l : Live} → r.value ≡ l → Ready μ l (closure t e) x [] → Opens μ t e x (Ok (opened.Live r))
+  opens_watching : {r : Rc Switch Global} {s : Switch} → r.value ≡ s → Waits μ s (closure t e) [] → Opens μ t e x (Ok (opened.Switch r))
+  opens_continuing : {r : Rc Continuation Global} {s : Continuation} → r.value ≡ s → WaitsContinuation μ s (closure t e) [] → Opens μ t e x (Ok (opened.Continuation r))
+  opens_gathering : {r : Rc Gathering Global} {g : Gathering} → r.value ≡ g → WaitsGathered μ g (closure t e) [] → Opens μ t e x (Ok (opened.Gathering r))
   -- what is referred to stands in the place of the term, which counts at this sample alone
-  opens_running : {a : State} {r : Reference} {P : Process} → t ≡ reference r → referred (network_of_plan φ p) r e ≡ answer P → Stands φ p a P [] → Opens φ p t e x (Ok (opened.Running a))
-  opens_with_fault : {f : ValueFault} → ((d : ℕ) → Gives (network_of_plan φ p) (closure t e) (step d x ∷ []) (faulted f) (entered_cost t)) → Opens φ p t e x (Err (Value f))
-  opens_without_memory : Opens φ p t e x (Err Memory)
+  opens_running : {a : State} {r : Reference} {P : Process} → t ≡ reference r → referred (machine_network μ) r e ≡ answer P → Stands μ a P [] → Opens μ t e x (Ok (opened.Running a))
+  opens_with_fault : {f : ValueFault} → ((d : ℕ) → Gives (machine_network μ) (closure t e) (step d x ∷ []) (faulted f) (entered_cost t)) → Opens μ t e x (Err (Value f))
+  opens_without_memory : Opens μ t e x (Err Memory)
 
 -- a term that has begun at a first sample with the input x: itself, or what it refers to; or why it hasn't
-pub data BeginsAs (φ : AnswersByName) (p : Plan) (t : Term) (e : Environment) (x : Data) (a : State) : Result Begun Fault → Type 0 where
-  begins_itself : Prepared φ p a (closure t e) x [] → BeginsAs φ p t e x a (Ok begun.Itself)
-  begins_referred : {r : Reference} {P : Process} → t ≡ reference r → referred (network_of_plan φ p) r e ≡ answer P → Stands φ p a P [] → BeginsAs φ p t e x a (Ok begun.Referred)
-  begins_not : {f : Fault} → Opens φ p t e x (Err f) → BeginsAs φ p t e x a (Err f)
+pub data BeginsAs (μ : Machine) (t : Term) (e : Environment) (x : Data) (a : State) : Result Begun Fault → Type 0 where
+  begins_itself : Prepared μ a (closure t e) x [] → BeginsAs μ t e x a (Ok begun.Itself)
+  begins_referred : {r : Reference} {P : Process} → t ≡ reference r → referred (machine_network μ) r e ≡ answer P → Stands μ a P [] → BeginsAs μ t e x a (Ok begun.Referred)
+  begins_not : {f : Fault} → Opens μ t e x (Err f) → BeginsAs μ t e x a (Err f)
 
 -- States of terms before their first sample.
-pub data AllBegin (φ : AnswersByName) (p : Plan) (e : Environment) : List PlanId → List State → Type 0 where
-  none_begin : AllBegin φ p e [] []
+pub data AllBegin (μ : Machine) (e : Environment) : List PlanId → List State → Type 0 where
+  none_begin : AllBegin μ e [] []
   more_begin : {i : PlanId} {ids : List PlanId} {a : State} {bs : List State}
-      → Stands φ p a (closure (plan_tree p i) e) [] → AllBegin φ p e ids bs → AllBegin φ p e (i ∷ ids) (a ∷ bs)
+      → Stands μ a (closure (plan_tree μ.plan i) e) [] → AllBegin μ e ids bs → AllBegin μ e (i ∷ ids) (a ∷ bs)

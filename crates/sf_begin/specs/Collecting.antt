@@ -7,19 +7,19 @@ use Rattle.sf_expr.specs.Evaluation.{Evaluated, answer, ◌>>=◌, eval}
 use Rattle.sf_term.specs.Trees.{Term}
 use Rattle.sf_mean.specs.Lives.{Environment, Members, closure, scope_around}
 use Rattle.sf_mean.specs.Collections.{as_key, add, drop}
-use Rattle.sf_law.specs.declared.plan.Plan.{Plan}
 use Rattle.sf_state.specs.declared.state.Gathered.{Gathered}
 use Rattle.sf_state.specs.Held.{gathered_holding}
 use Rattle.sf_state.specs.Standing.{Gathers}
+use Rattle.sf_state.specs.Machine.{Machine}
 use Rattle.sf_begin.specs.Beginning.{Makes}
 
 -- states under keys are these members, of which no step has been lived
-abbrev pub HasMembers : AnswersByName → Plan → Gathered → Members → Type 0
-HasMembers φ p g ms = Gathers φ p (gathered_holding g) ms []
+abbrev pub HasMembers : Machine → Gathered → Members → Type 0
+HasMembers μ g ms = Gathers μ (gathered_holding g) ms []
 
 -- states under keys are the members that are made, or the fault is theirs
-abbrev pub MakesMembers : AnswersByName → Plan → Evaluated Members → Result Gathered Fault → Type 0
-MakesMembers φ p w r = Makes (HasMembers φ p) w r
+abbrev pub MakesMembers : Machine → Evaluated Members → Result Gathered Fault → Type 0
+MakesMembers μ w r = Makes (HasMembers μ) w r
 
 -- members with a term added under the key that an expression is worth in an environment
 abbrev pub added_under : AnswersByName → Expression → Term → Environment → Members → Evaluated Members

@@ -3,7 +3,6 @@ use Rattle.std.specs.Prelude.{ℕ, List, [], ◌∷◌, ◌++◌, Option, Some, 
 use Rattle.std.specs.List.{remove}
 use Rattle.std.specs.Option.{unwrap_or}
 use Rattle.sf_value.specs.Values.{Data}
-use Rattle.sf_func.specs.Registries.{AnswersByName}
 use Rattle.sf_expr.specs.Arena.{stored_pattern, name_at}
 use Rattle.sf_expr.specs.Patterns.{pattern_of}
 use Rattle.sf_expr.specs.Evaluation.{Evaluated}
@@ -15,6 +14,7 @@ use Rattle.sf_state.specs.declared.state.Gathered.{Gathered}
 use Rattle.sf_state.specs.declared.state.Editing.{Editing}
 use Rattle.sf_state.specs.Held.{Holding}
 use Rattle.sf_state.specs.Standing.{Gathers}
+use Rattle.sf_state.specs.Machine.{Machine}
 use Rattle.sf_begin.specs.declared.drafting.Change.{Change}
 use Rattle.sf_begin.specs.declared.drafting.Change.TheVariants.{Put, Add, Take}
 use Rattle.sf_begin.specs.declared.drafting.Draft.{Draft}
@@ -47,5 +47,5 @@ abbrev pub around_edit : Plan → Editing → Data → Members → Environment �
 around_edit p k v fs e = bind (pattern_of (stored_pattern (plan_expressions p) k.pattern)) v (collected (name_at (plan_expressions p) k.name) fs e)
 
 -- members that were made, of which no step has been lived, are held
-abbrev pub Lays : AnswersByName → Plan → Evaluated Members → Holding → Type 0
-Lays φ p w h = Makes (λ (h : Holding) ms. Gathers φ p h ms []) w (Ok h)
+abbrev pub Lays : Machine → Evaluated Members → Holding → Type 0
+Lays μ w h = Makes (λ (h : Holding) ms. Gathers μ h ms []) w (Ok h)

@@ -9,8 +9,9 @@ ghost use Rattle.sf_mean.specs.Lives.{Environment, closure, empty, base, process
 ghost use Rattle.sf_mean.specs.Lives;
 ghost use Rattle.sf_mean.specs.Meaning.{argued, process_called};
 ghost use Rattle.sf_state.specs.Standing.{IsNames, AreGiven, IsHanded, IsProcess, Stands};
+ghost use Rattle.sf_state.specs.Machine.{machine};
 ghost use Rattle.sf_begin.specs.Beginning.{Makes, GivesOne};
-ghost use Rattle.sf_begin.specs.Contexts.{plan_in};
+ghost use Rattle.sf_begin.specs.Contexts.{context_machine, plan_in};
 
 use crate::collecting::collect;
 use crate::context::{SampleContext, constant_in, fault_of};
@@ -34,8 +35,8 @@ pub(crate) fn started(
     name: NameId,
 ) -> Result<State, AllocError>
     requires { IsTrue (start_asked false (plan_asks plan.now (name_at (plan_expressions plan.now) name)) start) }
-    ensures { IfOk result (λ process. (φ : AnswersByName) (e : Environment) → IsNames φ plan.now names.now e →
-        Stands φ plan.now process (process_started start (name_at (plan_expressions plan.now) name) e) []) }
+    ensures { IfOk result (λ process. (φ : AnswersByName) (e : Environment) → IsNames (machine φ plan.now) names.now e →
+        Stands (machine φ plan.now) process (process_started start (name_at (plan_expressions plan.now) name) e) []) }
 {
     match start {
         Start::Fresh => Ok(State::Unborn(began(plan, names, name, name)?)),
@@ -53,8 +54,8 @@ pub(crate) fn started(
 #[inline(always)]
 fn began(plan: &Plan, names: &Env, name: NameId, under: NameId) -> Result<Process, AllocError>
     ensures { let x = plan_expressions plan.now in
-        IfOk result (λ process. (φ : AnswersByName) (e : Environment) → IsNames φ plan.now names.now e → IsTrue (plan_asks plan.now (name_at x under)) → IsTrue (plan_asks plan.now (name_at x name)) →
-        IsProcess φ plan.now process (base (process_of (name_at x name) e))) }
+        IfOk result (λ process. (φ : AnswersByName) (e : Environment) → IsNames (machine φ plan.now) names.now e → IsTrue (plan_asks plan.now (name_at x under)) → IsTrue (plan_asks plan.now (name_at x name)) →
+        IsProcess (machine φ plan.now) process (base (process_of (name_at x name) e))) }
 {
     match names.running(plan, name) {
         Some(handed) => kept(plan, under, &handed.base),
@@ -67,7 +68,7 @@ fn began(plan: &Plan, names: &Env, name: NameId, under: NameId) -> Result<Proces
 
 // The same process, shared, where the plan asks what a process of this name began as; else anything.
 fn kept(plan: &Plan, name: NameId, process: &Process) -> Result<Process, AllocError>
-    ensures { IfOk result (λ same. (φ : AnswersByName) (P : Lives.Process) → IsTrue (plan_asks plan.now (name_at (plan_expressions plan.now) name)) → IsProcess φ plan.now process.now P → IsProcess φ plan.now same P) }
+    ensures { IfOk result (λ same. (φ : AnswersByName) (P : Lives.Process) → IsTrue (plan_asks plan.now (name_at (plan_expressions plan.now) name)) → IsProcess (machine φ plan.now) process.now P → IsProcess (machine φ plan.now) same P) }
 {
     if plan.asks(name) {
         process.share()
@@ -91,8 +92,8 @@ pub(crate) fn called<R: Holds>(
 ) -> Result<State, Fault>
     requires coded { All (IsCodedArgument (plan_expressions (plan_in context.now))) arguments.now }
     requires asked { IsTrue (arguments_asked (plan_expressions (plan_in context.now)) (plan_asks (plan_in context.now)) (header_at (plan_in context.now) id).parameters arguments.now) }
-    ensures { (e : Environment) → IsNames (R.answers context.now.functions.now) (plan_in context.now) names.now e →
-        Makes (λ a P. Stands (R.answers context.now.functions.now) (plan_in context.now) a P [])
+    ensures { (e : Environment) → IsNames (context_machine R.answers context.now) names.now e →
+        Makes (λ a P. Stands (context_machine R.answers context.now) a P [])
         (process_called (R.answers context.now.functions.now) (Some (plan_template (plan_in context.now) (header_at (plan_in context.now) id))) (plan_arguments (plan_in context.now) arguments.now) e) result }
 {
     let template = context.plan.template(id);
@@ -120,8 +121,8 @@ fn bound_names<R: Holds>(
     requires bound { BindsNames (plan_expressions (plan_in context.now)) template.now }
     requires coded { All (IsCodedArgument (plan_expressions (plan_in context.now))) arguments.now }
     requires asked { IsTrue (arguments_asked (plan_expressions (plan_in context.now)) (plan_asks (plan_in context.now)) template.now.parameters arguments.now) }
-    ensures { (e : Environment) → IsNames (R.answers context.now.functions.now) (plan_in context.now) names.now e →
-        Makes (IsNames (R.answers context.now.functions.now) (plan_in context.now))
+    ensures { (e : Environment) → IsNames (context_machine R.answers context.now) names.now e →
+        Makes (IsNames (context_machine R.answers context.now))
         (argued (R.answers context.now.functions.now) (map (plan_binding (plan_in context.now)) template.now.parameters) (plan_arguments (plan_in context.now) arguments.now) e empty) result }
 {
     let parameters = template.parameters();
@@ -143,8 +144,8 @@ fn one_inside_another<R: Holds>(
     requires bound { All (BindsName (plan_expressions (plan_in context.now))) parameters.now }
     requires coded { All (IsCodedArgument (plan_expressions (plan_in context.now))) arguments.now }
     requires asked { IsTrue (arguments_asked (plan_expressions (plan_in context.now)) (plan_asks (plan_in context.now)) parameters.now arguments.now) }
-    ensures { (e : Environment) → IsNames (R.answers context.now.functions.now) (plan_in context.now) names.now e →
-        Makes (IsNames (R.answers context.now.functions.now) (plan_in context.now))
+    ensures { (e : Environment) → IsNames (context_machine R.answers context.now) names.now e →
+        Makes (IsNames (context_machine R.answers context.now))
         (argued (R.answers context.now.functions.now) (map (plan_binding (plan_in context.now)) parameters.now) (plan_arguments (plan_in context.now) arguments.now) e empty) result }
 {
     let mut bound = Env::Empty;
@@ -167,8 +168,8 @@ fn side_by_side<R: Holds>(
     requires long { length arguments.now ≡ length parameters.now }
     requires coded { All (IsCodedArgument (plan_expressions (plan_in context.now))) arguments.now }
     requires asked { IsTrue (arguments_asked (plan_expressions (plan_in context.now)) (plan_asks (plan_in context.now)) parameters.now arguments.now) }
-    ensures { (e : Environment) → IsNames (R.answers context.now.functions.now) (plan_in context.now) names.now e →
-        Makes (IsNames (R.answers context.now.functions.now) (plan_in context.now))
+    ensures { (e : Environment) → IsNames (context_machine R.answers context.now) names.now e →
+        Makes (IsNames (context_machine R.answers context.now))
         (argued (R.answers context.now.functions.now) (map (plan_binding (plan_in context.now)) parameters.now) (plan_arguments (plan_in context.now) arguments.now) e empty) result }
 {
     let mut given = Vec::with_capacity(context.alloc, arguments.len())?;
@@ -187,8 +188,8 @@ fn bind<R: Holds>(
     bound: &Env,
 ) -> Result<Env, AllocError>
     requires { BindsName (plan_expressions (plan_in context.now)) parameter.now }
-    ensures { IfOk result (λ inner. (φ : AnswersByName) (d e : Environment) → IsNames φ (plan_in context.now) bound.now d →
-        AreGiven φ (plan_in context.now) (name_at (plan_expressions (plan_in context.now)) parameter.now.name ∷ []) (given ∷ []) d e → IsNames φ (plan_in context.now) inner e) }
+    ensures { IfOk result (λ inner. (φ : AnswersByName) (d e : Environment) → IsNames (machine φ (plan_in context.now)) bound.now d →
+        AreGiven (machine φ (plan_in context.now)) (name_at (plan_expressions (plan_in context.now)) parameter.now.name ∷ []) (given ∷ []) d e → IsNames (machine φ (plan_in context.now)) inner e) }
 {
     match given {
         Given::Value(value) => {
@@ -211,7 +212,7 @@ fn given_by<R: Holds>(
 ) -> Result<Given, Fault>
     requires coded { IsCodedArgument (plan_expressions (plan_in context.now)) argument.now }
     requires asked { let x = plan_expressions (plan_in context.now) in IsTrue (argument_asked x (plan_asks (plan_in context.now)) (name_at x parameter.now.name) argument.now) }
-    ensures { GivesOne (R.answers context.now.functions.now) (plan_in context.now) parameter.now argument.now names.now result }
+    ensures { GivesOne (context_machine R.answers context.now) parameter.now argument.now names.now result }
 {
     match argument {
         PlanArgument::Value(_, code) => match constant_in(context, code, names) {
@@ -244,8 +245,8 @@ fn handed_on<R: Holds>(
 ) -> Result<Handed, AllocError>
     requires { let p = plan_in context.now in
         IsTrue (start_asked (plan_asks p (name_at (plan_expressions p) parameter.now.name)) (plan_asks p (name_at (plan_expressions p) name)) start) }
-    ensures { IfOk result (λ handed. (φ : AnswersByName) (e : Environment) → IsNames φ (plan_in context.now) names.now e →
-        IsHanded φ (plan_in context.now) (name_at (plan_expressions (plan_in context.now)) parameter.now.name) handed (process_started start (name_at (plan_expressions (plan_in context.now)) name) e)) }
+    ensures { IfOk result (λ handed. (φ : AnswersByName) (e : Environment) → IsNames (machine φ (plan_in context.now)) names.now e →
+        IsHanded (machine φ (plan_in context.now)) (name_at (plan_expressions (plan_in context.now)) parameter.now.name) handed (process_started start (name_at (plan_expressions (plan_in context.now)) name) e)) }
 {
     let under = parameter.name();
     let base = began(context.plan, names, name, under)?;
@@ -261,7 +262,7 @@ fn closed(
     term: PlanId,
     names: &Env,
 ) -> Result<Handed, AllocError>
-    ensures { IfOk result (λ handed. (φ : AnswersByName) (e : Environment) → IsNames φ plan.now names.now e → IsHanded φ plan.now (name_at (plan_expressions plan.now) parameter.now.name) handed (closure (plan_tree plan.now term) e)) }
+    ensures { IfOk result (λ handed. (φ : AnswersByName) (e : Environment) → IsNames (machine φ plan.now) names.now e → IsHanded (machine φ plan.now) (name_at (plan_expressions plan.now) parameter.now.name) handed (closure (plan_tree plan.now term) e)) }
 {
     let process = Process::within(alloc, plan, term, names)?;
     let under = parameter.name();

@@ -16,9 +16,10 @@ ghost use Rattle.sf_mean.specs.Collections;
 ghost use Rattle.sf_law.specs.Arena.{plan_collection, plan_expressions, plan_tree};
 ghost use Rattle.sf_law.specs.Entries.{IsCodedCollection};
 ghost use Rattle.sf_state.specs.Standing.{IsNames};
+ghost use Rattle.sf_state.specs.Machine.{machine};
 ghost use Rattle.sf_begin.specs.Beginning.{Makes};
 ghost use Rattle.sf_begin.specs.Collecting.{HasMembers, MakesMembers, added_under, dropped_under};
-ghost use Rattle.sf_begin.specs.Contexts.{plan_in};
+ghost use Rattle.sf_begin.specs.Contexts.{context_machine, plan_in};
 
 use crate::context::{SampleContext, constant_in, fault_of};
 use crate::placing::{with_member, without_member};
@@ -41,8 +42,8 @@ pub fn collect<R: Holds>(
     collection: &PlanCollection,
     names: &Env,
 ) -> Result<Gathered, Fault>
-    ensures { (e : Environment) → IsNames (R.answers context.now.functions.now) (plan_in context.now) names.now e → IsCodedCollection (plan_expressions (plan_in context.now)) collection.now →
-        MakesMembers (R.answers context.now.functions.now) (plan_in context.now)
+    ensures { (e : Environment) → IsNames (context_machine R.answers context.now) names.now e → IsCodedCollection (plan_expressions (plan_in context.now)) collection.now →
+        MakesMembers (context_machine R.answers context.now)
         (Collections.collect (R.answers context.now.functions.now) (plan_collection (plan_in context.now) collection.now) e) result }
 {
     match collection {
@@ -73,8 +74,8 @@ pub fn collect<R: Holds>(
 
 // The members of a name, shared; none where the name stands for no collection.
 fn of_name(alloc: Global, plan: &Plan, name: NameId, names: &Env) -> Result<Gathered, AllocError>
-    ensures { IfOk result (λ members. (φ : AnswersByName) (e : Environment) → IsNames φ plan.now names.now e →
-        HasMembers φ plan.now members (members_of (name_at (plan_expressions plan.now) name) e)) }
+    ensures { IfOk result (λ members. (φ : AnswersByName) (e : Environment) → IsNames (machine φ plan.now) names.now e →
+        HasMembers (machine φ plan.now) members (members_of (name_at (plan_expressions plan.now) name) e)) }
 {
     match names.members(plan, name) {
         Some(members) => members.share(),
@@ -90,8 +91,8 @@ fn with_added<R: Holds>(
     term: PlanId,
     names: &Env,
 ) -> Result<Gathered, Fault>
-    ensures { let φ = R.answers context.now.functions.now in (j : Expression) (e : Environment) (ms : Members) → IsCodeOf (plan_expressions (plan_in context.now)) j code.now → IsNames φ (plan_in context.now) names.now e → HasMembers φ (plan_in context.now) members ms →
-        MakesMembers φ (plan_in context.now) (added_under φ j (plan_tree (plan_in context.now) term) e ms) result }
+    ensures { let φ = R.answers context.now.functions.now in (j : Expression) (e : Environment) (ms : Members) → IsCodeOf (plan_expressions (plan_in context.now)) j code.now → IsNames (machine φ (plan_in context.now)) names.now e → HasMembers (machine φ (plan_in context.now)) members ms →
+        MakesMembers (machine φ (plan_in context.now)) (added_under φ j (plan_tree (plan_in context.now) term) e ms) result }
 {
     match constant_in(context, code, names) {
         Ok(value) => {
@@ -111,8 +112,8 @@ fn without_dropped<R: Holds>(
     code: &OpenCode,
     names: &Env,
 ) -> Result<Gathered, Fault>
-    ensures { let φ = R.answers context.now.functions.now in (j : Expression) (e : Environment) (ms : Members) → IsCodeOf (plan_expressions (plan_in context.now)) j code.now → IsNames φ (plan_in context.now) names.now e → HasMembers φ (plan_in context.now) members ms →
-        MakesMembers φ (plan_in context.now) (dropped_under φ j e ms) result }
+    ensures { let φ = R.answers context.now.functions.now in (j : Expression) (e : Environment) (ms : Members) → IsCodeOf (plan_expressions (plan_in context.now)) j code.now → IsNames (machine φ (plan_in context.now)) names.now e → HasMembers (machine φ (plan_in context.now)) members ms →
+        MakesMembers (machine φ (plan_in context.now)) (dropped_under φ j e ms) result }
 {
     match constant_in(context, code, names) {
         Ok(value) => {
@@ -130,9 +131,9 @@ fn keep_members<R: Holds>(
     code: &OpenCode,
     names: &Env,
 ) -> Result<Gathered, Fault>
-    ensures { let φ = R.answers context.now.functions.now in (f : Function) (e : Environment) (ms : Members) → IsCodeOfFunction (plan_expressions (plan_in context.now)) f code.now → IsNames φ (plan_in context.now) names.now e →
-        HasMembers φ (plan_in context.now) members ms →
-        MakesMembers φ (plan_in context.now) (keep (λ x. Evaluation.apply f x (scope_around φ e)) ms) result }
+    ensures { let φ = R.answers context.now.functions.now in (f : Function) (e : Environment) (ms : Members) → IsCodeOfFunction (plan_expressions (plan_in context.now)) f code.now → IsNames (machine φ (plan_in context.now)) names.now e →
+        HasMembers (machine φ (plan_in context.now)) members ms →
+        MakesMembers (machine φ (plan_in context.now)) (keep (λ x. Evaluation.apply f x (scope_around φ e)) ms) result }
 {
     let alloc = context.alloc;
     let plan = context.plan;
@@ -178,7 +179,7 @@ pub(crate) fn is_met<R: Holds>(
     code: &OpenCode,
     names: &Env,
 ) -> Result<bool, Fault>
-    ensures { let φ = R.answers context.now.functions.now in (j : Expression) (e : Environment) → IsCodeOf (plan_expressions (plan_in context.now)) j code.now → IsNames φ (plan_in context.now) names.now e →
+    ensures { let φ = R.answers context.now.functions.now in (j : Expression) (e : Environment) → IsCodeOf (plan_expressions (plan_in context.now)) j code.now → IsNames (machine φ (plan_in context.now)) names.now e →
         Makes (λ b v. b ≡ Formulas.is_high v) (eval j (scope_around φ e)) result }
 {
     match constant_in(context, code, names) {

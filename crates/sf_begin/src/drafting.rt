@@ -3,7 +3,6 @@ ghost use Rattle.std.specs.Prelude.{◌≡◌, [], ◌∷◌, ◌++◌, ℕ, Lis
 ghost use Rattle.std.specs.List.{remove};
 ghost use Rattle.sf_value.specs.Values.{Data};
 ghost use Rattle.sf_value.specs.View.{key_of};
-ghost use Rattle.sf_func.specs.Registries.{AnswersByName};
 ghost use Rattle.sf_expr.specs.Arena.{stored_pattern, name_at};
 ghost use Rattle.sf_expr.specs.Evaluation.{apply};
 ghost use Rattle.sf_expr.specs.Expressions.{Expression, Function};
@@ -17,6 +16,7 @@ ghost use Rattle.sf_law.specs.Arena.{plan_collection, plan_expressions, plan_tre
 ghost use Rattle.sf_law.specs.Entries.{IsCodedCollection};
 ghost use Rattle.sf_state.specs.declared.state.State as state_forms;
 ghost use Rattle.sf_state.specs.Standing.{IsNames, Stands, Gathers};
+ghost use Rattle.sf_state.specs.Machine.{Machine, machine};
 ghost use Rattle.sf_begin.specs.Contexts.{plan_in, dt_in};
 ghost use Rattle.sf_begin.specs.Collecting.{added_under, dropped_under};
 ghost use Rattle.sf_begin.specs.Drafting.{laid_over, drafted, frozen_over, around_edit, Lays};
@@ -66,9 +66,9 @@ pub fn draft_of<R: Holds>(
     names: &Env,
 ) -> Result<Option<Draft>, Fault>
     ensures { let φ = R.answers context.now.functions.now in let p = plan_in context.now in
-        IfOk result (λ o. IfSome o (λ draft. (fs : Members) (v : Data) (e : Environment) → IsNames φ p names.now (around_edit p editing.now v fs e) → IsCodedCollection (plan_expressions p) collection.now →
-        Gathers φ p (frozen_over editing.now.members (dt_in context.now)) fs [] →
-        Lays φ p (collect φ (plan_collection p collection.now) (around_edit p editing.now v fs e)) (drafted editing.now.members (dt_in context.now) draft))) }
+        IfOk result (λ o. IfSome o (λ draft. (fs : Members) (v : Data) (e : Environment) → IsNames (machine φ p) names.now (around_edit p editing.now v fs e) → IsCodedCollection (plan_expressions p) collection.now →
+        Gathers (machine φ p) (frozen_over editing.now.members (dt_in context.now)) fs [] →
+        Lays (machine φ p) (collect φ (plan_collection p collection.now) (around_edit p editing.now v fs e)) (drafted editing.now.members (dt_in context.now) draft))) }
 {
     match collection {
         PlanCollection::Used(name) => {
@@ -132,8 +132,8 @@ fn with_added<R: Holds>(
     names: &Env,
 ) -> Result<Draft, Fault>
     ensures { let φ = R.answers context.now.functions.now in let p = plan_in context.now in
-        IfOk result (λ more. (j : Expression) (e : Environment) (bs : List state_forms.State) (w : Option ℕ) (ms : Members) → IsCodeOf (plan_expressions p) j code.now → IsNames φ p names.now e → Gathers φ p (laid_over bs w made) ms [] →
-        Lays φ p (added_under φ j (plan_tree p term) e ms) (laid_over bs w more)) }
+        IfOk result (λ more. (j : Expression) (e : Environment) (bs : List state_forms.State) (w : Option ℕ) (ms : Members) → IsCodeOf (plan_expressions p) j code.now → IsNames (machine φ p) names.now e → Gathers (machine φ p) (laid_over bs w made) ms [] →
+        Lays (machine φ p) (added_under φ j (plan_tree p term) e ms) (laid_over bs w more)) }
 {
     match constant_in(context, code, names) {
         Ok(value) => {
@@ -154,8 +154,8 @@ fn without_dropped<R: Holds>(
     names: &Env,
 ) -> Result<Draft, Fault>
     ensures { let φ = R.answers context.now.functions.now in let p = plan_in context.now in
-        IfOk result (λ left. (j : Expression) (e : Environment) (bs : List state_forms.State) (w : Option ℕ) (ms : Members) → IsCodeOf (plan_expressions p) j code.now → IsNames φ p names.now e → Gathers φ p (laid_over bs w made) ms [] →
-        Lays φ p (dropped_under φ j e ms) (laid_over bs w left)) }
+        IfOk result (λ left. (j : Expression) (e : Environment) (bs : List state_forms.State) (w : Option ℕ) (ms : Members) → IsCodeOf (plan_expressions p) j code.now → IsNames (machine φ p) names.now e → Gathers (machine φ p) (laid_over bs w made) ms [] →
+        Lays (machine φ p) (dropped_under φ j e ms) (laid_over bs w left)) }
 {
     match constant_in(context, code, names) {
         Ok(value) => {
@@ -175,8 +175,8 @@ fn without_unkept<R: Holds>(
     names: &Env,
 ) -> Result<Option<Draft>, Fault>
     ensures { let φ = R.answers context.now.functions.now in let p = plan_in context.now in
-        IfOk result (λ o. IfSome o (λ left. (f : Function) (e : Environment) (bs : List state_forms.State) (w : Option ℕ) (ms : Members) → IsCodeOfFunction (plan_expressions p) f code.now → IsNames φ p names.now e → Gathers φ p (laid_over bs w made) ms [] →
-        Lays φ p (keep (λ x. apply f x (scope_around φ e)) ms) (laid_over bs w left))) }
+        IfOk result (λ o. IfSome o (λ left. (f : Function) (e : Environment) (bs : List state_forms.State) (w : Option ℕ) (ms : Members) → IsCodeOfFunction (plan_expressions p) f code.now → IsNames (machine φ p) names.now e → Gathers (machine φ p) (laid_over bs w made) ms [] →
+        Lays (machine φ p) (keep (λ x. apply f x (scope_around φ e)) ms) (laid_over bs w left))) }
 {
     let plan = context.plan;
     let around = code.frame(context.alloc, &NamesIn { plan, names })?;
@@ -209,8 +209,8 @@ fn take(left: &mut Draft, at: usize) -> Result<(), AllocError>
 
 // Members with one that begins: at the end, or in the place of the one under its key.
 fn with_change(alloc: Global, made: Draft, key: Key, state: State) -> Result<Draft, AllocError>
-    ensures { IfOk result (λ more. (φ : AnswersByName) (p : plans.Plan) (bs : List state_forms.State) (w : Option ℕ) (ms : Members) (P : Lives.Process) → Gathers φ p (laid_over bs w made) ms [] → Stands φ p state P [] →
-        Gathers φ p (laid_over bs w more) (add (key_of key) P ms) []) }
+    ensures { IfOk result (λ more. (μ : Machine) (bs : List state_forms.State) (w : Option ℕ) (ms : Members) (P : Lives.Process) → Gathers μ (laid_over bs w made) ms [] → Stands μ state P [] →
+        Gathers μ (laid_over bs w more) (add (key_of key) P ms) []) }
 {
     let Draft {
         mut keys,
@@ -234,8 +234,8 @@ fn with_change(alloc: Global, made: Draft, key: Key, state: State) -> Result<Dra
 
 // Members without the one under a key, if there is one.
 fn without_key(made: Draft, key: &Key) -> Result<Draft, AllocError>
-    ensures { IfOk result (λ left. (φ : AnswersByName) (p : plans.Plan) (bs : List state_forms.State) (w : Option ℕ) (ms : Members) → Gathers φ p (laid_over bs w made) ms [] →
-        Gathers φ p (laid_over bs w left) (drop (key_of key.now) ms) []) }
+    ensures { IfOk result (λ left. (μ : Machine) (bs : List state_forms.State) (w : Option ℕ) (ms : Members) → Gathers μ (laid_over bs w made) ms [] →
+        Gathers μ (laid_over bs w left) (drop (key_of key.now) ms) []) }
 {
     let Draft {
         mut keys,

@@ -10,7 +10,7 @@ ghost use Rattle.sf_expr.specs.Arena.{stored_pattern, name_at, function_at};
 ghost use Rattle.sf_expr.specs.Patterns.{pattern_of};
 ghost use Rattle.sf_term.specs.Trees.{Term};
 ghost use Rattle.sf_term.specs.Trees;
-ghost use Rattle.sf_law.specs.Arena.{plan_tree, plan_collection, plan_asks, plan_expressions, plan_expression_at, header_at, network_of_plan, BuildsPlan};
+ghost use Rattle.sf_law.specs.Arena.{plan_tree, plan_collection, plan_asks, plan_expressions, plan_expression_at, header_at, BuildsPlan};
 ghost use Rattle.sf_code.specs.Worth.{IsCodeOfFunction};
 ghost use Rattle.sf_law.specs.Entries.{IsCodedExpression, IsCodedArgument, IsCodedCollection};
 ghost use Rattle.sf_law.specs.Asking.{start_asked, arguments_asked};
@@ -20,8 +20,9 @@ ghost use Rattle.sf_law.specs.declared.node.PlanNode.TheVariants as NodeOf;
 ghost use Rattle.sf_law.specs.declared.plan.Plan as plans;
 ghost use Rattle.sf_mean.specs.Lives.{Environment};
 ghost use Rattle.sf_state.specs.Standing.{AreJoined, IsNames};
+ghost use Rattle.sf_state.specs.Machine.{Machine, machine, machine_network};
 ghost use Rattle.sf_begin.specs.Beginning.{Opens, WrapsAtFirst, BeginsAs, AllBegin, is_awake};
-ghost use Rattle.sf_begin.specs.Contexts.{plan_in};
+ghost use Rattle.sf_begin.specs.Contexts.{context_machine, plan_in};
 
 use crate::calling::{called, started};
 use crate::collecting::collect;
@@ -63,8 +64,8 @@ pub fn begin<R: Holds>(
     names: Env,
     input: &Value,
 ) -> Result<Begun, Fault>
-    ensures begins { (e : Environment) → IsNames (R.answers context.now.functions.now) (plan_in context.now) names e →
-        BeginsAs (R.answers context.now.functions.now) (plan_in context.now) (plan_tree (plan_in context.now) term) e input.now state.new result }
+    ensures begins { (e : Environment) → IsNames (context_machine R.answers context.now) names e →
+        BeginsAs (context_machine R.answers context.now) (plan_tree (plan_in context.now) term) e input.now state.new result }
     ensures awake { IfOk result (λ b. b ≡ Begun.Itself → IsTrue (is_awake state.new)) }
 {
     match open(context, term, &names, input) {
@@ -79,8 +80,8 @@ pub fn begin<R: Holds>(
 
 // A part that is opened, as a state that is prepared for its first sample, with the names around it.
 fn prepared(opened: Opened, names: Env) -> (State, Begun)
-    ensures begins { (φ : AnswersByName) (p : plans.Plan) (u : Term) (x : Data) → ((e : Environment) → IsNames φ p names e → Opens φ p u e x (Ok opened)) →
-        (e : Environment) → IsNames φ p names e → BeginsAs φ p u e x result.0 (Ok result.1) }
+    ensures begins { (μ : Machine) (u : Term) (x : Data) → ((e : Environment) → IsNames μ names e → Opens μ u e x (Ok opened)) →
+        (e : Environment) → IsNames μ names e → BeginsAs μ u e x result.0 (Ok result.1) }
     ensures awake { result.1 ≡ Begun.Itself → IsTrue (is_awake result.0) }
 {
     match opened {
@@ -118,8 +119,8 @@ fn open<R: Holds>(
     names: &Env,
     input: &Value,
 ) -> Result<Opened, Fault>
-    ensures { (e : Environment) → IsNames (R.answers context.now.functions.now) (plan_in context.now) names.now e →
-        Opens (R.answers context.now.functions.now) (plan_in context.now) (plan_tree (plan_in context.now) term) e input.now result }
+    ensures { (e : Environment) → IsNames (context_machine R.answers context.now) names.now e →
+        Opens (context_machine R.answers context.now) (plan_tree (plan_in context.now) term) e input.now result }
 {
     match context.plan.node(term) {
         PlanNode::Primitive(primitive) => open_primitive(context, primitive, names),
@@ -151,7 +152,7 @@ fn open_primitive<R: Holds>(
     names: &Env,
 ) -> Result<Opened, Fault>
     ensures { (t : Term) → BuildsPlan (plan_in context.now) (NodeOf.Primitive primitive.now) t → (x : Data) (e : Environment) →
-        IsNames (R.answers context.now.functions.now) (plan_in context.now) names.now e → Opens (R.answers context.now.functions.now) (plan_in context.now) t e x result }
+        IsNames (context_machine R.answers context.now) names.now e → Opens (context_machine R.answers context.now) t e x result }
 {
     let plan = context.plan;
     let around = NamesIn { plan, names };
@@ -164,7 +165,7 @@ fn open_primitive<R: Holds>(
 // A probe, which is the same before its first sample.
 #[inline(never)]
 fn probe(alloc: Global, name: &Rc<String>) -> Result<Opened, Fault>
-    ensures { (φ : AnswersByName) (p : plans.Plan) (t : Term) → BuildsPlan p (NodeOf.Probe name.now) t → (x : Data) (e : Environment) → Opens φ p t e x result }
+    ensures { (μ : Machine) (t : Term) → BuildsPlan μ.plan (NodeOf.Probe name.now) t → (x : Data) (e : Environment) → Opens μ t e x result }
 {
     let same = name.clone()?;
     let node = Rc::new(alloc, Live::Probe(same))?;
@@ -181,7 +182,7 @@ fn referred<R: Holds>(
 ) -> Result<Opened, Fault>
     requires { IsTrue (start_asked false (plan_asks (plan_in context.now) (name_at (plan_expressions (plan_in context.now)) name)) start) }
     ensures { (t : Term) → BuildsPlan (plan_in context.now) (NodeOf.Started start name) t → (x : Data) (e : Environment) →
-        IsNames (R.answers context.now.functions.now) (plan_in context.now) names.now e → Opens (R.answers context.now.functions.now) (plan_in context.now) t e x result }
+        IsNames (context_machine R.answers context.now) names.now e → Opens (context_machine R.answers context.now) t e x result }
 {
     let process = started(context.alloc, context.plan, names, start, name)?;
     Ok(Opened::Running(process))
@@ -198,7 +199,7 @@ fn call<R: Holds>(
     requires coded { All (IsCodedArgument (plan_expressions (plan_in context.now))) arguments.now }
     requires asked { IsTrue (arguments_asked (plan_expressions (plan_in context.now)) (plan_asks (plan_in context.now)) (header_at (plan_in context.now) template).parameters arguments.now) }
     ensures { (k : name_ids.NameId) (v : Prelude.Vec plan_argument_nodes.PlanArgument Global) (t : Term) → v.items ≡ arguments.now → BuildsPlan (plan_in context.now) (NodeOf.Call k template v) t → (x : Data) (e : Environment) →
-        IsNames (R.answers context.now.functions.now) (plan_in context.now) names.now e → Opens (R.answers context.now.functions.now) (plan_in context.now) t e x result }
+        IsNames (context_machine R.answers context.now) names.now e → Opens (context_machine R.answers context.now) t e x result }
 {
     let body = called(context, template, arguments, names)?;
     Ok(Opened::Running(body))
@@ -207,7 +208,7 @@ fn call<R: Holds>(
 // Stages before their first sample, with the names around them: two are joined, in one node.
 #[inline(never)]
 fn pipeline(alloc: Global, stages: &[PlanId], names: &Env) -> Result<Opened, Fault>
-    ensures { (φ : AnswersByName) (p : plans.Plan) (v : Prelude.Vec plan_ids.PlanId Global) (t : Term) → v.items ≡ stages.now → BuildsPlan p (NodeOf.Pipeline v) t → (x : Data) (e : Environment) → IsNames φ p names.now e → Opens φ p t e x result }
+    ensures { (μ : Machine) (v : Prelude.Vec plan_ids.PlanId Global) (t : Term) → v.items ≡ stages.now → BuildsPlan μ.plan (NodeOf.Pipeline v) t → (x : Data) (e : Environment) → IsNames μ names.now e → Opens μ t e x result }
 {
     if let Some((first, second)) = two_of(stages) {
         return joined(alloc, Join::InSequence, first, second, names);
@@ -236,8 +237,8 @@ fn joined(
     right: PlanId,
     names: &Env,
 ) -> Result<Opened, Fault>
-    ensures { (φ : AnswersByName) (p : plans.Plan) (t : Term) → AreJoined join (plan_tree p left) (plan_tree p right) t → (x : Data) (e : Environment) →
-        IsNames φ p names.now e → Opens φ p t e x result }
+    ensures { (μ : Machine) (t : Term) → AreJoined join (plan_tree μ.plan left) (plan_tree μ.plan right) t → (x : Data) (e : Environment) →
+        IsNames μ names.now e → Opens μ t e x result }
 {
     let one = names.share()?;
     let two = names.share()?;
@@ -263,8 +264,8 @@ fn headed<R: Holds>(
     names: &Env,
 ) -> Result<Opened, Fault>
     ensures { let p = plan_in context.now in (head : ExprId) (x : Data) (e : Environment) → IsCodedExpression (plan_expressions p) head code.now →
-        IsNames (R.answers context.now.functions.now) p names.now e →
-        Opens (R.answers context.now.functions.now) p (Trees.headed heading (plan_expression_at p head) (plan_tree p part)) e x result }
+        IsNames (context_machine R.answers context.now) names.now e →
+        Opens (context_machine R.answers context.now) (Trees.headed heading (plan_expression_at p head) (plan_tree p part)) e x result }
 {
     let worth = constant_in(context, code, names);
     match with_head(heading, worth) {
@@ -283,8 +284,8 @@ fn transformed<R: Holds>(
     input: &Value,
 ) -> Result<Opened, Fault>
     ensures { let p = plan_in context.now in (function : FunctionId) (e : Environment) → IsCodeOfFunction (plan_expressions p) (function_at (plan_expressions p) function) code.now →
-        IsNames (R.answers context.now.functions.now) p names.now e →
-        Opens (R.answers context.now.functions.now) p (Trees.transformed (function_at (plan_expressions p) function) (plan_tree p part)) e input.now result }
+        IsNames (context_machine R.answers context.now) names.now e →
+        Opens (context_machine R.answers context.now) (Trees.transformed (function_at (plan_expressions p) function) (plan_tree p part)) e input.now result }
 {
     match made_in(context, code, input, names) {
         Ok(first) => wrapped(context.alloc, Wrap::Replaced(Some(first)), part, names),
@@ -295,8 +296,8 @@ fn transformed<R: Holds>(
 // A switch before its first sample, with the names around it.
 #[inline(never)]
 fn switching(alloc: Global, form: &PlanSwitch, names: &Env) -> Result<Opened, Fault>
-    ensures { let s = form.now in (φ : AnswersByName) (p : plans.Plan) (x : Data) (e : Environment) → IsNames φ p names.now e →
-        Opens φ p (Trees.switching s.form (plan_tree p s.source) (pattern_of (stored_pattern (plan_expressions p) s.pattern)) (plan_tree p s.body)) e x result }
+    ensures { let s = form.now in (μ : Machine) (x : Data) (e : Environment) → IsNames μ names.now e →
+        Opens μ (Trees.switching s.form (plan_tree μ.plan s.source) (pattern_of (stored_pattern (plan_expressions μ.plan) s.pattern)) (plan_tree μ.plan s.body)) e x result }
 {
     let shared = names.share()?;
     let switch = Switch {
@@ -320,8 +321,8 @@ fn continuing(
     form: &PlanContinuation,
     names: &Env,
 ) -> Result<Opened, Fault>
-    ensures { let p = plan.now in let s = form.now in (φ : AnswersByName) (x : Data) (e : Environment) → IsNames φ p names.now e →
-        Opens φ p (Trees.continuing s.shown (plan_tree p s.source) (plan_tree p s.observer) (name_at (plan_expressions p) s.name) (pattern_of (stored_pattern (plan_expressions p) s.pattern)) (plan_tree p s.body))
+    ensures { let p = plan.now in let s = form.now in (φ : AnswersByName) (x : Data) (e : Environment) → IsNames (machine φ p) names.now e →
+        Opens (machine φ p) (Trees.continuing s.shown (plan_tree p s.source) (plan_tree p s.observer) (name_at (plan_expressions p) s.name) (pattern_of (stored_pattern (plan_expressions p) s.pattern)) (plan_tree p s.body))
         e x result }
 {
     let running = Process::within(alloc, plan, form.source, names)?;
@@ -351,7 +352,7 @@ fn gathered<R: Holds>(
     names: &Env,
 ) -> Result<Opened, Fault>
     ensures { let p = plan_in context.now in (x : Data) (e : Environment) → IsCodedCollection (plan_expressions p) members.now →
-        IsNames (R.answers context.now.functions.now) p names.now e → Opens (R.answers context.now.functions.now) p (Trees.gathered (plan_collection p members.now)) e x result }
+        IsNames (context_machine R.answers context.now) names.now e → Opens (context_machine R.answers context.now) (Trees.gathered (plan_collection p members.now)) e x result }
 {
     let all = collect(context, members, names)?;
     let node = Rc::new(context.alloc, Live::Gathered(all))?;
@@ -366,7 +367,7 @@ fn members_under<R: Holds>(
     names: &Env,
 ) -> Result<Opened, Fault>
     ensures { (t : Term) → BuildsPlan (plan_in context.now) (NodeOf.Releasing form.now) t → (x : Data) (e : Environment) →
-        IsNames (R.answers context.now.functions.now) (plan_in context.now) names.now e → Opens (R.answers context.now.functions.now) (plan_in context.now) t e x result }
+        IsNames (context_machine R.answers context.now) names.now e → Opens (context_machine R.answers context.now) t e x result }
 {
     let members = collect(context, &form.members, names)?;
     let before = members.share()?;
@@ -395,7 +396,7 @@ fn members_edited<R: Holds>(
     names: &Env,
 ) -> Result<Opened, Fault>
     ensures { (t : Term) → BuildsPlan (plan_in context.now) (NodeOf.Editing form.now) t → (x : Data) (e : Environment) →
-        IsNames (R.answers context.now.functions.now) (plan_in context.now) names.now e → Opens (R.answers context.now.functions.now) (plan_in context.now) t e x result }
+        IsNames (context_machine R.answers context.now) names.now e → Opens (context_machine R.answers context.now) t e x result }
 {
     let members = collect(context, &form.members, names)?;
     let edit = form.edit.clone()?;
@@ -412,7 +413,7 @@ fn members_edited<R: Holds>(
 
 // Stages before their first sample, with the names around them.
 fn begin_all(alloc: Global, stages: &[PlanId], names: &Env) -> Result<Vec<State>, AllocError>
-    ensures { IfOk result (λ begun. (φ : AnswersByName) (p : plans.Plan) (e : Environment) → IsNames φ p names.now e → AllBegin φ p e stages.now begun.items) }
+    ensures { IfOk result (λ begun. (μ : Machine) (e : Environment) → IsNames μ names.now e → AllBegin μ e stages.now begun.items) }
 {
     let mut begun = Vec::with_capacity(alloc, stages.len())?;
     for stage in stages {
@@ -428,8 +429,8 @@ fn begin_all(alloc: Global, stages: &[PlanId], names: &Env) -> Result<Vec<State>
 // A form with one part, before its first sample.
 #[inline(never)]
 fn wrapped(alloc: Global, wrap: Wrap, part: PlanId, names: &Env) -> Result<Opened, Fault>
-    ensures { (φ : AnswersByName) (p : plans.Plan) (t : Term) (x : Data) (e : Environment) → IsNames φ p names.now e →
-        WrapsAtFirst (network_of_plan φ p) t e x (plan_tree p part) (Ok wrap) → Opens φ p t e x result }
+    ensures { (μ : Machine) (t : Term) (x : Data) (e : Environment) → IsNames μ names.now e →
+        WrapsAtFirst (machine_network μ) t e x (plan_tree μ.plan part) (Ok wrap) → Opens μ t e x result }
 {
     let inner = names.share()?;
     let part = State::Unborn(Process {

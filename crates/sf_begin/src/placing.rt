@@ -3,11 +3,10 @@ ghost use Rattle.std.specs.Prelude.{◌≡◌, ◌<◌, [], length, set, Some, I
 ghost use Rattle.std.specs.List.{remove};
 ghost use Rattle.sf_value.specs.Values.{KeyData};
 ghost use Rattle.sf_value.specs.Keys.{key_of, key_index};
-ghost use Rattle.sf_func.specs.Registries.{AnswersByName};
-ghost use Rattle.sf_law.specs.declared.plan.Plan.{Plan};
 ghost use Rattle.sf_mean.specs.Lives.{Members, Process};
 ghost use Rattle.sf_mean.specs.Collections.{add, drop};
 ghost use Rattle.sf_state.specs.Standing.{Stands};
+ghost use Rattle.sf_state.specs.Machine.{Machine};
 ghost use Rattle.sf_begin.specs.Collecting.{HasMembers};
 
 use sf_state::{Gathered, State, own_states};
@@ -22,7 +21,7 @@ pub(crate) fn with_member(
     key: Key,
     state: State,
 ) -> Result<Gathered, AllocError>
-    ensures { IfOk result (λ more. (φ : AnswersByName) (p : Plan) (ms : Members) (P : Process) → HasMembers φ p members ms → Stands φ p state P [] → HasMembers φ p more (add (key_of key) P ms)) }
+    ensures { IfOk result (λ more. (μ : Machine) (ms : Members) (P : Process) → HasMembers μ members ms → Stands μ state P [] → HasMembers μ more (add (key_of key) P ms)) }
 {
     let Gathered { keys, states, wait } = members;
     let mut own = own_states(alloc, states)?;
@@ -49,7 +48,7 @@ pub(crate) fn without_member(
     members: Gathered,
     key: &Key,
 ) -> Result<Gathered, AllocError>
-    ensures { IfOk result (λ left. (φ : AnswersByName) (p : Plan) (ms : Members) → HasMembers φ p members ms → HasMembers φ p left (drop (key_of key.now) ms)) }
+    ensures { IfOk result (λ left. (μ : Machine) (ms : Members) → HasMembers μ members ms → HasMembers μ left (drop (key_of key.now) ms)) }
 {
     match members.keys.place(key) {
         Some(at) => without_place(alloc, members, at),
@@ -59,7 +58,7 @@ pub(crate) fn without_member(
 
 // Members without the one at a place.
 fn without_place(alloc: Global, members: Gathered, at: usize) -> Result<Gathered, AllocError>
-    ensures { IfOk result (λ left. (φ : AnswersByName) (p : Plan) (k : KeyData) (ms : Members) → key_index k members.keys.value ≡ Some at → HasMembers φ p members ms → HasMembers φ p left (drop k ms)) }
+    ensures { IfOk result (λ left. (μ : Machine) (k : KeyData) (ms : Members) → key_index k members.keys.value ≡ Some at → HasMembers μ members ms → HasMembers μ left (drop k ms)) }
 {
     let Gathered { keys, states, wait } = members;
     let mut less = own_keys(alloc, keys)?;

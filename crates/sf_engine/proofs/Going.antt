@@ -3,13 +3,12 @@ use Rattle.std.proofs.Common.{◌≡◌, ◌≢◌, ℕ, ◌+◌, Bool, true, fa
 use Rattle.std.proofs.lemmas.List.Elements.{All-nil, All-cons, All-head}
 use Rattle.sf_value.specs.Values.{Kind, Data, HasKind, number}
 use Rattle.sf_value.specs.declared.fault.Fault.{Fault}
-use Rattle.sf_func.specs.Registries.{AnswersByName}
-use Rattle.sf_law.specs.declared.plan.Plan.{Plan}
 use Rattle.sf_term.specs.Trees.{Template}
 use Rattle.sf_mean.specs.Lives.{Step, step, input_of, Life, time, closure, empty}
 use Rattle.sf_mean.specs.Meaning.{Network, gave, faulted, Gives}
 use Rattle.sf_state.specs.declared.state.State.{State}
 use Rattle.sf_state.specs.Standing.{Stands}
+use Rattle.sf_state.specs.Machine.{Machine, machine}
 use Rattle.sf_meter.specs.declared.meter.Meter.{Meter}
 use Rattle.sf_probe.specs.declared.reading.Readings.{Readings}
 use Rattle.sf_probe.specs.Readings.{probe_readings}
@@ -30,39 +29,39 @@ time-step d x (r ∷ L) h = refl
 -- an engine goes on at a history, with what it keeps
 pub runs_on : {F : Type 0} {h : _} {o e : Engine F h} {n : Network} {m : Template} {L K : Life} {S T : Saves} → Runs o n m L S
     → e.stopped ≡ o.stopped → e.plan ≡ o.plan → e.functions ≡ o.functions → e.input ≡ o.input
-    → Stands (h.answers o.functions) o.plan e.state (main_of_plan o.plan) K → e.time ≡ time K → e.last ≡ newest_input K → IsHistory m.input K
-    → AreSavesOf (h.answers o.functions) o.plan m e.saves.entries T → Runs e n m K T
+    → Stands (machine (h.answers o.functions) o.plan) e.state (main_of_plan o.plan) K → e.time ≡ time K → e.last ≡ newest_input K → IsHistory m.input K
+    → AreSavesOf (machine (h.answers o.functions) o.plan) m e.saves.entries T → Runs e n m K T
 runs_on {h = h} {o = o} {e = e} {n = n} {m = m} {K = K} {T = T} R stopped plan functions input stands at last H kept = record {
   goes_on = stopped ∙ R.goes_on;
-  plan = subst (λ f. IsRunFor (h.answers f) e.plan n m) (sym functions) (subst (λ p. IsRunFor (h.answers o.functions) p n m) (sym plan) R.plan);
+  plan = subst (λ f. IsRunFor (machine (h.answers f) e.plan) n m) (sym functions) (subst (λ p. IsRunFor (machine (h.answers o.functions) p) n m) (sym plan) R.plan);
   input = input ∙ R.input;
   state =
-      subst (λ f. Stands (h.answers f) e.plan e.state (main_of_plan e.plan) K) (sym functions)
-      (subst (λ p. Stands (h.answers o.functions) p e.state (main_of_plan p) K) (sym plan) stands);
+      subst (λ f. Stands (machine (h.answers f) e.plan) e.state (main_of_plan e.plan) K) (sym functions)
+      (subst (λ p. Stands (machine (h.answers o.functions) p) e.state (main_of_plan p) K) (sym plan) stands);
   time = at;
   last = last;
   history = H;
   saves =
-      subst (λ f. AreSavesOf (h.answers f) e.plan m e.saves.entries T) (sym functions)
-      (subst (λ p. AreSavesOf (h.answers o.functions) p m e.saves.entries T) (sym plan) kept);
+      subst (λ f. AreSavesOf (machine (h.answers f) e.plan) m e.saves.entries T) (sym functions)
+      (subst (λ p. AreSavesOf (machine (h.answers o.functions) p) m e.saves.entries T) (sym plan) kept);
 }
 
 -- an engine goes on to the end of a longer history
 pub goes_to : {F : Type 0} {h : _} {o e : Engine F h} {n : Network} {m : Template} {L : Life} {S : Saves} {d : ℕ} {x : Data} → Runs o n m L S → IsHistory m.input (step d x ∷ L)
     → e.plan ≡ o.plan → e.functions ≡ o.functions → e.input ≡ o.input → e.stopped ≡ o.stopped → e.saves ≡ o.saves → e.time ≡ o.time + d → e.last ≡ Some x
-    → Stands (h.answers o.functions) o.plan e.state (main_of_plan o.plan) (step d x ∷ L)
+    → Stands (machine (h.answers o.functions) o.plan) e.state (main_of_plan o.plan) (step d x ∷ L)
     → Runs e n m (step d x ∷ L) S
 goes_to {h = h} {o = o} {m = m} {L = L} {S = S} {d = d} {x = x} R H plan functions input stopped saves later last stands =
     runs_on R stopped plan functions input stands
     (later ∙ ap (λ t. t + d) R.time ∙ sym (time-step d x L H.begins))
     last
     H
-    (subst (λ s. AreSavesOf (h.answers o.functions) o.plan m s.entries S) (sym saves) R.saves)
+    (subst (λ s. AreSavesOf (machine (h.answers o.functions) o.plan) m s.entries S) (sym saves) R.saves)
 
 -- a value and readings are the sample's
-pub sampled_value : {F : Type 0} {h : _} {φ : AnswersByName} {p : Plan} {n : Network} {m : Template} {L : Life} {S : Saves} {y : Data} {r : Readings} {s : State} {t : Meter} {e : Engine F h} {z : Sample}
-    → IsRunFor φ p n m → Steps φ p (main_of_plan p) L (Ok (y, r)) s t
-    → (Stands φ p s (main_of_plan p) L → Runs e n m L S)
+pub sampled_value : {F : Type 0} {h : _} {μ : Machine} {n : Network} {m : Template} {L : Life} {S : Saves} {y : Data} {r : Readings} {s : State} {t : Meter} {e : Engine F h} {z : Sample}
+    → IsRunFor μ n m → Steps μ (main_of_plan μ.plan) L (Ok (y, r)) s t
+    → (Stands μ s (main_of_plan μ.plan) L → Runs e n m L S)
     → z.time ≡ e.time → z.value ≡ y → z.readings ≡ r → Sampled n m L S (Ok z) e
 sampled_value {n = n} {m = m} {L = L} {y = y} {r = r} {z = z} q (stepped {k = k} G entered high stands) f at value read =
     let c = q.no_more L (gave y (probe_readings r)) k G in
@@ -73,8 +72,8 @@ sampled_value {n = n} {m = m} {L = L} {y = y} {r = r} {z = z} q (stepped {k = k}
     (f stands)
 
 -- a fault stops the engine
-pub sampled_fault : {F : Type 0} {h : _} {φ : AnswersByName} {p : Plan} {n : Network} {m : Template} {L : Life} {S : Saves} {f : Fault} {s : State} {t : Meter} {e : Engine F h}
-    → IsRunFor φ p n m → Steps φ p (main_of_plan p) L (Err f) s t → IsStopped e f → Sampled n m L S (Err f) e
+pub sampled_fault : {F : Type 0} {h : _} {μ : Machine} {n : Network} {m : Template} {L : Life} {S : Saves} {f : Fault} {s : State} {t : Meter} {e : Engine F h}
+    → IsRunFor μ n m → Steps μ (main_of_plan μ.plan) L (Err f) s t → IsStopped e f → Sampled n m L S (Err f) e
 sampled_fault {L = L} q (faulted_so {x = x} {k = k} G entered high) stopped = had_fault (q.no_more L (faulted x) k G).1 stopped
 sampled_fault {L = L} q (too_large none within) stopped =
     was_large (λ o k G few low. let d = q.gives L o k G in none o d.0 d.1 (omega (arith, d.2, few)) (omega (arith, d.3, low))) stopped
@@ -94,8 +93,8 @@ IsHistory-none k = record {
 }
 
 -- an engine before its start
-pub goes_first : {F : Type 0} {h : _} {e : Engine F h} {n : Network} {m : Template} → e.stopped ≡ None → IsRunFor (h.answers e.functions) e.plan n m → e.input ≡ m.input
-    → Stands (h.answers e.functions) e.plan e.state (main_of_plan e.plan) [] → e.time ≡ 0 → e.last ≡ None → e.saves.entries ≡ []
+pub goes_first : {F : Type 0} {h : _} {e : Engine F h} {n : Network} {m : Template} → e.stopped ≡ None → IsRunFor (machine (h.answers e.functions) e.plan) n m → e.input ≡ m.input
+    → Stands (machine (h.answers e.functions) e.plan) e.state (main_of_plan e.plan) [] → e.time ≡ 0 → e.last ≡ None → e.saves.entries ≡ []
     → Runs e n m [] []
 goes_first {h = h} {e = e} {m = m} going plan input S at last saves = record {
   goes_on = going;
@@ -105,7 +104,7 @@ goes_first {h = h} {e = e} {m = m} going plan input S at last saves = record {
   time = at;
   last = last;
   history = IsHistory-none m.input;
-  saves = subst (λ vs. AreSavesOf (h.answers e.functions) e.plan m vs []) (sym saves) tt;
+  saves = subst (λ vs. AreSavesOf (machine (h.answers e.functions) e.plan) m vs []) (sym saves) tt;
 }
 
 -- the history after a start

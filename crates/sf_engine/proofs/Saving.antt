@@ -8,8 +8,7 @@ use Rattle.std.specs.declared.alloc.Global.{Global}
 use Rattle.std.proofs.lemmas.Slice.Zip.{AllZip-long}
 use Rattle.indexmap.specs.IndexMap.{insert_entry}
 use Rattle.sf_value.specs.Values.{Name, Data}
-use Rattle.sf_func.specs.Registries.{AnswersByName}
-use Rattle.sf_law.specs.declared.plan.Plan.{Plan}
+use Rattle.sf_state.specs.Machine.{Machine, machine}
 use Rattle.sf_term.specs.Trees.{Template}
 use Rattle.sf_mean.specs.Lives.{Life}
 use Rattle.sf_mean.specs.Meaning.{Network}
@@ -22,16 +21,16 @@ use Rattle.sf_engine.specs.Running.{IsSaveOf, AreSavesOf, Runs}
 abbrev pub kept_under : Name → List (String Global × Save) → Option Save
 kept_under name vs = lookup (λ k. bytes_eq name (string_bytes k)) vs
 
-module _ (φ : AnswersByName) (p : Plan) (m : Template) where
+module _ (μ : Machine) (m : Template) where
   -- what is kept, if anything is, stands for a history
   abbrev pub AreAlike : Option Save → Option Life → Type 0
   AreAlike None None = Unit {0}
   AreAlike None (Some K) = ⊥
   AreAlike (Some v) None = ⊥
-  AreAlike (Some v) (Some K) = IsSaveOf φ p m v K
+  AreAlike (Some v) (Some K) = IsSaveOf μ m v K
 
   -- what is found under a name
-  pub found_alike : (name : Name) (vs : List (String Global × Save)) (S : Saves) → AreSavesOf φ p m vs S → AreAlike (kept_under name vs) (saved_under name S)
+  pub found_alike : (name : Name) (vs : List (String Global × Save)) (S : Saves) → AreSavesOf μ m vs S → AreAlike (kept_under name vs) (saved_under name S)
   found_alike name [] [] kept = tt
   found_alike name (v ∷ vs) [] kept = absurd kept
   found_alike name [] (s ∷ S) kept = absurd kept
@@ -43,28 +42,28 @@ module _ (φ : AnswersByName) (p : Plan) (m : Template) where
       ])
 
   -- what is kept under a name, old or new
-  pub kept_alike : (name : Name) (k : String Global) (v : Save) (K : Life) (vs : List (String Global × Save)) (S : Saves) → string_bytes k ≡ name → IsSaveOf φ p m v K → AreSavesOf φ p m vs S
-      → AreSavesOf φ p m (insert_entry string_eq vs k v) (save_kept name K S)
+  pub kept_alike : (name : Name) (k : String Global) (v : Save) (K : Life) (vs : List (String Global × Save)) (S : Saves) → string_bytes k ≡ name → IsSaveOf μ m v K → AreSavesOf μ m vs S
+      → AreSavesOf μ m (insert_entry string_eq vs k v) (save_kept name K S)
   kept_alike name k v K [] [] same is kept = ((same, is), tt)
   kept_alike name k v K (w ∷ vs) [] same is kept = absurd kept
   kept_alike name k v K [] (s ∷ S) same is kept = absurd kept
   kept_alike name k v K (w ∷ vs) (s ∷ S) same is kept =
-      subst (λ x. AreSavesOf φ p m (insert_entry string_eq (w ∷ vs) k v) (cond (bytes_eq x s.0) ((s.0, K) ∷ S) (s ∷ save_kept name K S))) same
-      (subst (λ x. AreSavesOf φ p m (insert_entry string_eq (w ∷ vs) k v) (cond (bytes_eq (string_bytes k) x) ((s.0, K) ∷ S) (s ∷ save_kept name K S))) kept.0.0
-      (elim (bytes_eq (string_bytes k) (string_bytes w.0)) as (λ b. AreSavesOf φ p m (cond b ((w.0, v) ∷ vs) (w ∷ insert_entry string_eq vs k v)) (cond b ((s.0, K) ∷ S) (s ∷ save_kept name K S))) [
+      subst (λ x. AreSavesOf μ m (insert_entry string_eq (w ∷ vs) k v) (cond (bytes_eq x s.0) ((s.0, K) ∷ S) (s ∷ save_kept name K S))) same
+      (subst (λ x. AreSavesOf μ m (insert_entry string_eq (w ∷ vs) k v) (cond (bytes_eq (string_bytes k) x) ((s.0, K) ∷ S) (s ∷ save_kept name K S))) kept.0.0
+      (elim (bytes_eq (string_bytes k) (string_bytes w.0)) as (λ b. AreSavesOf μ m (cond b ((w.0, v) ∷ vs) (w ∷ insert_entry string_eq vs k v)) (cond b ((s.0, K) ∷ S) (s ∷ save_kept name K S))) [
         | true ↦ ((kept.0.0, is), kept.1)
         | false ↦ (kept.0, kept_alike name k v K vs S same is kept.1)
       ]))
 
   -- as many are kept as there are names
-  pub kept_length : (vs : List (String Global × Save)) (S : Saves) → AreSavesOf φ p m vs S → length S ≡ length vs
-  kept_length vs S kept = AllZip-long (λ v s. (string_bytes v.0 ≡ s.0) × IsSaveOf φ p m v.1 s.1) vs S kept
+  pub kept_length : (vs : List (String Global × Save)) (S : Saves) → AreSavesOf μ m vs S → length S ≡ length vs
+  kept_length vs S kept = AllZip-long (λ v s. (string_bytes v.0 ≡ s.0) × IsSaveOf μ m v.1 s.1) vs S kept
 
   -- What is kept stands for the history that is saved.
   pub record Finds (v : Save) (q : Option Life) : Type 0 where
     pub life : Life
     pub found : q ≡ Some life
-    pub save : IsSaveOf φ p m v life
+    pub save : IsSaveOf μ m v life
 
   pub found_some : (v : Save) (q : Option Life) → AreAlike (Some v) q → Finds v q
   found_some v None alike = absurd alike
@@ -109,31 +108,31 @@ no_place name S b absent tested may = absurd (let t : b ≡ true = tested.1 may 
 -- Engines over functions that are held by name.
 module _ {F : Type 0} {h : _} {e : Engine F h} {n : Network} {m : Template} {L : Life} {S : Saves} where
   -- a look-up, and the history that it stands for
-  looked_up : Runs e n m L S → (name : Name) (o : Option Save) → o ≡ kept_under name e.saves.entries → AreAlike (h.answers e.functions) e.plan m o (saved_under name S)
+  looked_up : Runs e n m L S → (name : Name) (o : Option Save) → o ≡ kept_under name e.saves.entries → AreAlike (machine (h.answers e.functions) e.plan) m o (saved_under name S)
   looked_up R name o is =
-      subst (λ v. AreAlike (h.answers e.functions) e.plan m v (saved_under name S)) (sym is)
-      (found_alike (h.answers e.functions) e.plan m name e.saves.entries S R.saves)
+      subst (λ v. AreAlike (machine (h.answers e.functions) e.plan) m v (saved_under name S)) (sym is)
+      (found_alike (machine (h.answers e.functions) e.plan) m name e.saves.entries S R.saves)
 
-  pub finds_some : Runs e n m L S → (name : Name) (v : Save) → Some v ≡ kept_under name e.saves.entries → Finds (h.answers e.functions) e.plan m v (saved_under name S)
-  finds_some R name v is = found_some (h.answers e.functions) e.plan m v (saved_under name S) (looked_up R name (Some v) is)
+  pub finds_some : Runs e n m L S → (name : Name) (v : Save) → Some v ≡ kept_under name e.saves.entries → Finds (machine (h.answers e.functions) e.plan) m v (saved_under name S)
+  finds_some R name v is = found_some (machine (h.answers e.functions) e.plan) m v (saved_under name S) (looked_up R name (Some v) is)
 
   pub finds_none : Runs e n m L S → (name : Name) → None ≡ kept_under name e.saves.entries → saved_under name S ≡ None
-  finds_none R name is = found_none (h.answers e.functions) e.plan m (saved_under name S) (looked_up R name None is)
+  finds_none R name is = found_none (machine (h.answers e.functions) e.plan) m (saved_under name S) (looked_up R name None is)
 
   -- each history that an engine keeps has begun
   pub saved_lived : Runs e n m L S → (name : Name) (K : Life) → saved_under name S ≡ Some K → K ≢ []
   saved_lived R name K found =
-      (elim (kept_under name e.saves.entries) as (λ o. AreAlike (h.answers e.functions) e.plan m o (Some K) → K ≢ []) [
+      (elim (kept_under name e.saves.entries) as (λ o. AreAlike (machine (h.answers e.functions) e.plan) m o (Some K) → K ≢ []) [
         | None ↦ λ alike. absurd alike
         | Some v ↦ λ alike. some_input K v.last alike.last
-      ]) (subst (λ q. AreAlike (h.answers e.functions) e.plan m (kept_under name e.saves.entries) q) found (looked_up R name (kept_under name e.saves.entries) refl))
+      ]) (subst (λ q. AreAlike (machine (h.answers e.functions) e.plan) m (kept_under name e.saves.entries) q) found (looked_up R name (kept_under name e.saves.entries) refl))
 
   pub has_place_there : Runs e n m L S → (name : Name) (b : Bool) → b ≡ is_some (kept_under name e.saves.entries) → b ≡ true → MaySave name S
   has_place_there R name b is there =
-      inl (there_is (h.answers e.functions) e.plan m (kept_under name e.saves.entries) (saved_under name S) (looked_up R name (kept_under name e.saves.entries) refl) (sym is ∙ there))
+      inl (there_is (machine (h.answers e.functions) e.plan) m (kept_under name e.saves.entries) (saved_under name S) (looked_up R name (kept_under name e.saves.entries) refl) (sym is ∙ there))
 
   pub has_place_behind : Runs e n m L S → (name : Name) (b : Bool) (count : ℕ) → b ≡ is_some (kept_under name e.saves.entries) → b ≡ false → count ≡ length e.saves.entries → (IsTrue (nat_lt count 64) ↔ MaySave name S)
   has_place_behind R name b count is absent long =
-      let same : count ≡ length S = long ∙ sym (kept_length (h.answers e.functions) e.plan m e.saves.entries S R.saves) in
-      let none : saved_under name S ≡ None = there_is_not (h.answers e.functions) e.plan m (kept_under name e.saves.entries) (saved_under name S) (looked_up R name (kept_under name e.saves.entries) refl) (sym is ∙ absent) in
+      let same : count ≡ length S = long ∙ sym (kept_length (machine (h.answers e.functions) e.plan) m e.saves.entries S R.saves) in
+      let none : saved_under name S ≡ None = there_is_not (machine (h.answers e.functions) e.plan) m (kept_under name e.saves.entries) (saved_under name S) (looked_up R name (kept_under name e.saves.entries) refl) (sym is ∙ absent) in
       (λ t. inr (subst (λ k. k < 64) same (few_tested count t)), λ may. tested_few count (subst (λ k. k < 64) (sym same) (few_saved name S may none)))

@@ -10,7 +10,8 @@ use Rattle.sf_check.specs.Accepting.{accepted_program, checked_main}
 use Rattle.sf_meter.specs.declared.meter.Meter.{Meter}
 use Rattle.sf_meter.specs.Meters.{entered_of, meter_height}
 use Rattle.sf_law.specs.declared.plan.Plan.{Plan}
-use Rattle.sf_law.specs.Arena.{plan_tree, plan_main, network_of_plan}
+use Rattle.sf_law.specs.Arena.{plan_tree, plan_main}
+use Rattle.sf_state.specs.Machine.{Machine, machine_network}
 
 -- the process that a plan runs
 abbrev pub main_of_plan : Plan → Process
@@ -23,8 +24,8 @@ pub record MeansTheSame (n : Network) (P : Process) (q : Network) (Q : Process) 
   pub no_more : (L : Life) (o : Outcome) (d : Cost) → Gives q Q L o d → (c : Cost) × Gives n P L o c
 
 -- a plan is run for a network whose `main` is a template, where functions answer this
-abbrev pub IsRunFor : AnswersByName → Plan → Network → Template → Type 0
-IsRunFor φ p n m = MeansTheSame n (closure m.body empty) (network_of_plan φ p) (main_of_plan p)
+abbrev pub IsRunFor : Machine → Network → Template → Type 0
+IsRunFor μ n m = MeansTheSame n (closure m.body empty) (machine_network μ) (main_of_plan μ.plan)
 
 -- by its meter, a sample of a network took no more than the network's meaning counts, where that has an outcome
 pub record TakesNoMore (φ : AnswersByName) (c : Checked) (L : Life) (m : Meter) : Type 0 where

@@ -4,12 +4,11 @@ use Rattle.std.specs.declared.alloc.Global.{Global}
 use Rattle.std.specs.List.{AllZip}
 use Rattle.sf_value.specs.Values.{Kind, Data, HasKind}
 use Rattle.sf_value.specs.declared.fault.Fault.{Fault}
-use Rattle.sf_func.specs.Registries.{AnswersByName}
 use Rattle.sf_term.specs.Trees.{Template}
-use Rattle.sf_law.specs.declared.plan.Plan.{Plan}
 use Rattle.sf_mean.specs.Lives.{Life, time}
 use Rattle.sf_mean.specs.Meaning.{Network}
 use Rattle.sf_state.specs.Standing.{Stands}
+use Rattle.sf_state.specs.Machine.{Machine, machine}
 use Rattle.sf_engine.specs.Planned.{main_of_plan, IsRunFor}
 use Rattle.sf_engine.specs.declared.engine.save.Save.{Save}
 use Rattle.sf_engine.specs.declared.engine.Engine.{Engine}
@@ -18,15 +17,15 @@ use Rattle.sf_engine.specs.declared.engine.EngineError.TheVariants.{Stopped}
 use Rattle.sf_engine.specs.Histories.{newest_input, IsHistory, CanWait, Saves}
 
 -- What is kept of an engine stands for a history that has begun.
-pub record IsSaveOf (φ : AnswersByName) (p : Plan) (m : Template) (s : Save) (K : Life) : Type 0 where
-  pub state : Stands φ p s.state (main_of_plan p) K
+pub record IsSaveOf (μ : Machine) (m : Template) (s : Save) (K : Life) : Type 0 where
+  pub state : Stands μ s.state (main_of_plan μ.plan) K
   pub time : s.time ≡ time K
   pub last : newest_input K ≡ Some s.last
   pub history : IsHistory m.input K
 
 -- What is kept, in order, stands for histories under their names.
-abbrev pub AreSavesOf : AnswersByName → Plan → Template → List (String Global × Save) → Saves → Type 0
-AreSavesOf φ p m vs S = AllZip (λ v s. (string_bytes v.0 ≡ s.0) × IsSaveOf φ p m v.1 s.1) vs S
+abbrev pub AreSavesOf : Machine → Template → List (String Global × Save) → Saves → Type 0
+AreSavesOf μ m vs S = AllZip (λ v s. (string_bytes v.0 ≡ s.0) × IsSaveOf μ m v.1 s.1) vs S
 
 -- Engines over functions that are held by name.
 module _ {F : Type 0} {h : _} where
@@ -35,13 +34,13 @@ module _ {F : Type 0} {h : _} where
   -- plan, which means what the network means.
   pub record Runs (e : Engine F h) (n : Network) (m : Template) (L : Life) (S : Saves) : Type 0 where
     pub goes_on : e.stopped ≡ None
-    pub plan : IsRunFor (h.answers e.functions) e.plan n m
+    pub plan : IsRunFor (machine (h.answers e.functions) e.plan) n m
     pub input : e.input ≡ m.input
-    pub state : Stands (h.answers e.functions) e.plan e.state (main_of_plan e.plan) L
+    pub state : Stands (machine (h.answers e.functions) e.plan) e.state (main_of_plan e.plan) L
     pub time : e.time ≡ time L
     pub last : e.last ≡ newest_input L
     pub history : IsHistory m.input L
-    pub saves : AreSavesOf (h.answers e.functions) e.plan m e.saves.entries S
+    pub saves : AreSavesOf (machine (h.answers e.functions) e.plan) m e.saves.entries S
 
   -- an engine is stopped by a fault
   abbrev pub IsStopped : Engine F h → Fault → Type 0

@@ -4,6 +4,7 @@ ghost use Rattle.sf_func.specs.Registries.{AnswersByName};
 ghost use Rattle.sf_mean.specs.Networks.{network_of};
 ghost use Rattle.sf_check.specs.Accepting.{accepted_program, checked_main};
 ghost use Rattle.sf_engine.specs.Planned.{IsRunFor};
+ghost use Rattle.sf_state.specs.Machine.{machine};
 
 mod embed;
 mod save;
@@ -333,7 +334,7 @@ fn stop(stopped: &mut Option<Fault>, fault: Fault) -> Fault
 
 /// The plan of a network in a mode.
 fn planned(alloc: Global, checked: &Checked, mode: Mode) -> Result<Plan, AllocError>
-    ensures { IfOk result (λ p. (φ : AnswersByName) → IsRunFor φ p (network_of φ (accepted_program checked.now)) (checked_main checked.now)) }
+    ensures { IfOk result (λ p. (φ : AnswersByName) → IsRunFor (machine φ p) (network_of φ (accepted_program checked.now)) (checked_main checked.now)) }
 {
     match mode {
         Mode::Plain => plain(alloc, checked),

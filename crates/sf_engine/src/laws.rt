@@ -11,6 +11,7 @@ ghost use Rattle.sf_optimise.specs.Optimised.{IsOptimisedPlan};
 ghost use Rattle.sf_meter.specs.declared.meter.Meter.{Meter};
 ghost use Rattle.sf_probe.specs.declared.reading.Readings.{Readings};
 ghost use Rattle.sf_state.specs.declared.state.State.{State};
+ghost use Rattle.sf_state.specs.Machine.{machine};
 ghost use Rattle.sf_step.specs.Stepping.{Steps};
 ghost use Rattle.sf_engine.specs.Planned.{main_of_plan, TakesNoMore};
 
@@ -18,7 +19,7 @@ ghost use Rattle.sf_engine.specs.Planned.{main_of_plan, TakesNoMore};
 /// the network's meaning counts, where it has an outcome, and no more of them one inside another than the meaning has.
 pub fn counted_work()
     ensures written { (φ : AnswersByName) (c : Checked) (p : Plan) (L : Life) (r : Result (Data × Readings) Fault) (s : State) (m : Meter) →
-        IsPlainPlan c p → Steps φ p (main_of_plan p) L r s m → TakesNoMore φ c L m }
+        IsPlainPlan c p → Steps (machine φ p) (main_of_plan p) L r s m → TakesNoMore φ c L m }
     ensures rewritten { (φ : AnswersByName) (c : Checked) (p : Plan) (L : Life) (r : Result (Data × Readings) Fault) (s : State) (m : Meter) →
-        IsOptimisedPlan c p → Steps φ p (main_of_plan p) L r s m → TakesNoMore φ c L m }
+        IsOptimisedPlan c p → Steps (machine φ p) (main_of_plan p) L r s m → TakesNoMore φ c L m }
 {}

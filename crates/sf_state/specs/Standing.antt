@@ -5,7 +5,6 @@ use Rattle.std.specs.declared.rc.Rc.{Rc}
 use Rattle.sf_value.specs.declared.value.Value.{Value}
 use Rattle.sf_value.specs.Values.{Name, KeyData, Data, first_of}
 use Rattle.sf_value.specs.declared.fault.ValueFault.{ValueFault}
-use Rattle.sf_func.specs.Registries.{AnswersByName}
 use Rattle.sf_expr.specs.Expressions.{Pattern, Expression, Function}
 use Rattle.sf_expr.specs.Patterns.{pattern_of}
 use Rattle.sf_expr.specs.declared.exprs.NameId.{NameId}
@@ -32,9 +31,8 @@ use Rattle.sf_law.specs.declared.node.TemplateId.{TemplateId}
 use Rattle.sf_law.specs.declared.mentioned.Mentioned.{Mentioned}
 use Rattle.sf_law.specs.Mentioned.{is_mentioned}
 use Rattle.sf_law.specs.Places.{names_of_parameters}
-use Rattle.sf_law.specs.declared.plan.Plan.{Plan}
 use Rattle.sf_law.specs.Entries.{IsCodedCollection}
-use Rattle.sf_law.specs.Arena.{plan_tree, plan_collection, plan_expressions, plan_asks, header_at, network_of_plan}
+use Rattle.sf_law.specs.Arena.{plan_tree, plan_collection, plan_expressions, plan_asks, header_at}
 use Rattle.sf_prim.specs.declared.prim_state.PrimState.{PrimState}
 use Rattle.sf_prim.specs.Remembering.{Remembers}
 use Rattle.sf_state.specs.declared.state.State.{State}
@@ -59,6 +57,7 @@ use Rattle.sf_state.specs.declared.env.Call.{items-the_row-Given}
 use Rattle.sf_state.specs.declared.env.Env.TheVariants.{Empty as SEmpty, Bound', Running', Collected', Called'}
 use Rattle.sf_value.specs.declared.keys.Keys.{Keys}
 use Rattle.sf_state.specs.Held.{Holding, held_as}
+use Rattle.sf_state.specs.Machine.{Machine, machine_network}
 
 -- a value or a fault, as what an expression is worth
 abbrev pub worth_given : Result Data ValueFault → Evaluated Data
@@ -126,9 +125,9 @@ is_frozen (Gathering' names at g) = false
 is_frozen (Frozen' at d names k) = true
 
 -- A primitive recalls what it needs of a life.
-pub data Recalls (φ : AnswersByName) (p : Plan) : PrimState → Process → Life → Type 0 where
+pub data Recalls (μ : Machine) : PrimState → Process → Life → Type 0 where
   recalls : {i : PrimState} {q : Primitive} {e : Environment} {L : Life} {ys : List Data}
-      → Outputs (network_of_plan φ p) (closure (primitive q) e) L ys → Remembers i q (scope_around φ e) L → Recalls φ p i (closure (primitive q) e) L
+      → Outputs (machine_network μ) (closure (primitive q) e) L ys → Remembers i q (scope_around μ.answers e) L → Recalls μ i (closure (primitive q) e) L
 
 -- From here on a process gives what another one gives that has led another life, and counts nothing beside it.
 pub data Turned (n : Network) : Process → Life → Process → Life → Type 0 where
@@ -161,189 +160,189 @@ keys_in (member k P ms) = k ∷ keys_in ms
 
 mutual
   -- Where functions answer this, names stand for these values and processes.
-  pub data IsNames (φ : AnswersByName) (p : Plan) : Env → Environment → Type 0 where
-    is_empty : IsNames φ p SEmpty empty
+  pub data IsNames (μ : Machine) : Env → Environment → Type 0 where
+    is_empty : IsNames μ SEmpty empty
     is_bound : {at : _} {q : PatternId} {v : Rc Value Global} {names : Env} {e : Environment}
-        → IsNames φ p names e → IsNames φ p (Bound' at q v names) (bind (pattern_of (stored_pattern (plan_expressions p) q)) v.value e)
+        → IsNames μ names e → IsNames μ (Bound' at q v names) (bind (pattern_of (stored_pattern (plan_expressions μ.plan) q)) v.value e)
     -- a process that has lived no step, beside what it began as, where that is asked of its name
     is_running : {at : _} {k : NameId} {a : State} {b : PlanId} {inner names : Env} {P : Process} {e : Environment}
-        → Stands φ p a P [] → (IsTrue (plan_asks p (name_at (plan_expressions p) k)) → IsProcess φ p (closed_over b inner) (base P)) → IsNames φ p names e → IsNames φ p (Running' at k a b inner names) (running (name_at (plan_expressions p) k) P e)
+        → Stands μ a P [] → (IsTrue (plan_asks μ.plan (name_at (plan_expressions μ.plan) k)) → IsProcess μ (closed_over b inner) (base P)) → IsNames μ names e → IsNames μ (Running' at k a b inner names) (running (name_at (plan_expressions μ.plan) k) P e)
     -- members that have lived no step
     is_collected : {at list : _} {k : NameId} {keys : Rc Keys Global} {shape row : _} {w : Option ℕ} {names : Env} {ms : Members} {e : Environment}
-        → Gathers φ p (held_as keys (items-the_row-State _ row) w) ms [] → IsNames φ p names e
-        → IsNames φ p (Collected' at k keys list shape row w names) (collected (name_at (plan_expressions p) k) ms e)
+        → Gathers μ (held_as keys (items-the_row-State _ row) w) ms [] → IsNames μ names e
+        → IsNames μ (Collected' at k keys list shape row w names) (collected (name_at (plan_expressions μ.plan) k) ms e)
     -- what is given for the parameters of a template
     is_called : {at : _} {g : TemplateId} {shape row : _} {e : Environment}
-        → AreGiven φ p (names_of_parameters (plan_expressions p) (header_at p g).parameters) (items-the_row-Given _ row) empty e → IsNames φ p (Called' at g shape row) e
+        → AreGiven μ (names_of_parameters (plan_expressions μ.plan) (header_at μ.plan g).parameters) (items-the_row-Given _ row) empty e → IsNames μ (Called' at g shape row) e
 
   -- Names stand for what is given, each inside the names before it, the first inside an environment.
-  pub data AreGiven (φ : AnswersByName) (p : Plan) : List Name → List Given → Environment → Environment → Type 0 where
-    nothing_given : {d : Environment} → AreGiven φ p [] [] d d
-    value_is_given : {x : Name} {xs : List Name} {v : Data} {gs : List Given} {d e : Environment} → AreGiven φ p xs gs (known x v d) e → AreGiven φ p (x ∷ xs) (GValue v ∷ gs) d e
+  pub data AreGiven (μ : Machine) : List Name → List Given → Environment → Environment → Type 0 where
+    nothing_given : {d : Environment} → AreGiven μ [] [] d d
+    value_is_given : {x : Name} {xs : List Name} {v : Data} {gs : List Given} {d e : Environment} → AreGiven μ xs gs (known x v d) e → AreGiven μ (x ∷ xs) (GValue v ∷ gs) d e
     process_is_given : {x : Name} {xs : List Name} {a : State} {b : PlanId} {inner : Env} {gs : List Given} {P : Process} {d e : Environment}
-        → Stands φ p a P [] → (IsTrue (plan_asks p x) → IsProcess φ p (closed_over b inner) (base P)) → AreGiven φ p xs gs (running x P d) e → AreGiven φ p (x ∷ xs) (GProcess' a b inner ∷ gs) d e
+        → Stands μ a P [] → (IsTrue (plan_asks μ.plan x) → IsProcess μ (closed_over b inner) (base P)) → AreGiven μ xs gs (running x P d) e → AreGiven μ (x ∷ xs) (GProcess' a b inner ∷ gs) d e
     members_are_given : {x : Name} {xs : List Name} {keys : Rc Keys Global} {list shape row : _} {w : Option ℕ} {gs : List Given} {ms : Members} {d e : Environment}
-        → Gathers φ p (held_as keys (items-the_row-State _ row) w) ms [] → AreGiven φ p xs gs (collected x ms d) e → AreGiven φ p (x ∷ xs) (GMembers' keys list shape row w ∷ gs) d e
+        → Gathers μ (held_as keys (items-the_row-State _ row) w) ms [] → AreGiven μ xs gs (collected x ms d) e → AreGiven μ (x ∷ xs) (GMembers' keys list shape row w ∷ gs) d e
 
   -- what can be run
-  pub data IsProcess (φ : AnswersByName) (p : Plan) : process_states.Process → Process → Type 0 where
-    is_closure : {q : process_states.Process} {P : Process} {e : Environment} → Alike P (closure (plan_tree p q.term) e) → IsNames φ p q.names e → IsProcess φ p q P
+  pub data IsProcess (μ : Machine) : process_states.Process → Process → Type 0 where
+    is_closure : {q : process_states.Process} {P : Process} {e : Environment} → Alike P (closure (plan_tree μ.plan q.term) e) → IsNames μ q.names e → IsProcess μ q P
 
   -- Where functions answer this, a part of a network stands for a process and the life that it has led. No state stores
   -- the life.
-  pub data Stands (φ : AnswersByName) (p : Plan) : State → Process → Life → Type 0 where
-    itself : {a : State} {P : Process} {L : Life} → StandsItself φ p a P L → Stands φ p a P L
+  pub data Stands (μ : Machine) : State → Process → Life → Type 0 where
+    itself : {a : State} {P : Process} {L : Life} → StandsItself μ a P L → Stands μ a P L
     -- what stands for the one that a process gives way to stands for it
-    took_over : {a : State} {P Q : Process} {L M : Life} → Turned (network_of_plan φ p) P L Q M → Stands φ p a Q M → Stands φ p a P L
+    took_over : {a : State} {P Q : Process} {L M : Life} → Turned (machine_network μ) P L Q M → Stands μ a Q M → Stands μ a P L
 
   -- a part stands for the process that it was made of
-  pub data StandsItself (φ : AnswersByName) (p : Plan) : State → Process → Life → Type 0 where
-    unborn : {q : process_states.Process} {P : Process} → IsProcess φ p q P → StandsItself φ p (Unborn q) P []
+  pub data StandsItself (μ : Machine) : State → Process → Life → Type 0 where
+    unborn : {q : process_states.Process} {P : Process} → IsProcess μ q P → StandsItself μ (Unborn q) P []
     -- a primitive, which has what it needs of the names around it
-    recalling : {i : PrimState} {P : Process} {s : Step} {L : Life} → Recalls φ p i P (s ∷ L) → StandsItself φ p (SPrimitive i) P (s ∷ L)
+    recalling : {i : PrimState} {P : Process} {s : Step} {L : Life} → Recalls μ i P (s ∷ L) → StandsItself μ (SPrimitive i) P (s ∷ L)
     -- with the names that are around its term
     alive : {at : _} {names : Env} {l : Live} {t : Term} {e : Environment} {L : Life}
-        → IsNames φ p names e → Settles φ p l (closure t e) L → StandsItself φ p (Alive' names at l) (closure t e) L
+        → IsNames μ names e → Settles μ l (closure t e) L → StandsItself μ (Alive' names at l) (closure t e) L
     watching : {at : _} {names : Env} {w : Switching} {a : State} {q : PatternId} {b : PlanId} {t : Term} {e : Environment} {s : Step} {L : Life}
-        → IsNames φ p names e → Waits φ p (record { form = w; running = a; pattern = q; body = b }) (closure t e) (s ∷ L)
-        → StandsItself φ p (Watching' names at w a q b) (closure t e) (s ∷ L)
+        → IsNames μ names e → Waits μ (record { form = w; running = a; pattern = q; body = b }) (closure t e) (s ∷ L)
+        → StandsItself μ (Watching' names at w a q b) (closure t e) (s ∷ L)
     continuing_on : {at : _} {names : Env} {w : Observation} {f : PlanId} {a x o : State} {k : NameId} {q : PatternId} {b : PlanId} {t : Term} {e : Environment} {s : Step} {L : Life}
-        → IsNames φ p names e → WaitsContinuation φ p (record { shown = w; first = f; source = a; before = x; observer = o; name = k; pattern = q; body = b }) (closure t e) (s ∷ L)
-        → StandsItself φ p (Continuation' names at w f a x o k q b) (closure t e) (s ∷ L)
+        → IsNames μ names e → WaitsContinuation μ (record { shown = w; first = f; source = a; before = x; observer = o; name = k; pattern = q; body = b }) (closure t e) (s ∷ L)
+        → StandsItself μ (Continuation' names at w f a x o k q b) (closure t e) (s ∷ L)
     gathering_on : {at : _} {names : Env} {g : Gathering} {t : Term} {e : Environment} {s : Step} {L : Life}
-        → IsNames φ p names e → WaitsGathered φ p g (closure t e) (s ∷ L) → StandsItself φ p (Gathering' names at g) (closure t e) (s ∷ L)
+        → IsNames μ names e → WaitsGathered μ g (closure t e) (s ∷ L) → StandsItself μ (Gathering' names at g) (closure t e) (s ∷ L)
     -- frozen after a life, and not stepped since
     was_frozen : {at : _} {d : ℕ} {names : Env} {k : FrozenNode} {P : Process} {s : Step} {h : Life}
-        → Stands φ p (frozen_state names k) P (s ∷ h) → StandsItself φ p (Frozen' at d names k) (resumed P (s ∷ h) d) []
+        → Stands μ (frozen_state names k) P (s ∷ h) → StandsItself μ (Frozen' at d names k) (resumed P (s ∷ h) d) []
 
   -- a switch waits for an event after a life
-  pub data Waits (φ : AnswersByName) (p : Plan) : Switch → Process → Life → Type 0 where
+  pub data Waits (μ : Machine) : Switch → Process → Life → Type 0 where
     -- its first term has led the life
     waits_so : {s : Switch} {w : Observation} {t : Term} {e : Environment} {L : Life} {ys : List Data}
         → s.form ≡ Basic w
-        → Since (network_of_plan φ p) (Meaning.itself (closure t e)) (whenever (body_of (pattern_of (stored_pattern (plan_expressions p) s.pattern)) (plan_tree p s.body) e)) L waits
-        → Outputs (network_of_plan φ p) (closure (switching (Basic w) t (pattern_of (stored_pattern (plan_expressions p) s.pattern)) (plan_tree p s.body)) e) L ys
-        → Stands φ p s.running (closure t e) L
-        → Waits φ p s (closure (switching (Basic w) t (pattern_of (stored_pattern (plan_expressions p) s.pattern)) (plan_tree p s.body)) e) L
+        → Since (machine_network μ) (Meaning.itself (closure t e)) (whenever (body_of (pattern_of (stored_pattern (plan_expressions μ.plan) s.pattern)) (plan_tree μ.plan s.body) e)) L waits
+        → Outputs (machine_network μ) (closure (switching (Basic w) t (pattern_of (stored_pattern (plan_expressions μ.plan) s.pattern)) (plan_tree μ.plan s.body)) e) L ys
+        → Stands μ s.running (closure t e) L
+        → Waits μ s (closure (switching (Basic w) t (pattern_of (stored_pattern (plan_expressions μ.plan) s.pattern)) (plan_tree μ.plan s.body)) e) L
     -- what runs has led the life since the last event
     recurs_so : {s : Switch} {w : Observation} {t : Term} {e : Environment} {L : Life} {ys : List Data}
         → s.form ≡ Recurring w
-        → Outputs (network_of_plan φ p) (closure (switching (Recurring w) t (pattern_of (stored_pattern (plan_expressions p) s.pattern)) (plan_tree p s.body)) e) L ys
-        → Stands φ p s.running (what_runs (closure t e) (body_of (pattern_of (stored_pattern (plan_expressions p) s.pattern)) (plan_tree p s.body) e) (last_event L)) (with_inputs first_of (since_event L))
-        → Waits φ p s (closure (switching (Recurring w) t (pattern_of (stored_pattern (plan_expressions p) s.pattern)) (plan_tree p s.body)) e) L
+        → Outputs (machine_network μ) (closure (switching (Recurring w) t (pattern_of (stored_pattern (plan_expressions μ.plan) s.pattern)) (plan_tree μ.plan s.body)) e) L ys
+        → Stands μ s.running (what_runs (closure t e) (body_of (pattern_of (stored_pattern (plan_expressions μ.plan) s.pattern)) (plan_tree μ.plan s.body) e) (last_event L)) (with_inputs first_of (since_event L))
+        → Waits μ s (closure (switching (Recurring w) t (pattern_of (stored_pattern (plan_expressions μ.plan) s.pattern)) (plan_tree μ.plan s.body)) e) L
 
   -- A switch that keeps its source waits for an event after a life: the source has led that life, and the observer the
   -- same with the source's values beside the inputs.
-  pub data WaitsContinuation (φ : AnswersByName) (p : Plan) : Continuation → Process → Life → Type 0 where
+  pub data WaitsContinuation (μ : Machine) : Continuation → Process → Life → Type 0 where
     continues_so : {s : Continuation} {r : Term} {e : Environment} {L : Life} {ys zs : List Data}
-        → Since (network_of_plan φ p) (observed (closure (plan_tree p s.first) e) r e) (continuing_body (name_at (plan_expressions p) s.name) (closure (plan_tree p s.first) e) (pattern_of (stored_pattern (plan_expressions p) s.pattern)) (plan_tree p s.body) e) L waits
-        → Outputs (network_of_plan φ p) (closure (continuing s.shown (plan_tree p s.first) r (name_at (plan_expressions p) s.name) (pattern_of (stored_pattern (plan_expressions p) s.pattern)) (plan_tree p s.body)) e) L zs
-        → Outputs (network_of_plan φ p) (closure (plan_tree p s.first) e) L ys
-        → Stands φ p s.source (closure (plan_tree p s.first) e) L
-        → Stands φ p s.observer (closure r e) (observed_life L ys)
-        → WaitsContinuation φ p s (closure (continuing s.shown (plan_tree p s.first) r (name_at (plan_expressions p) s.name) (pattern_of (stored_pattern (plan_expressions p) s.pattern)) (plan_tree p s.body)) e) L
+        → Since (machine_network μ) (observed (closure (plan_tree μ.plan s.first) e) r e) (continuing_body (name_at (plan_expressions μ.plan) s.name) (closure (plan_tree μ.plan s.first) e) (pattern_of (stored_pattern (plan_expressions μ.plan) s.pattern)) (plan_tree μ.plan s.body) e) L waits
+        → Outputs (machine_network μ) (closure (continuing s.shown (plan_tree μ.plan s.first) r (name_at (plan_expressions μ.plan) s.name) (pattern_of (stored_pattern (plan_expressions μ.plan) s.pattern)) (plan_tree μ.plan s.body)) e) L zs
+        → Outputs (machine_network μ) (closure (plan_tree μ.plan s.first) e) L ys
+        → Stands μ s.source (closure (plan_tree μ.plan s.first) e) L
+        → Stands μ s.observer (closure r e) (observed_life L ys)
+        → WaitsContinuation μ s (closure (continuing s.shown (plan_tree μ.plan s.first) r (name_at (plan_expressions μ.plan) s.name) (pattern_of (stored_pattern (plan_expressions μ.plan) s.pattern)) (plan_tree μ.plan s.body)) e) L
 
   -- Members wait for an event after a life.
-  pub data WaitsGathered (φ : AnswersByName) (p : Plan) : Gathering → Process → Life → Type 0 where
+  pub data WaitsGathered (μ : Machine) : Gathering → Process → Life → Type 0 where
     -- those of a collection have led that life, and the observer the same with their tables beside the inputs
     releases_so : {w : Observation} {keys keys_before : Rc Keys Global} {list shape row list_before shape_before row_before : _} {wait wait_before : Option ℕ} {o : State} {k : NameId} {q : PatternId} {b : PlanId}
         {i : Collection} {r : Term} {e : Environment} {ms : Members} {L : Life} {ys zs : List Data}
-        → collect φ i e ≡ answer ms
-        → Since (network_of_plan φ p) (observed_members ms r e) (body_with_members (name_at (plan_expressions p) k) ms (pattern_of (stored_pattern (plan_expressions p) q)) (plan_tree p b) e) L waits
-        → Outputs (network_of_plan φ p) (closure (releasing w i r (name_at (plan_expressions p) k) (pattern_of (stored_pattern (plan_expressions p) q)) (plan_tree p b)) e) L zs
-        → Tables (network_of_plan φ p) ms L ys
-        → Gathers φ p (held_as keys (items-the_row-State _ row) wait) ms L
-        → Stands φ p o (closure r e) (observed_life L ys)
-        → WaitsGathered φ p (GReleasing' w keys list shape row wait keys_before list_before shape_before row_before wait_before o k q b)
-        (closure (releasing w i r (name_at (plan_expressions p) k) (pattern_of (stored_pattern (plan_expressions p) q)) (plan_tree p b)) e) L
+        → collect μ.answers i e ≡ answer ms
+        → Since (machine_network μ) (observed_members ms r e) (body_with_members (name_at (plan_expressions μ.plan) k) ms (pattern_of (stored_pattern (plan_expressions μ.plan) q)) (plan_tree μ.plan b) e) L waits
+        → Outputs (machine_network μ) (closure (releasing w i r (name_at (plan_expressions μ.plan) k) (pattern_of (stored_pattern (plan_expressions μ.plan) q)) (plan_tree μ.plan b)) e) L zs
+        → Tables (machine_network μ) ms L ys
+        → Gathers μ (held_as keys (items-the_row-State _ row) wait) ms L
+        → Stands μ o (closure r e) (observed_life L ys)
+        → WaitsGathered μ (GReleasing' w keys list shape row wait keys_before list_before shape_before row_before wait_before o k q b)
+        (closure (releasing w i r (name_at (plan_expressions μ.plan) k) (pattern_of (stored_pattern (plan_expressions μ.plan) q)) (plan_tree μ.plan b)) e) L
     -- those of the last edit have led the life since then
     edits_so : {w : Observation} {keys : Rc Keys Global} {list shape row : _} {wait : Option ℕ} {k : NameId} {q : PatternId} {c : Rc PlanCollection Global} {i : Collection} {e : Environment} {ms qs : Members} {L : Life} {ys zs : List Data}
-        → IsCodedCollection (plan_expressions p) c.value
-        → collect φ i e ≡ answer ms
-        → which_run (edit_of φ (name_at (plan_expressions p) k) (pattern_of (stored_pattern (plan_expressions p) q)) (plan_collection p c.value) e) ms L ≡ answer qs
-        → Outputs (network_of_plan φ p) (closure (editing w i (name_at (plan_expressions p) k) (pattern_of (stored_pattern (plan_expressions p) q)) (plan_collection p c.value)) e) L zs
-        → Tables (network_of_plan φ p) qs (since_edit L) ys
-        → Gathers φ p (held_as keys (items-the_row-State _ row) wait) qs (since_edit L)
-        → WaitsGathered φ p (GEditing' w keys list shape row wait k q c) (closure (editing w i (name_at (plan_expressions p) k) (pattern_of (stored_pattern (plan_expressions p) q)) (plan_collection p c.value)) e) L
+        → IsCodedCollection (plan_expressions μ.plan) c.value
+        → collect μ.answers i e ≡ answer ms
+        → which_run (edit_of μ.answers (name_at (plan_expressions μ.plan) k) (pattern_of (stored_pattern (plan_expressions μ.plan) q)) (plan_collection μ.plan c.value) e) ms L ≡ answer qs
+        → Outputs (machine_network μ) (closure (editing w i (name_at (plan_expressions μ.plan) k) (pattern_of (stored_pattern (plan_expressions μ.plan) q)) (plan_collection μ.plan c.value)) e) L zs
+        → Tables (machine_network μ) qs (since_edit L) ys
+        → Gathers μ (held_as keys (items-the_row-State _ row) wait) qs (since_edit L)
+        → WaitsGathered μ (GEditing' w keys list shape row wait k q c) (closure (editing w i (name_at (plan_expressions μ.plan) k) (pattern_of (stored_pattern (plan_expressions μ.plan) q)) (plan_collection μ.plan c.value)) e) L
 
   -- a live part stands for a process and a life that has begun
-  pub data Settles (φ : AnswersByName) (p : Plan) : Live → Process → Life → Type 0 where
-    settles : {l : Live} {P : Process} {s : Step} {L : Life} → Ready φ p l P (first_input s L) (s ∷ L) → Settles φ p l P (s ∷ L)
+  pub data Settles (μ : Machine) : Live → Process → Life → Type 0 where
+    settles : {l : Live} {P : Process} {s : Step} {L : Life} → Ready μ l P (first_input s L) (s ∷ L) → Settles μ l P (s ∷ L)
 
   -- A live part, with what its form was made with; x is the input of its first step, past or to come.
-  pub data Ready (φ : AnswersByName) (p : Plan) : Live → Process → Data → Life → Type 0 where
+  pub data Ready (μ : Machine) : Live → Process → Data → Life → Type 0 where
     ready : {l : Live} {t : Term} {e : Environment} {m : Made} {x : Data} {L : Life} {ys : List Data}
-        → make (network_of_plan φ p) t e x ≡ answer m → Outputs (network_of_plan φ p) (closure t e) L ys → Lives φ p l t e m L
-        → Ready φ p l (closure t e) x L
+        → make (machine_network μ) t e x ≡ answer m → Outputs (machine_network μ) (closure t e) L ys → Lives μ l t e m L
+        → Ready μ l (closure t e) x L
 
   -- The same by the forms.
-  pub data Lives (φ : AnswersByName) (p : Plan) : Live → Term → Environment → Made → Life → Type 0 where
+  pub data Lives (μ : Machine) : Live → Term → Environment → Made → Life → Type 0 where
     lives_probe : {r : Rc (String Global) Global} {e : Environment} {m : Made} {L : Life}
-        → Lives φ p (LProbe r) (primitive (probe (string_bytes r.value))) e m L
+        → Lives μ (LProbe r) (primitive (probe (string_bytes r.value))) e m L
     -- each part on its own life
     lives_join : {j : Join} {a b : State} {f g t : Term} {e : Environment} {m : Made} {L : Life} {ys : List Data}
         → AreJoined j f g t
-        → Outputs (network_of_plan φ p) (closure f e) (left_life j L) ys
-        → Stands φ p a (closure f e) (left_life j L)
-        → Stands φ p b (closure g e) (right_life j L ys)
-        → Lives φ p (LJoin j a b) t e m L
+        → Outputs (machine_network μ) (closure f e) (left_life j L) ys
+        → Stands μ a (closure f e) (left_life j L)
+        → Stands μ b (closure g e) (right_life j L ys)
+        → Lives μ (LJoin j a b) t e m L
     lives_pipeline : {shape row : _} {f g : Term} {e : Environment} {m : Made} {L : Life}
-        → StagesStand φ p (items-the_row-State _ row) (staged rest f g) e L
-        → Lives φ p (LPipeline' shape row) (staged whole f g) e m L
+        → StagesStand μ (items-the_row-State _ row) (staged rest f g) e L
+        → Lives μ (LPipeline' shape row) (staged whole f g) e m L
     -- one part on its own life
     lives_wrap : {w : Wrap} {a : State} {t u : Term} {e : Environment} {m : Made} {L K : Life}
-        → Wraps (network_of_plan φ p) w t e m L u K
-        → Stands φ p a (closure u e) K
-        → Lives φ p (LWrap w a) t e m L
+        → Wraps (machine_network μ) w t e m L u K
+        → Stands μ a (closure u e) K
+        → Lives μ (LWrap w a) t e m L
     -- members, which have all led the life
     lives_gathered : {keys : Rc Keys Global} {list shape row : _} {wait : Option ℕ} {i : Collection} {e : Environment} {ms : Members} {L : Life} {ys : List Data}
-        → Tables (network_of_plan φ p) ms L ys
-        → Gathers φ p (held_as keys (items-the_row-State _ row) wait) ms L
-        → Lives φ p (LGathered' keys list shape row wait) (gathered i) e (members_made ms) L
+        → Tables (machine_network μ) ms L ys
+        → Gathers μ (held_as keys (items-the_row-State _ row) wait) ms L
+        → Lives μ (LGathered' keys list shape row wait) (gathered i) e (members_made ms) L
 
   -- These are held under their keys, and each has led this life.
-  pub data Gathers (φ : AnswersByName) (p : Plan) : Holding → Members → Life → Type 0 where
-    gathers : {h : Holding} {ms : Members} {L : Life} → h.keys ≡ keys_in ms → EachStands φ p h.wait h.states ms L → Gathers φ p h ms L
+  pub data Gathers (μ : Machine) : Holding → Members → Life → Type 0 where
+    gathers : {h : Holding} {ms : Members} {L : Life} → h.keys ≡ keys_in ms → EachStands μ h.wait h.states ms L → Gathers μ h ms L
 
   -- Each state stands for the member at its place, after this life.
-  pub data EachStands (φ : AnswersByName) (p : Plan) : Option ℕ → List State → Members → Life → Type 0 where
-    none_stands : {w : Option ℕ} {L : Life} → EachStands φ p w [] no_members L
+  pub data EachStands (μ : Machine) : Option ℕ → List State → Members → Life → Type 0 where
+    none_stands : {w : Option ℕ} {L : Life} → EachStands μ w [] no_members L
     one_stands : {w : Option ℕ} {a : State} {bs : List State} {k : KeyData} {P : Process} {ms : Members} {L : Life}
-        → StandsAmong φ p w a P L → EachStands φ p w bs ms L → EachStands φ p w (a ∷ bs) (member k P ms) L
+        → StandsAmong μ w a P L → EachStands μ w bs ms L → EachStands μ w (a ∷ bs) (member k P ms) L
 
   -- A state among members stands for one of them: where they wait, for what it was, frozen.
-  pub data StandsAmong (φ : AnswersByName) (p : Plan) : Option ℕ → State → Process → Life → Type 0 where
-    as_it_stands : {a : State} {P : Process} {L : Life} → Stands φ p a P L → StandsAmong φ p None a P L
-    as_it_stood : {d : ℕ} {a : State} {P Q : Process} {M : Life} → Stands φ p a Q M → P ≡ frozen Q M d → StandsAmong φ p (Some d) a P []
+  pub data StandsAmong (μ : Machine) : Option ℕ → State → Process → Life → Type 0 where
+    as_it_stands : {a : State} {P : Process} {L : Life} → Stands μ a P L → StandsAmong μ None a P L
+    as_it_stood : {d : ℕ} {a : State} {P Q : Process} {M : Life} → Stands μ a Q M → P ≡ frozen Q M d → StandsAmong μ (Some d) a P []
 
   -- Stages, each on the values of the one before it: two or more, or the last one alone.
-  pub data StagesStand (φ : AnswersByName) (p : Plan) : List State → Term → Environment → Life → Type 0 where
+  pub data StagesStand (μ : Machine) : List State → Term → Environment → Life → Type 0 where
     last_stands : {a : State} {t : Term} {e : Environment} {L : Life}
-        → Stands φ p a (closure t e) L → StagesStand φ p (a ∷ []) t e L
+        → Stands μ a (closure t e) L → StagesStand μ (a ∷ []) t e L
     stage_stands : {a : State} {bs : List State} {f g : Term} {e : Environment} {L : Life} {ys : List Data}
-        → Outputs (network_of_plan φ p) (closure f e) L ys → Stands φ p a (closure f e) L → StagesStand φ p bs g e (relay L ys)
-        → StagesStand φ p (a ∷ bs) (staged rest f g) e L
+        → Outputs (machine_network μ) (closure f e) L ys → Stands μ a (closure f e) L → StagesStand μ bs g e (relay L ys)
+        → StagesStand μ (a ∷ bs) (staged rest f g) e L
 
 -- names for an environment in which each name that is mentioned stands for alike
-pub data HasMentioned (φ : AnswersByName) (p : Plan) : Mentioned → Env → Environment → Type 0 where
-  has_mentioned : {m : Mentioned} {names : Env} {d e : Environment} → IsNames φ p names d → ((x : Name) → IsTrue (is_mentioned (plan_expressions p) m x) → AlikeName x d e) → HasMentioned φ p m names e
+pub data HasMentioned (μ : Machine) : Mentioned → Env → Environment → Type 0 where
+  has_mentioned : {m : Mentioned} {names : Env} {d e : Environment} → IsNames μ names d → ((x : Name) → IsTrue (is_mentioned (plan_expressions μ.plan) m x) → AlikeName x d e) → HasMentioned μ m names e
 
 -- what stands under a name for a process, beside what that began as, where that is asked of the name
-abbrev pub IsHanded : AnswersByName → Plan → Name → Handed → Process → Type 0
-IsHanded φ p x h P = Stands φ p h.process P [] × (IsTrue (plan_asks p x) → IsProcess φ p h.base (base P))
+abbrev pub IsHanded : Machine → Name → Handed → Process → Type 0
+IsHanded μ x h P = Stands μ h.process P [] × (IsTrue (plan_asks μ.plan x) → IsProcess μ h.base (base P))
 
 -- the process that was found under a name; where none was, inputs pass
-abbrev pub IsFound : AnswersByName → Plan → Name → Option Handed → Process → Type 0
-IsFound φ p x (Some h) P = IsHanded φ p x h P
-IsFound φ p x None P = P ≡ passing
+abbrev pub IsFound : Machine → Name → Option Handed → Process → Type 0
+IsFound μ x (Some h) P = IsHanded μ x h P
+IsFound μ x None P = P ≡ passing
 
 -- the members that were found under a name; where none were, there are none
-abbrev pub AreFound : AnswersByName → Plan → Option Holding → Members → Type 0
-AreFound φ p (Some h) ms = Gathers φ p h ms []
-AreFound φ p None ms = ms ≡ no_members
+abbrev pub AreFound : Machine → Option Holding → Members → Type 0
+AreFound μ (Some h) ms = Gathers μ h ms []
+AreFound μ None ms = ms ≡ no_members
 
 -- Each state stands for all that the one at its place stands for.
-pub data AllFollow (φ : AnswersByName) (p : Plan) : List State → List State → Type 0 where
-  none_follow : AllFollow φ p [] []
+pub data AllFollow (μ : Machine) : List State → List State → Type 0 where
+  none_follow : AllFollow μ [] []
   more_follow : {a b : State} {cs bs : List State}
-      → ((P : Process) (L : Life) → Stands φ p a P L → Stands φ p b P L) → AllFollow φ p cs bs → AllFollow φ p (a ∷ cs) (b ∷ bs)
+      → ((P : Process) (L : Life) → Stands μ a P L → Stands μ b P L) → AllFollow μ cs bs → AllFollow μ (a ∷ cs) (b ∷ bs)

@@ -26,6 +26,7 @@ ghost use Rattle.sf_coincidence.specs.Mentions.{BindsOthers};
 ghost use Rattle.sf_law.specs.declared.mentioned.Mentioned as mention_lists;
 ghost use Rattle.sf_law.specs.Mentioned.{is_mentioned};
 ghost use Rattle.sf_state.specs.Standing.{closed_over, HasMentioned, IsNames, AreGiven, AreFound, Gathers, IsHanded, IsFound, IsProcess};
+ghost use Rattle.sf_state.specs.Machine.{Machine, machine};
 
 use crate::state::{Gathered, Process, State};
 use sf_code::Names;
@@ -137,9 +138,9 @@ impl Binding {
 impl Binding {
     // The same names of the pattern, with fewer around it, if there are fewer. The error is a want of memory, or too many owners.
     fn over(&self, alloc: Global, fewer: Option<Env>) -> Result<Option<Env>, AllocError>
-        ensures { IfOk result (λ names. (φ : AnswersByName) (p : plans.Plan) (m l : mention_lists.Mentioned) (e : Environment) →
-            ((x : Name) → IsTrue (is_mentioned (plan_expressions p) m x) → BindsOthers (pattern_of (stored_pattern (plan_expressions p) self.now.pattern)) x → IsTrue (is_mentioned (plan_expressions p) l x)) →
-            IfSome fewer (λ names. HasMentioned φ p l names e) → IfSome names (λ names. HasMentioned φ p m names (bind (pattern_of (stored_pattern (plan_expressions p) self.now.pattern)) self.now.value.value e))) }
+        ensures { IfOk result (λ names. (μ : Machine) (m l : mention_lists.Mentioned) (e : Environment) →
+            ((x : Name) → IsTrue (is_mentioned (plan_expressions μ.plan) m x) → BindsOthers (pattern_of (stored_pattern (plan_expressions μ.plan) self.now.pattern)) x → IsTrue (is_mentioned (plan_expressions μ.plan) l x)) →
+            IfSome fewer (λ names. HasMentioned μ l names e) → IfSome names (λ names. HasMentioned μ m names (bind (pattern_of (stored_pattern (plan_expressions μ.plan) self.now.pattern)) self.now.value.value e))) }
     {
         let around = match fewer {
             Some(around) => around,
@@ -162,9 +163,9 @@ impl Running {
     // The same process under its name, with fewer names around it, if there are fewer. The error is a want of memory, or too many
     // owners.
     fn over(&self, alloc: Global, fewer: Option<Env>) -> Result<Option<Env>, AllocError>
-        ensures { IfOk result (λ names. (φ : AnswersByName) (p : plans.Plan) (m l : mention_lists.Mentioned) (e : Environment) (P : Lives.Process) →
-            ((x : Name) → IsTrue (is_mentioned (plan_expressions p) m x) → BindsOthers (named (name_at (plan_expressions p) self.now.name)) x → IsTrue (is_mentioned (plan_expressions p) l x)) →
-            IsHanded φ p (name_at (plan_expressions p) self.now.name) self.now.handed P → IfSome fewer (λ names. HasMentioned φ p l names e) → IfSome names (λ names. HasMentioned φ p m names (running (name_at (plan_expressions p) self.now.name) P e))) }
+        ensures { IfOk result (λ names. (μ : Machine) (m l : mention_lists.Mentioned) (e : Environment) (P : Lives.Process) →
+            ((x : Name) → IsTrue (is_mentioned (plan_expressions μ.plan) m x) → BindsOthers (named (name_at (plan_expressions μ.plan) self.now.name)) x → IsTrue (is_mentioned (plan_expressions μ.plan) l x)) →
+            IsHanded μ (name_at (plan_expressions μ.plan) self.now.name) self.now.handed P → IfSome fewer (λ names. HasMentioned μ l names e) → IfSome names (λ names. HasMentioned μ m names (running (name_at (plan_expressions μ.plan) self.now.name) P e))) }
     {
         let around = match fewer {
             Some(around) => around,
@@ -186,7 +187,7 @@ impl Running {
 impl Handed {
     // The same process, shared. The error is a want of memory, or too many owners.
     fn share(&self, alloc: Global) -> Result<Handed, AllocError>
-        ensures { IfOk result (λ same. (φ : AnswersByName) (p : plans.Plan) (x : Name) (P : Lives.Process) → IsHanded φ p x self.now P → IsHanded φ p x same P) }
+        ensures { IfOk result (λ same. (μ : Machine) (x : Name) (P : Lives.Process) → IsHanded μ x self.now P → IsHanded μ x same P) }
     {
         let process = self.process.share(alloc)?;
         let base = self.base.share()?;
@@ -198,9 +199,9 @@ impl Collected {
     // The same members under their name, with fewer names around them, if there are fewer. The error is a want of memory, or too
     // many owners.
     fn over(&self, alloc: Global, fewer: Option<Env>) -> Result<Option<Env>, AllocError>
-        ensures { IfOk result (λ names. (φ : AnswersByName) (p : plans.Plan) (m l : mention_lists.Mentioned) (e : Environment) (ms : Lives.Members) →
-            ((x : Name) → IsTrue (is_mentioned (plan_expressions p) m x) → BindsOthers (named (name_at (plan_expressions p) self.now.name)) x → IsTrue (is_mentioned (plan_expressions p) l x)) →
-            Gathers φ p (gathered_holding self.now.members) ms [] → IfSome fewer (λ names. HasMentioned φ p l names e) → IfSome names (λ names. HasMentioned φ p m names (collected (name_at (plan_expressions p) self.now.name) ms e))) }
+        ensures { IfOk result (λ names. (μ : Machine) (m l : mention_lists.Mentioned) (e : Environment) (ms : Lives.Members) →
+            ((x : Name) → IsTrue (is_mentioned (plan_expressions μ.plan) m x) → BindsOthers (named (name_at (plan_expressions μ.plan) self.now.name)) x → IsTrue (is_mentioned (plan_expressions μ.plan) l x)) →
+            Gathers μ (gathered_holding self.now.members) ms [] → IfSome fewer (λ names. HasMentioned μ l names e) → IfSome names (λ names. HasMentioned μ m names (collected (name_at (plan_expressions μ.plan) self.now.name) ms e))) }
     {
         let around = match fewer {
             Some(around) => around,
@@ -424,7 +425,7 @@ impl Call {
 impl Env {
     /// The same names, shared. The error is too many owners of one name.
     pub fn share(&self) -> Result<Env, AllocError>
-        ensures { IfOk result (λ names. (φ : AnswersByName) (p : plans.Plan) (e : Environment) → IsNames φ p self.now e → IsNames φ p names e) }
+        ensures { IfOk result (λ names. (μ : Machine) (e : Environment) → IsNames μ self.now e → IsNames μ names e) }
     {
         match self {
             Env::Empty => Ok(Env::Empty),
@@ -452,7 +453,7 @@ impl Env {
     /// of one name.
     #[inline(always)]
     pub fn mentioned_in(&self, alloc: Global, plan: &Plan, term: PlanId) -> Result<Env, AllocError>
-        ensures { IfOk result (λ names. (φ : AnswersByName) (e : Environment) → IsNames φ plan.now self.now e → IsProcess φ plan.now (closed_over term names) (closure (plan_tree plan.now term) e)) }
+        ensures { IfOk result (λ names. (φ : AnswersByName) (e : Environment) → IsNames (machine φ plan.now) self.now e → IsProcess (machine φ plan.now) (closed_over term names) (closure (plan_tree plan.now term) e)) }
     {
         let mentioned = match plan.mentioned(term) {
             Some(mentioned) => mentioned,
@@ -471,7 +472,7 @@ impl Env {
         plan: &Plan,
         mentioned: &Mentioned,
     ) -> Result<Option<Env>, AllocError>
-        ensures { IfOk result (λ fewer. (φ : AnswersByName) (e : Environment) → IsNames φ plan.now self.now e → IfSome fewer (λ names. HasMentioned φ plan.now mentioned.now names e)) }
+        ensures { IfOk result (λ fewer. (φ : AnswersByName) (e : Environment) → IsNames (machine φ plan.now) self.now e → IfSome fewer (λ names. HasMentioned (machine φ plan.now) mentioned.now names e)) }
     {
         if mentioned.is_empty() {
             return Ok(self.emptied());
@@ -526,8 +527,8 @@ impl Env {
 
     // Fewer names, or these, shared. The error is too many owners of one name.
     fn or_shared(&self, fewer: Option<Env>) -> Result<Option<Env>, AllocError>
-        ensures { IfOk result (λ names. (φ : AnswersByName) (p : plans.Plan) (m : mention_lists.Mentioned) (e : Environment) → IsNames φ p self.now e → IfSome fewer (λ names. HasMentioned φ p m names e) →
-            IfSome names (λ names. HasMentioned φ p m names e)) }
+        ensures { IfOk result (λ names. (μ : Machine) (m : mention_lists.Mentioned) (e : Environment) → IsNames μ self.now e → IfSome fewer (λ names. HasMentioned μ m names e) →
+            IfSome names (λ names. HasMentioned μ m names e)) }
     {
         match fewer {
             Some(names) => Ok(Some(names)),
@@ -545,8 +546,8 @@ impl Env {
         pattern: PatternId,
         value: Rc<Value>,
     ) -> Result<Env, AllocError>
-        ensures { IfOk result (λ names. (φ : AnswersByName) (p : plans.Plan) → expressions.now ≡ plan_expressions p → (e : Environment) → IsNames φ p self.now e →
-            IsNames φ p names (bind (pattern_of (stored_pattern (plan_expressions p) pattern)) value.value e)) }
+        ensures { IfOk result (λ names. (μ : Machine) → expressions.now ≡ plan_expressions μ.plan → (e : Environment) → IsNames μ self.now e →
+            IsNames μ names (bind (pattern_of (stored_pattern (plan_expressions μ.plan) pattern)) value.value e)) }
     {
         let around = self.share()?;
         if binds_nothing(expressions.placed(pattern)) {
@@ -572,8 +573,8 @@ impl Env {
         name: NameId,
         handed: Handed,
     ) -> Result<Env, AllocError>
-        ensures { IfOk result (λ names. (φ : AnswersByName) (p : plans.Plan) (e : Environment) (P : Lives.Process) → IsNames φ p self.now e → IsHanded φ p (name_at (plan_expressions p) name) handed P →
-            IsNames φ p names (running (name_at (plan_expressions p) name) P e)) }
+        ensures { IfOk result (λ names. (μ : Machine) (e : Environment) (P : Lives.Process) → IsNames μ self.now e → IsHanded μ (name_at (plan_expressions μ.plan) name) handed P →
+            IsNames μ names (running (name_at (plan_expressions μ.plan) name) P e)) }
     {
         let around = self.share()?;
         let running = Rc::new(
@@ -595,8 +596,8 @@ impl Env {
         name: NameId,
         members: Gathered,
     ) -> Result<Env, AllocError>
-        ensures { IfOk result (λ names. (φ : AnswersByName) (p : plans.Plan) (e : Environment) (ms : Lives.Members) → IsNames φ p self.now e → Gathers φ p (gathered_holding members) ms [] →
-            IsNames φ p names (collected (name_at (plan_expressions p) name) ms e)) }
+        ensures { IfOk result (λ names. (μ : Machine) (e : Environment) (ms : Lives.Members) → IsNames μ self.now e → Gathers μ (gathered_holding members) ms [] →
+            IsNames μ names (collected (name_at (plan_expressions μ.plan) name) ms e)) }
     {
         let around = self.share()?;
         let collected = Rc::new(
@@ -618,8 +619,8 @@ impl Env {
         members: &Gathered,
         wait: u64,
     ) -> Result<Env, AllocError>
-        ensures { IfOk result (λ names. (φ : AnswersByName) (p : plans.Plan) (e : Environment) (ms : Lives.Members) (L : Life) → IsNames φ p self.now e → Gathers φ p (gathered_holding members.now) ms L →
-            IsNames φ p names (collected (name_at (plan_expressions p) name) (each_frozen ms L wait) e)) }
+        ensures { IfOk result (λ names. (μ : Machine) (e : Environment) (ms : Lives.Members) (L : Life) → IsNames μ self.now e → Gathers μ (gathered_holding members.now) ms L →
+            IsNames μ names (collected (name_at (plan_expressions μ.plan) name) (each_frozen ms L wait) e)) }
     {
         let frozen = members.freeze(wait)?;
         self.with_members(alloc, name, frozen)
@@ -631,7 +632,7 @@ impl Env {
         template: TemplateId,
         arguments: Vec<Given>,
     ) -> Result<Env, AllocError>
-        ensures { IfOk result (λ names. (φ : AnswersByName) (p : plans.Plan) (e : Environment) → AreGiven φ p (names_of_parameters (plan_expressions p) (header_at p template).parameters) arguments.items empty e → IsNames φ p names e) }
+        ensures { IfOk result (λ names. (μ : Machine) (e : Environment) → AreGiven μ (names_of_parameters (plan_expressions μ.plan) (header_at μ.plan template).parameters) arguments.items empty e → IsNames μ names e) }
     {
         let call = Rc::new(
             alloc,
@@ -645,8 +646,8 @@ impl Env {
 
     /// What a name stands for, if that is a process: of the same names the innermost counts. The names are those of the plan.
     pub fn running<'r>(&'r self, plan: &Plan, name: NameId) -> Option<&'r Handed>
-        ensures { (φ : AnswersByName) (e : Environment) → IsNames φ plan.now self.now e →
-            IsFound φ plan.now (name_at (plan_expressions plan.now) name) (option_map (λ r. r.now) result) (process_of (name_at (plan_expressions plan.now) name) e) }
+        ensures { (φ : AnswersByName) (e : Environment) → IsNames (machine φ plan.now) self.now e →
+            IsFound (machine φ plan.now) (name_at (plan_expressions plan.now) name) (option_map (λ r. r.now) result) (process_of (name_at (plan_expressions plan.now) name) e) }
     {
         match self {
             Env::Empty => None,
@@ -677,8 +678,8 @@ impl Env {
     /// The members of a name: of the same names the innermost counts, and what is no collection's has none. The names are those of
     /// the plan.
     pub fn members<'r>(&'r self, plan: &Plan, name: NameId) -> Option<&'r Gathered>
-        ensures { (φ : AnswersByName) (e : Environment) → IsNames φ plan.now self.now e →
-            AreFound φ plan.now (option_map (λ l. gathered_holding l.now) result) (members_of (name_at (plan_expressions plan.now) name) e) }
+        ensures { (φ : AnswersByName) (e : Environment) → IsNames (machine φ plan.now) self.now e →
+            AreFound (machine φ plan.now) (option_map (λ l. gathered_holding l.now) result) (members_of (name_at (plan_expressions plan.now) name) e) }
     {
         match self {
             Env::Empty => None,

@@ -12,6 +12,7 @@ ghost use Rattle.sf_mean.specs.Meaning.{body_of};
 ghost use Rattle.sf_state.specs.declared.env.Env as environments;
 ghost use Rattle.sf_state.specs.Held.{gathered_holding};
 ghost use Rattle.sf_state.specs.Standing.{IsNames, Stands, Ready, Waits, WaitsContinuation, WaitsGathered, Gathers, IsProcess, AllFollow, frozen_state, is_primitive, is_frozen};
+ghost use Rattle.sf_state.specs.Machine.{Machine, machine};
 
 use crate::env::{Env, Handed};
 use crate::feedback::Feedback;
@@ -373,7 +374,7 @@ impl State {
 
     /// A term without names, before its first sample.
     pub fn unborn(term: PlanId) -> State
-        ensures { (φ : AnswersByName) (p : Plan) → Stands φ p result (closure (plan_tree p term) empty) [] }
+        ensures { (μ : Machine) → Stands μ result (closure (plan_tree μ.plan term) empty) [] }
     {
         State::Unborn(Process {
             term,
@@ -385,7 +386,7 @@ impl State {
     /// The error is a want of memory, or too many owners of one node.
     #[inline(always)]
     pub fn share(&self, alloc: Global) -> Result<State, AllocError>
-        ensures { IfOk result (λ shared. (φ : AnswersByName) (p : Plan) (P : Lives.Process) (L : Life) → Stands φ p self.now P L → Stands φ p shared P L) }
+        ensures { IfOk result (λ shared. (μ : Machine) (P : Lives.Process) (L : Life) → Stands μ self.now P L → Stands μ shared P L) }
     {
         match self {
             State::Primitive(primitive) => {
@@ -400,7 +401,7 @@ impl State {
     #[inline(never)]
     fn share_node(&self) -> Result<State, AllocError>
         requires { IsFalse (is_primitive self.now) }
-        ensures { IfOk result (λ shared. (φ : AnswersByName) (p : Plan) (P : Lives.Process) (L : Life) → Stands φ p self.now P L → Stands φ p shared P L) }
+        ensures { IfOk result (λ shared. (μ : Machine) (P : Lives.Process) (L : Life) → Stands μ self.now P L → Stands μ shared P L) }
     {
         match self {
             State::Unborn(process) => {
@@ -439,8 +440,8 @@ impl State {
     /// nodes, so it takes memory for one node, whatever the size of the part, and no step of one of the two changes the
     /// other. A part that hasn't been stepped is as it was. The error is a want of memory, or too many owners of one node.
     pub fn freeze(&self, alloc: Global, wait: u64) -> Result<State, AllocError>
-        ensures { IfOk result (λ frozen. (φ : AnswersByName) (p : Plan) (P : Lives.Process) (L : Life) → Stands φ p self.now P L →
-            Stands φ p frozen (Lives.frozen P L wait) []) }
+        ensures { IfOk result (λ frozen. (μ : Machine) (P : Lives.Process) (L : Life) → Stands μ self.now P L →
+            Stands μ frozen (Lives.frozen P L wait) []) }
     {
         match self {
             State::Unborn(_) | State::Frozen(_) => self.share(alloc),
@@ -474,7 +475,7 @@ impl State {
     /// it stands for nothing.
     #[cycle(renew)]
     pub fn renew(&mut self, alloc: Global, other: &State) -> Result<(), AllocError>
-        ensures { OnOk result ((φ : AnswersByName) (p : Plan) (P : Lives.Process) (L : Life) → Stands φ p other.now P L → Stands φ p self.new P L) }
+        ensures { OnOk result ((μ : Machine) (P : Lives.Process) (L : Life) → Stands μ other.now P L → Stands μ self.new P L) }
     {
         if let State::Live(names, node) = other {
             if let State::Live(around, own) = self {
@@ -494,8 +495,8 @@ impl State {
 // A node with these names around it, frozen.
 #[inline(always)]
 fn freeze_node(alloc: Global, wait: u64, names: &Env, node: FrozenNode) -> Result<State, AllocError>
-    ensures { IfOk result (λ frozen. (φ : AnswersByName) (p : Plan) (P : Lives.Process) (s : Step) (h : Life) → Stands φ p (frozen_state names.now node) P (s ∷ h) →
-        Stands φ p frozen (resumed P (s ∷ h) wait) []) }
+    ensures { IfOk result (λ frozen. (μ : Machine) (P : Lives.Process) (s : Step) (h : Life) → Stands μ (frozen_state names.now node) P (s ∷ h) →
+        Stands μ frozen (resumed P (s ∷ h) wait) []) }
 {
     let around = names.share()?;
     let frozen = Frozen {
@@ -509,7 +510,7 @@ fn freeze_node(alloc: Global, wait: u64, names: &Env, node: FrozenNode) -> Resul
 impl Live {
     /// A copy of the node over the same parts, which are shared.
     pub fn clone_in(&self, alloc: Global) -> Result<Live, AllocError>
-        ensures { IfOk result (λ copy. (φ : AnswersByName) (p : Plan) (P : Lives.Process) (x : Data) (L : Life) → Ready φ p self.now P x L → Ready φ p copy P x L) }
+        ensures { IfOk result (λ copy. (μ : Machine) (P : Lives.Process) (x : Data) (L : Life) → Ready μ self.now P x L → Ready μ copy P x L) }
     {
         match self {
             Live::Join(join, left, right) => {
@@ -537,10 +538,10 @@ impl Live {
         }
     }
 
-    // The same of a node.
+    // Makes the node stand for all that another one stands for, as `State::renew` does.
     #[cycle(renew)]
     fn renew(&mut self, alloc: Global, other: &Live) -> Result<(), AllocError>
-        ensures { OnOk result ((φ : AnswersByName) (p : Plan) (P : Lives.Process) (x : Data) (L : Life) → Ready φ p other.now P x L → Ready φ p self.new P x L) }
+        ensures { OnOk result ((μ : Machine) (P : Lives.Process) (x : Data) (L : Life) → Ready μ other.now P x L → Ready μ self.new P x L) }
     {
         match other {
             Live::Join(join, left, right) => {
@@ -600,7 +601,7 @@ impl Gathered {
 
     /// No members.
     pub fn none(alloc: Global) -> Result<Gathered, AllocError>
-        ensures { IfOk result (λ none. (φ : AnswersByName) (p : Plan) (L : Life) → Gathers φ p (gathered_holding none) no_members L) }
+        ensures { IfOk result (λ none. (μ : Machine) (L : Life) → Gathers μ (gathered_holding none) no_members L) }
     {
         let keys = Rc::new(alloc, Keys::new(alloc))?;
         let states = Rc::new(alloc, Vec::new(alloc))?;
@@ -627,8 +628,8 @@ impl Gathered {
     /// The members from here on, each to go on in another place `wait` milliseconds after its last sample. They share all, so
     /// it takes no memory, and no step of one of the two changes the other. The error is too many owners.
     pub fn freeze(&self, wait: u64) -> Result<Gathered, AllocError>
-        ensures { IfOk result (λ frozen. (φ : AnswersByName) (p : Plan) (ms : Lives.Members) (L : Life) → Gathers φ p (gathered_holding self.now) ms L →
-            Gathers φ p (gathered_holding frozen) (each_frozen ms L wait) []) }
+        ensures { IfOk result (λ frozen. (μ : Machine) (ms : Lives.Members) (L : Life) → Gathers μ (gathered_holding self.now) ms L →
+            Gathers μ (gathered_holding frozen) (each_frozen ms L wait) []) }
     {
         let under = self.keys.clone()?;
         let all = self.states.clone()?;
@@ -642,7 +643,7 @@ impl Gathered {
     /// Makes these the members that others are, as `State::renew` does: each is copied into the nodes of the one at its place,
     /// where there are as many and nothing else has their list. Else the list is shared. After an error they stand for nothing.
     pub fn renew(&mut self, alloc: Global, other: &Gathered) -> Result<(), AllocError>
-        ensures { OnOk result ((φ : AnswersByName) (p : Plan) (ms : Lives.Members) (L : Life) → Gathers φ p (gathered_holding other.now) ms L → Gathers φ p (gathered_holding self.new) ms L) }
+        ensures { OnOk result ((μ : Machine) (ms : Lives.Members) (L : Life) → Gathers μ (gathered_holding other.now) ms L → Gathers μ (gathered_holding self.new) ms L) }
     {
         let keys = other.keys.clone()?;
         renew_list(alloc, &mut self.states, &other.states)?;
@@ -655,7 +656,7 @@ impl Gathered {
 impl Switch {
     /// A copy of the node over the same state, which is shared.
     pub fn clone_in(&self, alloc: Global) -> Result<Switch, AllocError>
-        ensures { IfOk result (λ copy. (φ : AnswersByName) (p : Plan) (P : Lives.Process) (L : Life) → Waits φ p self.now P L → Waits φ p copy P L) }
+        ensures { IfOk result (λ copy. (μ : Machine) (P : Lives.Process) (L : Life) → Waits μ self.now P L → Waits μ copy P L) }
     {
         let running = self.running.share(alloc)?;
         Ok(Switch {
@@ -676,8 +677,8 @@ impl Switch {
         payload: Rc<Value>,
     ) -> Result<State, AllocError>
         ensures { let p = plan.now in
-            IfOk result (λ begun. (φ : AnswersByName) (e : Environment) → IsNames φ p names.now e →
-            Stands φ p begun (body_of (pattern_of (stored_pattern (plan_expressions p) self.now.pattern)) (plan_tree p self.now.body) e payload.value) []) }
+            IfOk result (λ begun. (φ : AnswersByName) (e : Environment) → IsNames (machine φ p) names.now e →
+            Stands (machine φ p) begun (body_of (pattern_of (stored_pattern (plan_expressions p) self.now.pattern)) (plan_tree p self.now.body) e payload.value) []) }
     {
         let around = names.inside(alloc, plan.expressions(), self.pattern, payload)?;
         Ok(State::Unborn(Process {
@@ -690,7 +691,7 @@ impl Switch {
 impl Continuation {
     /// A copy of the node over the same states, which are shared. What ran before the last sample is left out.
     pub fn clone_in(&self, alloc: Global) -> Result<Continuation, AllocError>
-        ensures { IfOk result (λ copy. (φ : AnswersByName) (p : Plan) (P : Lives.Process) (L : Life) → WaitsContinuation φ p self.now P L → WaitsContinuation φ p copy P L) }
+        ensures { IfOk result (λ copy. (μ : Machine) (P : Lives.Process) (L : Life) → WaitsContinuation μ self.now P L → WaitsContinuation μ copy P L) }
     {
         let source = self.source.share(alloc)?;
         let observer = self.observer.share(alloc)?;
@@ -719,8 +720,8 @@ impl Continuation {
         payload: Rc<Value>,
     ) -> Result<State, AllocError>
         ensures { let p = plan.now in
-            IfOk result (λ begun. (φ : AnswersByName) (e : Environment) (P : Lives.Process) (L : Life) → IsNames φ p names.now e → Stands φ p self.now.before P L →
-            base P ≡ closure (plan_tree p self.now.first) e → Stands φ p begun (closure (plan_tree p self.now.body)
+            IfOk result (λ begun. (φ : AnswersByName) (e : Environment) (P : Lives.Process) (L : Life) → IsNames (machine φ p) names.now e → Stands (machine φ p) self.now.before P L →
+            base P ≡ closure (plan_tree p self.now.first) e → Stands (machine φ p) begun (closure (plan_tree p self.now.body)
             (bind (pattern_of (stored_pattern (plan_expressions p) self.now.pattern)) payload.value (running (name_at (plan_expressions p) self.now.name) (Lives.frozen P L wait) e))) []) }
     {
         let frozen = self.before.freeze(alloc, wait)?;
@@ -741,7 +742,7 @@ impl Continuation {
 impl Gathering {
     /// A copy of the node over the same states, which are shared. What ran before the last sample is left out.
     pub fn clone_in(&self, alloc: Global) -> Result<Gathering, AllocError>
-        ensures { IfOk result (λ copy. (φ : AnswersByName) (p : Plan) (P : Lives.Process) (L : Life) → WaitsGathered φ p self.now P L → WaitsGathered φ p copy P L) }
+        ensures { IfOk result (λ copy. (μ : Machine) (P : Lives.Process) (L : Life) → WaitsGathered μ self.now P L → WaitsGathered μ copy P L) }
     {
         match self {
             Gathering::Releasing(releasing) => {
@@ -786,8 +787,8 @@ impl Releasing {
         payload: Rc<Value>,
     ) -> Result<State, AllocError>
         ensures { let p = plan.now in
-            IfOk result (λ begun. (φ : AnswersByName) (e : Environment) (ms : Lives.Members) (L : Life) → IsNames φ p names.now e → Gathers φ p (gathered_holding self.now.before) ms L →
-            Stands φ p begun (closure (plan_tree p self.now.body)
+            IfOk result (λ begun. (φ : AnswersByName) (e : Environment) (ms : Lives.Members) (L : Life) → IsNames (machine φ p) names.now e → Gathers (machine φ p) (gathered_holding self.now.before) ms L →
+            Stands (machine φ p) begun (closure (plan_tree p self.now.body)
             (bind (pattern_of (stored_pattern (plan_expressions p) self.now.pattern)) payload.value (collected (name_at (plan_expressions p) self.now.name) (each_frozen ms L wait) e))) []) }
     {
         let known = names.with_frozen(alloc, self.name, &self.before, wait)?;
@@ -812,8 +813,8 @@ impl Editing {
         payload: Rc<Value>,
     ) -> Result<Env, AllocError>
         ensures { let p = plan.now in
-            IfOk result (λ inside. (φ : AnswersByName) (e : Environment) (ms : Lives.Members) (L : Life) → IsNames φ p names.now e → Gathers φ p (gathered_holding self.now.members) ms L →
-            IsNames φ p inside (bind (pattern_of (stored_pattern (plan_expressions p) self.now.pattern)) payload.value (collected (name_at (plan_expressions p) self.now.name) (each_frozen ms L wait) e))) }
+            IfOk result (λ inside. (φ : AnswersByName) (e : Environment) (ms : Lives.Members) (L : Life) → IsNames (machine φ p) names.now e → Gathers (machine φ p) (gathered_holding self.now.members) ms L →
+            IsNames (machine φ p) inside (bind (pattern_of (stored_pattern (plan_expressions p) self.now.pattern)) payload.value (collected (name_at (plan_expressions p) self.now.name) (each_frozen ms L wait) e))) }
     {
         let known = names.with_frozen(alloc, self.name, &self.members, wait)?;
         let around = known.inside(alloc, plan.expressions(), self.pattern, payload)?;
@@ -824,8 +825,8 @@ impl Editing {
 impl FrozenNode {
     /// The same node, shared, or a copy of a primitive. The error is a want of memory, or too many owners.
     pub fn share(&self, alloc: Global) -> Result<FrozenNode, AllocError>
-        ensures { IfOk result (λ same. (φ : AnswersByName) (p : Plan) (names : environments.Env) (P : Lives.Process) (L : Life) →
-            Stands φ p (frozen_state names self.now) P L → Stands φ p (frozen_state names same) P L) }
+        ensures { IfOk result (λ same. (μ : Machine) (names : environments.Env) (P : Lives.Process) (L : Life) →
+            Stands μ (frozen_state names self.now) P L → Stands μ (frozen_state names same) P L) }
     {
         match self {
             FrozenNode::Primitive(primitive) => {
@@ -855,8 +856,8 @@ impl FrozenNode {
 impl Frozen {
     /// The part as it was when it was frozen, which shares its nodes. The error is a want of memory, or too many owners.
     pub fn wake(&self, alloc: Global) -> Result<State, AllocError>
-        ensures stands { IfOk result (λ state. (φ : AnswersByName) (p : Plan) (P : Lives.Process) (L : Life) →
-            Stands φ p (frozen_state self.now.names self.now.node) P L → Stands φ p state P L) }
+        ensures stands { IfOk result (λ state. (μ : Machine) (P : Lives.Process) (L : Life) →
+            Stands μ (frozen_state self.now.names self.now.node) P L → Stands μ state P L) }
         ensures awake { IfOk result (λ state. is_frozen state ≡ false) }
     {
         let around = self.names.share()?;
@@ -872,7 +873,7 @@ impl Frozen {
 
 // The same states, each over its node. The error is a want of memory, or too many owners.
 fn share_all(alloc: Global, states: &[State]) -> Result<Vec<State>, AllocError>
-    ensures { IfOk result (λ shared. (φ : AnswersByName) (p : Plan) → AllFollow φ p states.now shared.items) }
+    ensures { IfOk result (λ shared. (μ : Machine) → AllFollow μ states.now shared.items) }
 {
     let mut shared = Vec::with_capacity(alloc, states.len())?;
     for state in states {
@@ -884,7 +885,7 @@ fn share_all(alloc: Global, states: &[State]) -> Result<Vec<State>, AllocError>
 // Makes each of these states stand for all that the one at its place stands for.
 fn renew_all(alloc: Global, own: &mut Vec<State>, states: &[State]) -> Result<(), AllocError>
     requires { length own.old.items ≡ length states.now }
-    ensures { OnOk result ((φ : AnswersByName) (p : Plan) → AllFollow φ p states.now own.new.items) }
+    ensures { OnOk result ((μ : Machine) → AllFollow μ states.now own.new.items) }
 {
     for place in 0..states.len() {
         own[place].renew(alloc, &states[place])?;
@@ -898,7 +899,7 @@ fn renew_list(
     own: &mut Rc<Vec<State>>,
     states: &Rc<Vec<State>>,
 ) -> Result<(), AllocError>
-    ensures { OnOk result ((φ : AnswersByName) (p : Plan) → AllFollow φ p states.now.value.items own.new.value.items) }
+    ensures { OnOk result ((μ : Machine) → AllFollow μ states.now.value.items own.new.value.items) }
 {
     if let Some(list) = Rc::get_mut(own) {
         if list.len() == states.len() {
@@ -918,7 +919,7 @@ pub fn hold_back_members(
     before: &mut Gathered,
 ) -> Result<(), AllocError>
     ensures held { OnOk result (before.new ≡ members.old) }
-    ensures runs_on { OnOk result ((φ : AnswersByName) (p : Plan) (ms : Lives.Members) (L : Life) → Gathers φ p (gathered_holding members.old) ms L → Gathers φ p (gathered_holding members.new) ms L) }
+    ensures runs_on { OnOk result ((μ : Machine) (ms : Lives.Members) (L : Life) → Gathers μ (gathered_holding members.old) ms L → Gathers μ (gathered_holding members.new) ms L) }
 {
     before.renew(alloc, members)?;
     mem::swap(members, before);
@@ -928,7 +929,7 @@ pub fn hold_back_members(
 /// The states of members as a list of their own: where it was shared, each is over its node. The error is a want of memory, or
 /// too many owners.
 pub fn own_states(alloc: Global, states: Rc<Vec<State>>) -> Result<Vec<State>, AllocError>
-    ensures { IfOk result (λ own. (φ : AnswersByName) (p : Plan) → AllFollow φ p states.value.items own.items) }
+    ensures { IfOk result (λ own. (μ : Machine) → AllFollow μ states.value.items own.items) }
 {
     match Rc::try_unwrap(states) {
         Ok(own) => Ok(own),
@@ -982,7 +983,7 @@ impl Process {
         term: PlanId,
         names: &Env,
     ) -> Result<Process, AllocError>
-        ensures { IfOk result (λ process. (φ : AnswersByName) (e : Environment) → IsNames φ plan.now names.now e → IsProcess φ plan.now process (closure (plan_tree plan.now term) e)) }
+        ensures { IfOk result (λ process. (φ : AnswersByName) (e : Environment) → IsNames (machine φ plan.now) names.now e → IsProcess (machine φ plan.now) process (closure (plan_tree plan.now term) e)) }
     {
         let names = names.mentioned_in(alloc, plan, term)?;
         Ok(Process { term, names })
@@ -997,7 +998,7 @@ impl Process {
         term: PlanId,
         names: &Env,
     ) -> Result<Process, AllocError>
-        ensures { IfOk result (λ process. IsTrue (plan_asks plan.now (name_at (plan_expressions plan.now) name)) → (φ : AnswersByName) (e : Environment) → IsNames φ plan.now names.now e → IsProcess φ plan.now process (closure (plan_tree plan.now term) e)) }
+        ensures { IfOk result (λ process. IsTrue (plan_asks plan.now (name_at (plan_expressions plan.now) name)) → (φ : AnswersByName) (e : Environment) → IsNames (machine φ plan.now) names.now e → IsProcess (machine φ plan.now) process (closure (plan_tree plan.now term) e)) }
     {
         if plan.asks(name) {
             return Process::within(alloc, plan, term, names);
@@ -1010,7 +1011,7 @@ impl Process {
 
     /// The same process, which shares its names. The error is too many owners of one name.
     pub fn share(&self) -> Result<Process, AllocError>
-        ensures { IfOk result (λ same. (φ : AnswersByName) (p : Plan) (P : Lives.Process) → IsProcess φ p self.now P → IsProcess φ p same P) }
+        ensures { IfOk result (λ same. (μ : Machine) (P : Lives.Process) → IsProcess μ self.now P → IsProcess μ same P) }
     {
         let names = self.names.share()?;
         Ok(Process {

@@ -4,14 +4,12 @@ use Rattle.std.proofs.lemmas.List.{append-nil}
 use Rattle.sf_value.specs.Values.{Data}
 use Rattle.sf_value.specs.declared.fault.Fault.{Fault}
 use Rattle.sf_value.specs.declared.fault.Fault.TheVariants.{Memory}
-use Rattle.sf_func.specs.Registries.{AnswersByName}
 use Rattle.sf_term.specs.declared.form.Observation.{Observation}
 use Rattle.sf_term.specs.Trees.{Extent, whole, rest, Term, primitive, reference, joined, sided, headed, transformed, switching, continuing, staged, gathered, releasing, editing}
 use Rattle.sf_mean.specs.Lives.{Step, step, Life, Process, closure, Environment}
 use Rattle.sf_mean.specs.Meaning.{Network, Readings, Outcome, Cost, count, height, no_cost, both_costs, over, over_first, over_stages, text_cost, entered_cost, Made, Gives, gives, Sample, of_constants, of_form, of_resumed, Form, of_primitive, of_join, of_side, of_loop, of_initialized, of_replaced, of_followed, of_transformed, of_reference, of_switch, of_continuing, of_recurring, of_stages, Watched, Takeover, Standing, SwitchTurn, while_waiting, as_body, of_gathered, of_releasing, of_editing}
-use Rattle.sf_law.specs.declared.plan.Plan.{Plan}
-use Rattle.sf_law.specs.Arena.{network_of_plan}
 use Rattle.sf_state.specs.declared.state.State.{State}
+use Rattle.sf_state.specs.Machine.{Machine, machine_network}
 use Rattle.sf_meter.specs.declared.meter.Meter.{Meter}
 use Rattle.sf_meter.specs.Meters.{entered_of, meter_height, readings, Ticks}
 use Rattle.sf_step.specs.Answering.{Rel, Spent, AtMost, Within, StopsFor, faults, memory, Answers, fails}
@@ -99,9 +97,9 @@ module _ (n : Network) where
     pub counts : {P : Process} {L : Life} {o : Outcome} {k : Cost} → Gives n P L o k → (1 ≤ count k) × (1 ≤ height k)
     counts (gives O S) = sample_counts S
 
-module _ (φ : AnswersByName) (p : Plan) where
+module _ (μ : Machine) where
   abbrev net : Network
-  net = network_of_plan φ p
+  net = machine_network μ
 
   -- a counted node counts at most what it costs
   pub ticked_within : {m n n' : Meter} {depth inside : ℕ} {P : Process} {L : Life} → Ticks m n depth inside → entered_of n' ≡ entered_of n → meter_height n' ≡ meter_height n → Within (Gives net P L) m n' depth
@@ -118,10 +116,10 @@ module _ (φ : AnswersByName) (p : Plan) where
   -- ## Parts that do not begin
 
   module _ {m n n' : Meter} {depth inside : ℕ} (t : Ticks m n depth inside) (en : entered_of n' ≡ entered_of n) (hn : meter_height n' ≡ meter_height n) where
-    pub open_stops : {u : Term} {e : Environment} {x : Data} {f : Fault} (d : ℕ) → Opens φ p u e x (Err f) → StopsFor (Gives net (closure u e) (step d x ∷ [])) f m n' depth
+    pub open_stops : {u : Term} {e : Environment} {x : Data} {f : Fault} (d : ℕ) → Opens μ u e x (Err f) → StopsFor (Gives net (closure u e) (step d x ∷ [])) f m n' depth
     open_stops d (opens_with_fault h) = faults (h d) ((ticked_within t en hn).most _ _ (h d))
     open_stops d opens_without_memory = memory (ticked_within t en hn)
 
     -- what has not begun has no value, for the same fault
-    pub begin_stops : {u : Term} {e : Environment} {x : Data} {a : State} {f : Fault} (d : ℕ) → BeginsAs φ p u e x a (Err f) → StopsFor (Gives net (closure u e) (step d x ∷ [])) f m n' depth
+    pub begin_stops : {u : Term} {e : Environment} {x : Data} {a : State} {f : Fault} (d : ℕ) → BeginsAs μ u e x a (Err f) → StopsFor (Gives net (closure u e) (step d x ∷ [])) f m n' depth
     begin_stops d (begins_not O) = open_stops d O

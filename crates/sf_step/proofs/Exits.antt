@@ -1,5 +1,5 @@
 -- What each function of a sample answers, from what it calls.
-use Rattle.std.proofs.Common.{◌≡◌, ℕ, ◌+◌, ◌≤◌, List, [], ◌∷◌, ◌++◌, Option, Result, Ok, Err, sym, ap, ◌∙◌, subst, arith}
+use Rattle.std.proofs.Common.{◌≡◌, ℕ, IsTrue, ◌+◌, ◌≤◌, List, [], ◌∷◌, ◌++◌, Option, Result, Ok, Err, sym, ap, ◌∙◌, subst, arith}
 use Rattle.sf_value.specs.Values.{Data}
 use Rattle.sf_value.specs.declared.fault.Fault.{Fault}
 use Rattle.sf_probe.specs.declared.reading.Readings as declared
@@ -10,10 +10,8 @@ use Rattle.sf_expr.specs.Evaluation.{Evaluated, answer}
 use Rattle.sf_expr.specs.Evaluation
 use Rattle.sf_term.specs.declared.form.Join.{Join}
 use Rattle.sf_law.specs.declared.node.PlanId.{PlanId}
-use Rattle.sf_func.specs.Registries.{AnswersByName}
-use Rattle.sf_law.specs.declared.plan.Plan.{Plan}
 use Rattle.sf_term.specs.Trees.{Term}
-use Rattle.sf_law.specs.Arena.{plan_tree, network_of_plan}
+use Rattle.sf_law.specs.Arena.{plan_tree}
 use Rattle.sf_mean.specs.Lives.{Step, step, Life, Process, closure, Environment, first_input}
 use Rattle.sf_mean.specs.Meaning.{Network, Readings, Outcome, gave, faulted, as_outcome, Cost, count, height, both_costs, over, left_life, right_life, join_value, Gives, gives, Outputs, not_begun, and_gave, of_form, Form}
 use Rattle.sf_prim.specs.declared.prim_state.PrimState.{PrimState}
@@ -25,13 +23,14 @@ use Rattle.sf_state.specs.declared.state.Continuation.{Continuation}
 use Rattle.sf_state.specs.declared.state.Gathering.{Gathering}
 use Rattle.sf_state.specs.declared.state.Live.TheVariants.{Join as LJoin, Wrap as LWrap}
 use Rattle.sf_state.specs.declared.state.Wrap.{Wrap}
-use Rattle.sf_state.specs.Standing.{gathering_on, closed_over, was_alike, Stands, itself, StandsItself, unborn, recalling, alive, watching, continuing_on, Settles, settles, Ready, ready, lives_join, lives_wrap, is_closure, IsNames}
+use Rattle.sf_state.specs.Standing.{gathering_on, was_frozen, closed_over, was_alike, Stands, itself, StandsItself, unborn, recalling, alive, watching, continuing_on, Settles, settles, Ready, ready, lives_join, lives_wrap, is_closure, IsNames}
 use Rattle.sf_state.specs.declared.env.Env.{Env}
+use Rattle.sf_state.specs.Machine.{Machine, machine_network}
 use Rattle.sf_begin.specs.declared.opening.Begun.TheVariants as begun
 use Rattle.sf_meter.specs.declared.meter.Meter.{Meter}
 use Rattle.sf_meter.specs.Meters.{entered_of, meter_height, readings, Ticks, Ticked, ticked, refused, left_or}
 use Rattle.sf_step.specs.Answering.{Rel, Spent, Within, StopsFor, faults, large, memory, Answers, answers, fails, PrimSteps, LiveSteps, FirstSteps}
-use Rattle.sf_begin.specs.Beginning.{Prepared, primitive_prepared, live_prepared, switch_prepared, continuing_prepared, BeginsAs, begins_itself, gathering_prepared}
+use Rattle.sf_begin.specs.Beginning.{is_awake, Prepared, primitive_prepared, live_prepared, switch_prepared, continuing_prepared, BeginsAs, begins_itself, gathering_prepared}
 use Rattle.sf_step.proofs.Costs.{memory_exit, counts, begin_stops}
 use Rattle.sf_step.proofs.First.{recalled}
 use Rattle.sf_step.specs.Sampling.{PartSteps, StateSteps, CountedSteps, Waiting, WaitingSteps}
@@ -45,9 +44,9 @@ use Rattle.sf_step.proofs.SwitchTurns.{lift_steps, took_answers, referred_begins
 pub ticked_by : {m n : Meter} {depth inside : ℕ} → Ticked m n depth (Ok inside) → Ticks m n depth inside
 ticked_by (ticked t) = t
 
-module _ (φ : AnswersByName) (p : Plan) where
+module _ (μ : Machine) where
   abbrev net : Network
-  net = network_of_plan φ p
+  net = machine_network μ
 
   -- ## Ticks
 
@@ -59,22 +58,22 @@ module _ (φ : AnswersByName) (p : Plan) where
       go o k G a b = let c = counts net G in omega (arith, c.0, c.1, h, a, b)
 
   -- memory runs out before a node is counted
-  pub first_memory : {a : State} {s : Step} {m n : Meter} {depth : ℕ} {f : Fault} → entered_of n ≡ entered_of m → meter_height n ≡ meter_height m → f ≡ Memory → StateSteps φ p a s (Err f) m n depth
+  pub first_memory : {a : State} {s : Step} {m n : Meter} {depth : ℕ} {f : Fault} → entered_of n ≡ entered_of m → meter_height n ≡ meter_height m → f ≡ Memory → StateSteps μ a s (Err f) m n depth
   first_memory en hn e P L A = memory_exit e (record { most = λ o k G. record { entered = omega (arith, en); high = omega (arith, hn) } })
 
   -- memory runs out after the parts have been stepped
-  pub late_memory : {l l' : Live} {s : Step} {v : Data} {n n' n'' : Meter} {inside : ℕ} {f : Fault} → LiveSteps φ p l s (Ok (l', v)) n n' inside → entered_of n'' ≡ entered_of n' → meter_height n'' ≡ meter_height n' → f ≡ Memory
-      → LiveSteps φ p l s (Err f) n n'' inside
+  pub late_memory : {l l' : Live} {s : Step} {v : Data} {n n' n'' : Meter} {inside : ℕ} {f : Fault} → LiveSteps μ l s (Ok (l', v)) n n' inside → entered_of n'' ≡ entered_of n' → meter_height n'' ≡ meter_height n' → f ≡ Memory
+      → LiveSteps μ l s (Err f) n n'' inside
   late_memory hs en hn e m depth t P L R = let w = answered (hs m depth t P L R) in memory_exit e (spent_within (single_gives net P _) w.given w.spent en hn)
 
   module _ {A : Type 0} (W : Waiting A) {names : Env} {k : A} {s : Step} {n n' : Meter} {inside : ℕ} where
     -- the same of a switch of some kind
-    pub late_waiting : {o : Option State} {k' : A} {v : Data} {n'' : Meter} {f : Fault} → WaitingSteps φ p W names k s (Ok ((o, k'), v)) n n' inside → entered_of n'' ≡ entered_of n' → meter_height n'' ≡ meter_height n' → f ≡ Memory
-        → WaitingSteps φ p W names k s (Err f) n n'' inside
+    pub late_waiting : {o : Option State} {k' : A} {v : Data} {n'' : Meter} {f : Fault} → WaitingSteps μ W names k s (Ok ((o, k'), v)) n n' inside → entered_of n'' ≡ entered_of n' → meter_height n'' ≡ meter_height n' → f ≡ Memory
+        → WaitingSteps μ W names k s (Err f) n n'' inside
     late_waiting hs en hn e m depth T t env L N S = let w = answered (hs m depth T t env L N S) in memory_exit e (spent_within (single_gives net (closure t env) _) w.given w.spent en hn)
 
     -- a switch steps as a copy of it
-    pub waits_alike : {own : A} {r : Result ((Option State × A) × Data) Fault} → ((P : Process) (L : Life) → W k P L → W own P L) → WaitingSteps φ p W names own s r n n' inside → WaitingSteps φ p W names k s r n n' inside
+    pub waits_alike : {own : A} {r : Result ((Option State × A) × Data) Fault} → ((P : Process) (L : Life) → W k P L → W own P L) → WaitingSteps μ W names own s r n n' inside → WaitingSteps μ W names k s r n n' inside
     waits_alike f hs m depth T t env L N S = hs m depth T t env L N (f _ _ S)
 
   -- ## Joins
@@ -83,19 +82,19 @@ module _ (φ : AnswersByName) (p : Plan) where
     left_at : (L : Life) → step d u ∷ left_life j L ≡ left_life j (step d x ∷ L)
     left_at L = ap (λ (u : Data). step d u ∷ left_life j L) eu ∙ left_and j d x L
 
-    pub join_left_fails : (f : Fault) → StateSteps φ p a (step d u) (Err f) n n' inside
-        → (m : Meter) (depth : ℕ) → Ticks m n depth inside → (P : Process) (L : Life) → Ready φ p (LJoin j a b) P (first_input (step d x) L) L
+    pub join_left_fails : (f : Fault) → StateSteps μ a (step d u) (Err f) n n' inside
+        → (m : Meter) (depth : ℕ) → Ticks m n depth inside → (P : Process) (L : Life) → Ready μ (LJoin j a b) P (first_input (step d x) L) L
         → StopsFor (Gives net P (step d x ∷ L)) f m n' depth
     join_left_fails q hs m depth t P L (ready {m = made} h O (lives_join {f = f} {g = g} {t = both} {e = e} {ys = ys} J OL A B)) =
         fails_alike (form_alike net (step d x) L h O) (fails_alike (join_alike net e made (step d x) L ys J OL)
         (over_fails t (then_fails (subst (λ (K : Life). StopsFor (Gives net (closure f e) K) q n n' inside) (left_at L) (failed (hs _ _ A))))))
 
-    module _ (a' : State) (y w : Data) (ew : w ≡ right_input j x y) (hs : StateSteps φ p a (step d u) (Ok (a', y)) n n' inside) where
+    module _ (a' : State) (y w : Data) (ew : w ≡ right_input j x y) (hs : StateSteps μ a (step d u) (Ok (a', y)) n n' inside) where
       right_at : (L : Life) (ys : List Data) → step d w ∷ right_life j L ys ≡ right_life j (step d x ∷ L) (y ∷ ys)
       right_at L ys = ap (λ (w : Data). step d w ∷ right_life j L ys) ew ∙ right_and j d x y L ys
 
-      pub join_right_fails : (n'' : Meter) (f : Fault) → StateSteps φ p b (step d w) (Err f) n' n'' inside
-          → (m : Meter) (depth : ℕ) → Ticks m n depth inside → (P : Process) (L : Life) → Ready φ p (LJoin j a b) P (first_input (step d x) L) L
+      pub join_right_fails : (n'' : Meter) (f : Fault) → StateSteps μ b (step d w) (Err f) n' n'' inside
+          → (m : Meter) (depth : ℕ) → Ticks m n depth inside → (P : Process) (L : Life) → Ready μ (LJoin j a b) P (first_input (step d x) L) L
           → StopsFor (Gives net P (step d x ∷ L)) f m n'' depth
       join_right_fails n'' q hs2 m depth t P L (ready {m = made} h O (lives_join {f = f} {g = g} {t = both} {e = e} {ys = ys} J OL A B)) =
           let one = answered (hs _ _ A) in
@@ -104,23 +103,23 @@ module _ (φ : AnswersByName) (p : Plan) where
           fails_alike (form_alike net (step d x) L h O) (fails_alike (join_alike net e made (step d x) L ys J OL)
           (over_fails t (rest_fails (λ z. Gives net (closure g e) (right_life j (step d x ∷ L) (z ∷ ys))) (single_gives net _ _) G one.spent H)))
 
-      pub join_steps : (n'' : Meter) (b' : State) (z v : Data) → v ≡ join_value j y z → StateSteps φ p b (step d w) (Ok (b', z)) n' n'' inside
-          → LiveSteps φ p (LJoin j a b) (step d x) (Ok (LJoin j a' b', v)) n n'' inside
+      pub join_steps : (n'' : Meter) (b' : State) (z v : Data) → v ≡ join_value j y z → StateSteps μ b (step d w) (Ok (b', z)) n' n'' inside
+          → LiveSteps μ (LJoin j a b) (step d x) (Ok (LJoin j a' b', v)) n n'' inside
       join_steps n'' b' z v ev hs2 m depth t P L (ready {m = made} h O (lives_join {f = f} {g = g} {t = both} {e = e} {ys = ys} J OL A B)) =
           let one = answered (hs _ _ A) in
           let G = subst (λ (K : Life). Gives net (closure f e) K (gave y one.r) one.k) (left_at L) one.given in
           let OL' = subst (λ (K : Life). Outputs net (closure f e) K (y ∷ ys)) (left_at L) (gave_outputs net OL one.given) in
-          let A' = subst (λ (K : Life). Stands φ p a' (closure f e) K) (left_at L) one.holds in
+          let A' = subst (λ (K : Life). Stands μ a' (closure f e) K) (left_at L) one.holds in
           let two = answered (hs2 _ _ B) in
           let H = subst (λ (K : Life). Gives net (closure g e) K (gave z two.r) two.k) (right_at L ys) two.given in
-          let B' = subst (λ (K : Life). Stands φ p b' (closure g e) K) (right_at L ys) two.holds in
+          let B' = subst (λ (K : Life). Stands μ b' (closure g e) K) (right_at L ys) two.holds in
           let F = (join_alike net e made (step d x) L ys J OL).to _ _ (counted (then_on G H)) in
           let F' = subst (λ (v : Data). Form net both e made (step d x) L (gave v (one.r ++ two.r)) (over (both_costs one.k two.k))) (sym ev) F in
           answers (gives O (of_form h F')) (over_spent t (both_spent one.spent two.spent)) (settles (ready h (and_gave O (of_form h F')) (lives_join J OL' A' B')))
 
       -- the second part's result is the join's
-      pub join_last : {A E : Type 0} (n'' : Meter) (b' : State) (z v : Data) (r : Result A E) (f : Fault) → v ≡ join_value j y z → StateSteps φ p b (step d w) (left_or r (b', z) f) n' n'' inside
-          → LiveSteps φ p (LJoin j a b) (step d x) (left_or r (LJoin j a' b', v) f) n n'' inside
+      pub join_last : {A E : Type 0} (n'' : Meter) (b' : State) (z v : Data) (r : Result A E) (f : Fault) → v ≡ join_value j y z → StateSteps μ b (step d w) (left_or r (b', z) f) n' n'' inside
+          → LiveSteps μ (LJoin j a b) (step d x) (left_or r (LJoin j a' b', v) f) n n'' inside
       join_last n'' b' z v (Ok u) f ev hs2 = join_steps n'' b' z v ev hs2
       join_last n'' b' z v (Err e) f ev hs2 = λ m depth t P L R. fails (join_right_fails n'' f hs2 m depth t P L R)
 
@@ -130,26 +129,26 @@ module _ (φ : AnswersByName) (p : Plan) where
     part_at : (K : Life) → step d u ∷ K ≡ step d (part_input w x) ∷ K
     part_at K = ap (λ (u : Data). step d u ∷ K) eu
 
-    pub wrap_fails : (f : Fault) → StateSteps φ p a (step d u) (Err f) n n' inside
-        → (m : Meter) (depth : ℕ) → Ticks m n depth inside → (P : Process) (L : Life) → Ready φ p (LWrap w a) P (first_input (step d x) L) L
+    pub wrap_fails : (f : Fault) → StateSteps μ a (step d u) (Err f) n n' inside
+        → (m : Meter) (depth : ℕ) → Ticks m n depth inside → (P : Process) (L : Life) → Ready μ (LWrap w a) P (first_input (step d x) L) L
         → StopsFor (Gives net P (step d x ∷ L)) f m n' depth
     wrap_fails q hs m depth t P L (ready h O (lives_wrap {u = v} {e = e} {K = K} W A)) =
         fails_alike (form_alike net (step d x) L h O) (fails_alike (wrap_alike net d x W)
         (over_fails t (change_fails (subst (λ (K : Life). StopsFor (Gives net (closure v e) K) q n n' inside) (part_at K) (failed (hs _ _ A))))))
 
-    pub wrap_steps : (a' : State) (w' : Wrap) (y v : Data) → w' ≡ kept_after w y → answer v ≡ wrap_value w x y → StateSteps φ p a (step d u) (Ok (a', y)) n n' inside
-        → LiveSteps φ p (LWrap w a) (step d x) (Ok (LWrap w' a', v)) n n' inside
+    pub wrap_steps : (a' : State) (w' : Wrap) (y v : Data) → w' ≡ kept_after w y → answer v ≡ wrap_value w x y → StateSteps μ a (step d u) (Ok (a', y)) n n' inside
+        → LiveSteps μ (LWrap w a) (step d x) (Ok (LWrap w' a', v)) n n' inside
     wrap_steps a' w' y v ew ev hs m depth t P L (ready {m = made} h O (lives_wrap {t = form} {u = part} {e = e} {K = K} W A)) =
         let one = answered (hs _ _ A) in
         let G = subst (λ (K : Life). Gives net (closure part e) K (gave y one.r) one.k) (part_at K) one.given in
-        let A' = subst (λ (K : Life). Stands φ p a' (closure part e) K) (part_at K) one.holds in
+        let A' = subst (λ (K : Life). Stands μ a' (closure part e) K) (part_at K) one.holds in
         let F = (wrap_alike net d x W).to (as_outcome (wrap_value w x y) one.r) (over one.k) (counted (with_change G)) in
         let F' = subst (λ (z : Evaluated Data). Form net form e made (step d x) L (as_outcome z one.r) (over one.k)) (sym ev) F in
         answers (gives O (of_form h F')) (over_spent t one.spent) (settles (ready h (and_gave O (of_form h F')) (lives_wrap (rw ew (wraps_on net d x W G)) A')))
 
     -- a fault comes after the part's value
-    pub wrap_faults : (a' : State) (y : Data) (z : ValueFault) → Evaluation.failed z ≡ wrap_value w x y → StateSteps φ p a (step d u) (Ok (a', y)) n n' inside
-        → {n'' : Meter} {f : Fault} → entered_of n'' ≡ entered_of n' → meter_height n'' ≡ meter_height n' → f ≡ Value z → LiveSteps φ p (LWrap w a) (step d x) (Err f) n n'' inside
+    pub wrap_faults : (a' : State) (y : Data) (z : ValueFault) → Evaluation.failed z ≡ wrap_value w x y → StateSteps μ a (step d u) (Ok (a', y)) n n' inside
+        → {n'' : Meter} {f : Fault} → entered_of n'' ≡ entered_of n' → meter_height n'' ≡ meter_height n' → f ≡ Value z → LiveSteps μ (LWrap w a) (step d x) (Err f) n n'' inside
     wrap_faults a' y z ez hs {n''} {f} en hn ef m depth t P L (ready {m = made} h O (lives_wrap {t = form} {u = part} {e = e} {K = K} W A)) =
         let one = answered (hs _ _ A) in
         let G = subst (λ (K : Life). Gives net (closure part e) K (gave y one.r) one.k) (part_at K) one.given in
@@ -160,36 +159,36 @@ module _ (φ : AnswersByName) (p : Plan) where
         (faults H ((spent_within (single_gives net (closure form e) (step d x ∷ L)) H (over_spent t one.spent) en hn).most _ _ H)))
 
     -- the part's result is the form's
-    pub wrap_last : {A E : Type 0} (a' : State) (w' : Wrap) (y v : Data) (r : Result A E) (f : Fault) → w' ≡ kept_after w y → answer v ≡ wrap_value w x y → StateSteps φ p a (step d u) (left_or r (a', y) f) n n' inside
-        → LiveSteps φ p (LWrap w a) (step d x) (left_or r (LWrap w' a', v) f) n n' inside
+    pub wrap_last : {A E : Type 0} (a' : State) (w' : Wrap) (y v : Data) (r : Result A E) (f : Fault) → w' ≡ kept_after w y → answer v ≡ wrap_value w x y → StateSteps μ a (step d u) (left_or r (a', y) f) n n' inside
+        → LiveSteps μ (LWrap w a) (step d x) (left_or r (LWrap w' a', v) f) n n' inside
     wrap_last a' w' y v (Ok u) f ew ev hs = wrap_steps a' w' y v ew ev hs
     wrap_last a' w' y v (Err e) f ew ev hs = λ m depth t P L R. fails (wrap_fails f hs m depth t P L R)
 
   -- one that has counted steps as its state does
-  pub primitive_counted : {A E : Type 0} {n n' : Meter} {inside : ℕ} (i i' : PrimState) (s : Step) (v : Data) (r : Result A E) (f : Fault) → PrimSteps φ p i s (left_or r (i', v) f) n n'
-      → CountedSteps φ p (SPrimitive i) s (left_or r (SPrimitive i', v) f) n n' inside
-  primitive_counted {inside = inside} i i' s v r f h m depth t P L (primitive_prepared R) = recalled φ p i' v r f (h m depth inside t P L R)
+  pub primitive_counted : {A E : Type 0} {n n' : Meter} {inside : ℕ} (i i' : PrimState) (s : Step) (v : Data) (r : Result A E) (f : Fault) → PrimSteps μ i s (left_or r (i', v) f) n n'
+      → CountedSteps μ (SPrimitive i) s (left_or r (SPrimitive i', v) f) n n' inside
+  primitive_counted {inside = inside} i i' s v r f h m depth t P L (primitive_prepared R) = recalled μ i' v r f (h m depth inside t P L R)
 
   -- ## States
 
   -- a live part's answer is its state's
-  held : {A E : Type 0} {t : Term} {e : Environment} {s : Step} {L : Life} {R : Rel} {m n : Meter} {depth : ℕ} (at : _) (names : Env) (l : Live) (v : Data) (r : Result A E) (f : Fault) → IsNames φ p names e
-      → Answers {A = Live × Data} (λ y. y.1) (λ y. Settles φ p y.0 (closure t e) (s ∷ L)) R (left_or r (l, v) f) m n depth
-      → Answers {A = State × Data} (λ y. y.1) (λ y. Stands φ p y.0 (closure t e) (s ∷ L)) R (left_or r (Alive' names at l, v) f) m n depth
+  held : {A E : Type 0} {t : Term} {e : Environment} {s : Step} {L : Life} {R : Rel} {m n : Meter} {depth : ℕ} (at : _) (names : Env) (l : Live) (v : Data) (r : Result A E) (f : Fault) → IsNames μ names e
+      → Answers {A = Live × Data} (λ y. y.1) (λ y. Settles μ y.0 (closure t e) (s ∷ L)) R (left_or r (l, v) f) m n depth
+      → Answers {A = State × Data} (λ y. y.1) (λ y. Stands μ y.0 (closure t e) (s ∷ L)) R (left_or r (Alive' names at l, v) f) m n depth
   held at names l v (Ok u) f N h = let w = answered h in answers w.given w.spent (itself (alive N w.holds))
   held at names l v (Err e) f N h = fails (failed h)
 
-  pub live_counted : {A E : Type 0} {at : _} (at' : _) {n n' : Meter} {inside : ℕ} (names : Env) (l l' : Live) (s : Step) (v : Data) (r : Result A E) (f : Fault) → LiveSteps φ p l s (left_or r (l', v) f) n n' inside
-      → CountedSteps φ p (Alive' names at l) s (left_or r (Alive' names at' l', v) f) n n' inside
+  pub live_counted : {A E : Type 0} {at : _} (at' : _) {n n' : Meter} {inside : ℕ} (names : Env) (l l' : Live) (s : Step) (v : Data) (r : Result A E) (f : Fault) → LiveSteps μ l s (left_or r (l', v) f) n n' inside
+      → CountedSteps μ (Alive' names at l) s (left_or r (Alive' names at' l', v) f) n n' inside
   live_counted at' names l l' s v r f h m depth t P L (live_prepared N R) = held at' names l' v r f N (h m depth t P L R)
 
   -- the node that is stepped stands for all that the shared one stands for
-  pub own_steps : (l own : Live) (s : Step) (r : Result (Live × Data) Fault) {n n' : Meter} {inside : ℕ} → ((P : Process) (x : Data) (L : Life) → Ready φ p l P x L → Ready φ p own P x L) → LiveSteps φ p own s r n n' inside → LiveSteps φ p l s r n n' inside
+  pub own_steps : (l own : Live) (s : Step) (r : Result (Live × Data) Fault) {n n' : Meter} {inside : ℕ} → ((P : Process) (x : Data) (L : Life) → Ready μ l P x L → Ready μ own P x L) → LiveSteps μ own s r n n' inside → LiveSteps μ l s r n n' inside
   own_steps l own s r f h m depth t P L R = h m depth t P L (f P _ L R)
 
   -- all that a state stands for itself, it is prepared for
   abbrev pub IsPrepared : State → Type 0
-  IsPrepared a = (P : Process) (s : Step) (L : Life) → StandsItself φ p a P L → Prepared φ p a P (first_input s L) L
+  IsPrepared a = (P : Process) (s : Step) (L : Life) → StandsItself μ a P L → Prepared μ a P (first_input s L) L
 
   pub primitive_is : (i : PrimState) → IsPrepared (SPrimitive i)
   primitive_is i P s L (recalling R) = primitive_prepared R
@@ -197,50 +196,51 @@ module _ (φ : AnswersByName) (p : Plan) where
   pub live_is : {at : _} (names : Env) (l : Live) → IsPrepared (Alive' names at l)
   live_is names l P s L (alive N (settles R)) = live_prepared N R
 
-  pub switch_is : {at : _} (names : Env) (k : Switch) → IsPrepared (Watching' names at k.form k.running k.pattern k.body)
-  switch_is names k P s L (watching N W) = switch_prepared N W
-
-  pub continuing_is : {at : _} (names : Env) (k : Continuation) → IsPrepared (Continuation' names at k.shown k.first k.source k.before k.observer k.name k.pattern k.body)
-  continuing_is names k P s L (continuing_on N W) = continuing_prepared N W
-
-  pub gathering_is : {at : _} (names : Env) (k : Gathering) → IsPrepared (Gathering' names at k)
-  gathering_is names k P s L (gathering_on N W) = gathering_prepared N W
+  -- so is what is awake, whatever its form
+  pub awake_is : (a : State) → IsTrue (is_awake a) → IsPrepared a
+  awake_is a h P s L (unborn A) = absurd cc
+  awake_is a h P s L (recalling R) = primitive_prepared R
+  awake_is a h P s L (alive N (settles R)) = live_prepared N R
+  awake_is a h P s L (watching N W) = switch_prepared N W
+  awake_is a h P s L (continuing_on N W) = continuing_prepared N W
+  awake_is a h P s L (gathering_on N W) = gathering_prepared N W
+  awake_is a h P s L (was_frozen A) = absurd cc
 
   -- such a state counts, and steps
-  pub counted_steps : (a : State) (s : Step) (r : Result (State × Data) Fault) {m n n' : Meter} {depth inside : ℕ} → Ticks m n depth inside → IsPrepared a → CountedSteps φ p a s r n n' inside → StateSteps φ p a s r m n' depth
-  counted_steps a s r {m = m} {n' = n'} {depth = depth} t f h = lift_steps φ p a s r m n' depth (λ P L A. h m depth t P L (f P s L A))
+  pub counted_steps : (a : State) (s : Step) (r : Result (State × Data) Fault) {m n n' : Meter} {depth inside : ℕ} → Ticks m n depth inside → IsPrepared a → CountedSteps μ a s r n n' inside → StateSteps μ a s r m n' depth
+  counted_steps a s r {m = m} {n' = n'} {depth = depth} t f h = lift_steps μ a s r m n' depth (λ P L A. h m depth t P L (f P s L A))
 
   -- ## The first sample
 
-  begun_prepared : {a : State} {t : Term} {e : Environment} {x : Data} → BeginsAs φ p t e x a (Ok begun.Itself) → Prepared φ p a (closure t e) x []
+  begun_prepared : {a : State} {t : Term} {e : Environment} {x : Data} → BeginsAs μ t e x a (Ok begun.Itself) → Prepared μ a (closure t e) x []
   begun_prepared (begins_itself A) = A
 
   module _ {m n : Meter} {depth inside : ℕ} (term : PlanId) (names : Env) (d : ℕ) (x : Data) (t : Ticks m n depth inside) where
     -- what a part that isn't born answers, from what its term answers on its first step
     starts : {n' : Meter} (r : Result (State × Data) Fault)
-        → ((e : Environment) → IsNames φ p names e → PartSteps φ p (closure (plan_tree p term) e) [] (step d x) r m n' depth)
-        → StateSteps φ p (Unborn (closed_over term names)) (step d x) r m n' depth
-    starts {n' = n'} r h = lift_steps φ p (Unborn (closed_over term names)) (step d x) r m n' depth go
+        → ((e : Environment) → IsNames μ names e → PartSteps μ (closure (plan_tree μ.plan term) e) [] (step d x) r m n' depth)
+        → StateSteps μ (Unborn (closed_over term names)) (step d x) r m n' depth
+    starts {n' = n'} r h = lift_steps μ (Unborn (closed_over term names)) (step d x) r m n' depth go
       where
-        go : (P : Process) (L : Life) → StandsItself φ p (Unborn (closed_over term names)) P L → PartSteps φ p P L (step d x) r m n' depth
-        go P L (unborn (is_closure {e = e} A N)) = took_answers φ p (was_alike A not_begun) (h e N)
+        go : (P : Process) (L : Life) → StandsItself μ (Unborn (closed_over term names)) P L → PartSteps μ P L (step d x) r m n' depth
+        go P L (unborn (is_closure {e = e} A N)) = took_answers μ (was_alike A not_begun) (h e N)
 
     -- it counts, and steps as what it has become
-    pub begun_steps : {n' : Meter} (a : State) (r : Result (State × Data) Fault) → ((e : Environment) → IsNames φ p names e → BeginsAs φ p (plan_tree p term) e x a (Ok begun.Itself)) → CountedSteps φ p a (step d x) r n n' inside
-        → StateSteps φ p (Unborn (closed_over term names)) (step d x) r m n' depth
+    pub begun_steps : {n' : Meter} (a : State) (r : Result (State × Data) Fault) → ((e : Environment) → IsNames μ names e → BeginsAs μ (plan_tree μ.plan term) e x a (Ok begun.Itself)) → CountedSteps μ a (step d x) r n n' inside
+        → StateSteps μ (Unborn (closed_over term names)) (step d x) r m n' depth
     begun_steps a r ho hs = starts r (λ e N. hs m depth t _ [] (begun_prepared (ho e N)))
 
     -- a primitive steps as it begins
-    pub first_counted : {n' : Meter} (r : Result (State × Data) Fault) → FirstSteps φ p (plan_tree p term) names (step d x) r n n' → StateSteps φ p (Unborn (closed_over term names)) (step d x) r m n' depth
+    pub first_counted : {n' : Meter} (r : Result (State × Data) Fault) → FirstSteps μ (plan_tree μ.plan term) names (step d x) r n n' → StateSteps μ (Unborn (closed_over term names)) (step d x) r m n' depth
     first_counted r hs = starts r (λ e N. hs m depth inside t e N)
 
-    pub begun_runs : {n' : Meter} (a : State) (r : Result (State × Data) Fault) → ((e : Environment) → IsNames φ p names e → BeginsAs φ p (plan_tree p term) e x a (Ok begun.Referred)) → StateSteps φ p a (step d x) r n n' inside
-        → StateSteps φ p (Unborn (closed_over term names)) (step d x) r m n' depth
-    begun_runs a r ho hs = starts r (λ e N. referred_begins φ p t (ho e N) hs)
+    pub begun_runs : {n' : Meter} (a : State) (r : Result (State × Data) Fault) → ((e : Environment) → IsNames μ names e → BeginsAs μ (plan_tree μ.plan term) e x a (Ok begun.Referred)) → StateSteps μ a (step d x) r n n' inside
+        → StateSteps μ (Unborn (closed_over term names)) (step d x) r m n' depth
+    begun_runs a r ho hs = starts r (λ e N. referred_begins μ t (ho e N) hs)
 
     module _ {n' : Meter} (en : entered_of n' ≡ entered_of n) (hn : meter_height n' ≡ meter_height n) where
-      pub begun_fails : (a : State) (f g : Fault) → g ≡ f → ((e : Environment) → IsNames φ p names e → BeginsAs φ p (plan_tree p term) e x a (Err f)) → StateSteps φ p (Unborn (closed_over term names)) (step d x) (Err g) m n' depth
-      begun_fails a f g eg ho = starts (Err g) (λ e N. fails (subst (λ (g : Fault). StopsFor (Gives net (closure (plan_tree p term) e) (step d x ∷ [])) g m n' depth) (sym eg) (begin_stops φ p t en hn _ (ho e N))))
+      pub begun_fails : (a : State) (f g : Fault) → g ≡ f → ((e : Environment) → IsNames μ names e → BeginsAs μ (plan_tree μ.plan term) e x a (Err f)) → StateSteps μ (Unborn (closed_over term names)) (step d x) (Err g) m n' depth
+      begun_fails a f g eg ho = starts (Err g) (λ e N. fails (subst (λ (g : Fault). StopsFor (Gives net (closure (plan_tree μ.plan term) e) (step d x ∷ [])) g m n' depth) (sym eg) (begin_stops μ t en hn _ (ho e N))))
 
   -- ## A sample
 
@@ -248,22 +248,22 @@ module _ (φ : AnswersByName) (p : Plan) where
   all_recorded {r = r} h s = sym (s.recorded ∙ ap (λ l. l ++ r) h)
 
   -- a value, with what the meter had recorded
-  pub sample_steps : {m n n' : Meter} (a a' : State) (s : Step) (v : Data) (q : declared.Readings) → entered_of m ≡ 0 → meter_height m ≡ 0 → readings m ≡ [] → StateSteps φ p a s (Ok (a', v)) m n 0
+  pub sample_steps : {m n n' : Meter} (a a' : State) (s : Step) (v : Data) (q : declared.Readings) → entered_of m ≡ 0 → meter_height m ≡ 0 → readings m ≡ [] → StateSteps μ a s (Ok (a', v)) m n 0
       → probe_readings q ≡ readings n → entered_of n' ≡ entered_of n → meter_height n' ≡ meter_height n
-      → (P : Process) (L : Life) → Stands φ p a P L → Steps φ p P (s ∷ L) (Ok (v, q)) a' n'
+      → (P : Process) (L : Life) → Stands μ a P L → Steps μ P (s ∷ L) (Ok (v, q)) a' n'
   sample_steps {n' = n'} a a' s v q em hm rm hs taken en hn P L A =
       let w = answered (hs P L A) in
       let G = subst (λ (r : Readings). Gives net P (s ∷ L) (gave v r) w.k) (all_recorded rm w.spent ∙ sym taken) w.given in
       stepped {m = n'} G (let c = w.spent.entered in omega arith) (let c = w.spent.high in omega arith) w.holds
 
-  each_costs : {m n : Meter} {P : Process} {L : Life} → entered_of m ≡ 0 → meter_height m ≡ 0 → Within (Gives net P L) m n 0 → EachCostsAtLeast φ p P L n
+  each_costs : {m n : Meter} {P : Process} {L : Life} → entered_of m ≡ 0 → meter_height m ≡ 0 → Within (Gives net P L) m n 0 → EachCostsAtLeast μ P L n
   each_costs em hm w = record { few = λ o k G. let a = (w.most o k G).entered in omega arith; low = λ o k G. let a = (w.most o k G).high in omega arith }
 
-  fails_so : {m n : Meter} {P : Process} {L : Life} (a : State) (f : Fault) → entered_of m ≡ 0 → meter_height m ≡ 0 → StopsFor (Gives net P L) f m n 0 → Steps φ p P L (Err f) a n
+  fails_so : {m n : Meter} {P : Process} {L : Life} (a : State) (f : Fault) → entered_of m ≡ 0 → meter_height m ≡ 0 → StopsFor (Gives net P L) f m n 0 → Steps μ P L (Err f) a n
   fails_so a f em hm (faults G s) = faulted_so G (let a = s.entered in omega arith) (let a = s.high in omega arith)
   fails_so a f em hm (large h w) = too_large (λ o k G c d. h o k G (omega arith) (omega arith)) (each_costs em hm w)
   fails_so a f em hm (memory w) = no_memory (each_costs em hm w)
 
-  pub sample_fails : {m n : Meter} (a a' : State) (s : Step) (f g : Fault) → g ≡ f → entered_of m ≡ 0 → meter_height m ≡ 0 → StateSteps φ p a s (Err f) m n 0
-      → (P : Process) (L : Life) → Stands φ p a P L → Steps φ p P (s ∷ L) (Err g) a' n
-  sample_fails {n = n} a a' s f g e em hm hs P L A = subst (λ (f : Fault). Steps φ p P (s ∷ L) (Err f) a' n) (sym e) (fails_so a' f em hm (failed (hs P L A)))
+  pub sample_fails : {m n : Meter} (a a' : State) (s : Step) (f g : Fault) → g ≡ f → entered_of m ≡ 0 → meter_height m ≡ 0 → StateSteps μ a s (Err f) m n 0
+      → (P : Process) (L : Life) → Stands μ a P L → Steps μ P (s ∷ L) (Err g) a' n
+  sample_fails {n = n} a a' s f g e em hm hs P L A = subst (λ (f : Fault). Steps μ P (s ∷ L) (Err f) a' n) (sym e) (fails_so a' f em hm (failed (hs P L A)))

@@ -10,13 +10,11 @@ use Rattle.sf_term.specs.Trees.{whole, rest, Term, staged}
 use Rattle.sf_mean.specs.Lives.{Step, step, Life, Process, closure, Environment, first_input, relay}
 use Rattle.sf_mean.specs.Meaning.{Network, Outcome, gave, faulted, combined, outcome_value, Cost, both_costs, over, text_cost, Made, nothing_made, join_value, Gives, gives, Outputs, not_begun, and_gave, of_form, Form, of_stages, Next, goes_on, stops}
 use Rattle.sf_mean.proofs.Once.{onces}
-use Rattle.sf_func.specs.Registries.{AnswersByName}
-use Rattle.sf_law.specs.declared.plan.Plan.{Plan}
-use Rattle.sf_law.specs.Arena.{network_of_plan}
 use Rattle.sf_state.specs.declared.state.State.{State}
 use Rattle.sf_state.specs.declared.state.Live.{items_hidden-the_row-State-0}
 use Rattle.sf_state.specs.declared.state.Live.TheVariants.{Pipeline as LPipeline}
 use Rattle.sf_state.specs.Standing.{Stands, itself, took_over, unborn, recalling, recalls, alive, watching, waits_so, recurs_so, continuing_on, continues_so, gathering_on, releases_so, edits_so, was_frozen, Turned, fired_to, continued_to, released_to, ran, went_on, was_alike, settles, Ready, ready, lives_pipeline, StagesStand, last_stands, stage_stands}
+use Rattle.sf_state.specs.Machine.{Machine, machine_network}
 use Rattle.sf_state.proofs.Copies.{pipeline_lives}
 use Rattle.sf_meter.specs.declared.meter.Meter.{Meter}
 use Rattle.sf_meter.specs.Meters.{Ticks}
@@ -78,9 +76,9 @@ module _ (n : Network) where
   staged_outputs not_begun not_begun = not_begun
   staged_outputs (and_gave O S) (and_gave O' S') = and_gave (staged_outputs O O') (of_form {m = nothing_made} refl (of_stages O (gives O S) (goes_on (gives O' S'))))
 
-module _ (φ : AnswersByName) (p : Plan) where
+module _ (μ : Machine) where
   abbrev net : Network
-  net = network_of_plan φ p
+  net = machine_network μ
 
   -- what a process gave so far
   abbrev Gave : Process → Life → Type 0
@@ -94,7 +92,7 @@ module _ (φ : AnswersByName) (p : Plan) where
   turned_gave (went_on O) = (_, O)
   turned_gave (was_alike A O) = (_, O)
 
-  state_gave : {a : State} {P : Process} {L : Life} → Stands φ p a P L → Gave P L
+  state_gave : {a : State} {P : Process} {L : Life} → Stands μ a P L → Gave P L
   state_gave (itself (unborn Q)) = ([], not_begun)
   state_gave (itself (recalling (recalls O K))) = (_, O)
   state_gave (itself (alive N (settles (ready h O K)))) = (_, O)
@@ -106,7 +104,7 @@ module _ (φ : AnswersByName) (p : Plan) where
   state_gave (itself (was_frozen A)) = ([], not_begun)
   state_gave (took_over T A) = turned_gave T
 
-  stages_gave : {bs : List State} {u : Term} {e : Environment} {L : Life} → StagesStand φ p bs u e L → Gave (closure u e) L
+  stages_gave : {bs : List State} {u : Term} {e : Environment} {L : Life} → StagesStand μ bs u e L → Gave (closure u e) L
   stages_gave (last_stands A) = state_gave A
   stages_gave (stage_stands O A S) = let r = stages_gave S in (r.0, staged_outputs net O r.1)
 
@@ -115,25 +113,25 @@ module _ (φ : AnswersByName) (p : Plan) where
   -- Stages step to the outcome of the rest of a pipeline; without stages the value stays.
   abbrev pub StagesStep : List State → ℕ → Data → Result (List State × Data) Fault → Meter → Meter → ℕ → Type 0
   StagesStep [] d x r m n inside = (r ≡ Ok ([], x)) × (n ≡ m)
-  StagesStep (a ∷ bs) d x r m n inside = (u : Term) (e : Environment) (L : Life) → StagesStand φ p (a ∷ bs) u e L
-      → Answers (λ y. y.1) (λ y. StagesStand φ p y.0 u e (step d x ∷ L)) (Gives net (closure u e) (step d x ∷ L)) r m n inside
+  StagesStep (a ∷ bs) d x r m n inside = (u : Term) (e : Environment) (L : Life) → StagesStand μ (a ∷ bs) u e L
+      → Answers (λ y. y.1) (λ y. StagesStand μ y.0 u e (step d x ∷ L)) (Gives net (closure u e) (step d x ∷ L)) r m n inside
 
   module _ (a : State) (d : ℕ) (x : Data) (m n : Meter) (inside : ℕ) where
     -- a stage fails
-    pub stage_fails : (bs : List State) (f : Fault) → StateSteps φ p a (step d x) (Err f) m n inside → StagesStep (a ∷ bs) d x (Err f) m n inside
+    pub stage_fails : (bs : List State) (f : Fault) → StateSteps μ a (step d x) (Err f) m n inside → StagesStep (a ∷ bs) d x (Err f) m n inside
     stage_fails bs f hs u e L (last_stands A) = fails (failed (hs _ _ A))
     stage_fails bs f hs u e L (stage_stands {f = t} {g = g} {ys = ys} O A S) =
         let Z = staged_outputs net O (stages_gave S).1 in
         fails (fails_alike (rest_alike net t g e (step d x) L ys _ O Z) (then_fails (failed (hs _ _ A))))
 
-    module _ (a' : State) (y : Data) (hs : StateSteps φ p a (step d x) (Ok (a', y)) m n inside) where
-      last_steps : (u : Term) (e : Environment) (L : Life) → StagesStand φ p (a ∷ []) u e L
-          → Answers {A = List State × Data} (λ y. y.1) (λ y. StagesStand φ p y.0 u e (step d x ∷ L)) (Gives net (closure u e) (step d x ∷ L)) (Ok (a' ∷ [], y)) m n inside
+    module _ (a' : State) (y : Data) (hs : StateSteps μ a (step d x) (Ok (a', y)) m n inside) where
+      last_steps : (u : Term) (e : Environment) (L : Life) → StagesStand μ (a ∷ []) u e L
+          → Answers {A = List State × Data} (λ y. y.1) (λ y. StagesStand μ y.0 u e (step d x ∷ L)) (Gives net (closure u e) (step d x ∷ L)) (Ok (a' ∷ [], y)) m n inside
       last_steps u e L (last_stands A) = let w = answered (hs _ _ A) in answers w.given w.spent (last_stands w.holds)
       last_steps u e L (stage_stands O A S) = elim S [ ]
 
-      stage_and : (n' : Meter) (b : State) (bs : List State) (r : Result (List State × Data) Fault) (u : Term) (e : Environment) (L : Life) → StagesStep (b ∷ bs) d y r n n' inside → StagesStand φ p (a ∷ b ∷ bs) u e L
-          → Answers {A = List State × Data} (λ y. y.1) (λ y. StagesStand φ p y.0 u e (step d x ∷ L)) (Gives net (closure u e) (step d x ∷ L)) (behind (a' ∷ []) r) m n' inside
+      stage_and : (n' : Meter) (b : State) (bs : List State) (r : Result (List State × Data) Fault) (u : Term) (e : Environment) (L : Life) → StagesStep (b ∷ bs) d y r n n' inside → StagesStand μ (a ∷ b ∷ bs) u e L
+          → Answers {A = List State × Data} (λ y. y.1) (λ y. StagesStand μ y.0 u e (step d x ∷ L)) (Gives net (closure u e) (step d x ∷ L)) (behind (a' ∷ []) r) m n' inside
       stage_and n' b bs (Ok z) u e L h (stage_stands {f = t} {g = g} {ys = ys} O A S) =
           let one = answered (hs _ _ A) in
           let two = answered (h g e (relay L ys) S) in
@@ -148,30 +146,30 @@ module _ (φ : AnswersByName) (p : Plan) where
       -- a stage steps, and the others on its value
       pub stage_steps : (n' : Meter) (bs : List State) (r : Result (List State × Data) Fault) → StagesStep bs d y r n n' inside → StagesStep (a ∷ bs) d x (behind (a' ∷ []) r) m n' inside
       stage_steps n' [] r h u e L S =
-          subst (λ (k : Meter). Answers (λ y. y.1) (λ y. StagesStand φ p y.0 u e (step d x ∷ L)) (Gives net (closure u e) (step d x ∷ L)) (behind (a' ∷ []) r) m k inside) (sym h.1)
-          (subst (λ r. Answers (λ y. y.1) (λ y. StagesStand φ p y.0 u e (step d x ∷ L)) (Gives net (closure u e) (step d x ∷ L)) (behind (a' ∷ []) r) m n inside) (sym h.0) (last_steps u e L S))
+          subst (λ (k : Meter). Answers (λ y. y.1) (λ y. StagesStand μ y.0 u e (step d x ∷ L)) (Gives net (closure u e) (step d x ∷ L)) (behind (a' ∷ []) r) m k inside) (sym h.1)
+          (subst (λ r. Answers (λ y. y.1) (λ y. StagesStand μ y.0 u e (step d x ∷ L)) (Gives net (closure u e) (step d x ∷ L)) (behind (a' ∷ []) r) m n inside) (sym h.0) (last_steps u e L S))
       stage_steps n' (b ∷ bs) r h u e L S = stage_and n' b bs r u e L h S
 
   -- the answer of stages that stand
-  stages_answer : (bs : List State) (d : ℕ) (x : Data) (r : Result (List State × Data) Fault) (m n : Meter) (inside : ℕ) (u : Term) (e : Environment) (L : Life) → StagesStep bs d x r m n inside → StagesStand φ p bs u e L
-      → Answers (λ y. y.1) (λ y. StagesStand φ p y.0 u e (step d x ∷ L)) (Gives net (closure u e) (step d x ∷ L)) r m n inside
+  stages_answer : (bs : List State) (d : ℕ) (x : Data) (r : Result (List State × Data) Fault) (m n : Meter) (inside : ℕ) (u : Term) (e : Environment) (L : Life) → StagesStep bs d x r m n inside → StagesStand μ bs u e L
+      → Answers (λ y. y.1) (λ y. StagesStand μ y.0 u e (step d x ∷ L)) (Gives net (closure u e) (step d x ∷ L)) r m n inside
   stages_answer [] d x r m n inside u e L h S = elim S [ ]
   stages_answer (a ∷ bs) d x r m n inside u e L h S = h u e L S
 
-  stands_at : (v : Vec State Global) {u : Term} {e : Environment} {L : Life} {bs : List State} → bs ≡ v.items → StagesStand φ p bs u e L → StagesStand φ p v.items u e L
-  stands_at v {u = u} {e = e} {L = L} h S = subst (λ (bs : List State). StagesStand φ p bs u e L) h S
+  stands_at : (v : Vec State Global) {u : Term} {e : Environment} {L : Life} {bs : List State} → bs ≡ v.items → StagesStand μ bs u e L → StagesStand μ v.items u e L
+  stands_at v {u = u} {e = e} {L = L} h S = subst (λ (bs : List State). StagesStand μ bs u e L) h S
 
   module _ (v : Vec State Global) (d : ℕ) (x : Data) (n n' : Meter) (inside : ℕ) where
     -- a pipeline steps as its stages do
-    pub pipeline_steps : (w : Vec State Global) (y : Data) → StagesStep v.items d x (Ok (w.items, y)) n n' inside → LiveSteps φ p (LPipeline v) (step d x) (Ok (LPipeline w, y)) n n' inside
+    pub pipeline_steps : (w : Vec State Global) (y : Data) → StagesStep v.items d x (Ok (w.items, y)) n n' inside → LiveSteps μ (LPipeline v) (step d x) (Ok (LPipeline w, y)) n n' inside
     pipeline_steps w y hs m depth t P L (ready {m = made} h O (lives_pipeline {f = f} {g = g} {e = e} S)) =
         let T = stands_at v (items_hidden-the_row-State-0 v) S in
         let one = answered (stages_answer v.items d x _ n n' inside (staged rest f g) e L hs T) in
         let F = (pipeline_alike net {m = made} (step d x) L (stages_gave T).1).to _ _ (counted one.given) in
-        answers (gives O (of_form h F)) (over_spent t one.spent) (settles (ready h (and_gave O (of_form h F)) (pipeline_lives φ p w one.holds)))
+        answers (gives O (of_form h F)) (over_spent t one.spent) (settles (ready h (and_gave O (of_form h F)) (pipeline_lives μ w one.holds)))
 
     pub pipeline_fails : (f : Fault) → StagesStep v.items d x (Err f) n n' inside
-        → (m : Meter) (depth : ℕ) → Ticks m n depth inside → (P : Process) (L : Life) → Ready φ p (LPipeline v) P (first_input (step d x) L) L → StopsFor (Gives net P (step d x ∷ L)) f m n' depth
+        → (m : Meter) (depth : ℕ) → Ticks m n depth inside → (P : Process) (L : Life) → Ready μ (LPipeline v) P (first_input (step d x) L) L → StopsFor (Gives net P (step d x ∷ L)) f m n' depth
     pipeline_fails q hs m depth t P L (ready {m = made} h O (lives_pipeline {f = f} {g = g} {e = e} S)) =
         let T = stands_at v (items_hidden-the_row-State-0 v) S in
         fails_alike (form_alike net (step d x) L h O) (fails_alike (pipeline_alike net {m = made} (step d x) L (stages_gave T).1)
@@ -202,7 +200,7 @@ module _ (φ : AnswersByName) (p : Plan) where
     left_is : drop i now ≡ a ∷ drop (i + 1) now
     left_is = left_from now i any short
 
-    pub continues_next : (a' : State) (z : Data) (n' : Meter) → StateSteps φ p a (step d y) (Ok (a', z)) n n' inside
+    pub continues_next : (a' : State) (z : Data) (n' : Meter) → StateSteps μ a (step d y) (Ok (a', z)) n n' inside
         → Continues all d x m (take (i + 1) (set now i a')) (drop (i + 1) (set now i a')) z n' inside
     continues_next a' z n' hs r k h =
         let rest_same = drop-set-lt (i + 1) now i a' (omega arith) in
@@ -210,7 +208,7 @@ module _ (φ : AnswersByName) (p : Plan) where
         let two = c (behind (a' ∷ []) r) k (subst (λ (bs : List State). StagesStep bs d y (behind (a' ∷ []) r) n k inside) (sym left_is) one) in
         subst (λ r. StagesStep all d x r m k inside) (behind_one (take i now) a' r ∙ ap (λ (bs : List State). behind bs r) (sym (take_more_set now i a' short))) two
 
-    pub continues_fails : (f : Fault) (n' : Meter) → StateSteps φ p a (step d y) (Err f) n n' inside → StagesStep all d x (Err f) m n' inside
+    pub continues_fails : (f : Fault) (n' : Meter) → StateSteps μ a (step d y) (Err f) n n' inside → StagesStep all d x (Err f) m n' inside
     continues_fails f n' hs = c (Err f) n' (subst (λ (bs : List State). StagesStep bs d y (Err f) n n' inside) (sym left_is) (stage_fails a d y n n' inside (drop (i + 1) now) f hs))
 
   -- all stages are done

@@ -2,7 +2,6 @@
 use Rattle.std.proofs.Common.{◌≡◌, ℕ, [], ◌∷◌, ◌++◌, Option, Some, None, Ok, Err, refl, sym, ap, ◌∙◌, subst, append-nil, arith}
 use Rattle.sf_value.specs.Values.{Data, first_of, second_of}
 use Rattle.sf_value.specs.declared.fault.Fault.{Fault}
-use Rattle.sf_func.specs.Registries.{AnswersByName}
 use Rattle.sf_expr.specs.Expressions.{Pattern}
 use Rattle.sf_expr.specs.Patterns.{pattern_of}
 use Rattle.sf_expr.specs.Arena.{stored_pattern}
@@ -15,12 +14,12 @@ use Rattle.sf_mean.specs.Lives.{Step, Life, Process, closure, Environment}
 use Rattle.sf_mean.specs.Formulas.{occurring}
 use Rattle.sf_mean.specs.Meaning.{Network, Readings, Outcome, gave, faulted, combined, Cost, no_cost, both_costs, over, Made, nothing_made, Watched, itself, Takeover, whenever, Standing, waits, fired, stands_after, switched_value, body_of, Gives, gives, and_gave, of_form, Form, of_switch, Sees, beside_values, Since, watched, SwitchTurn, while_waiting, as_body, after_fault, after_value, Fires, no_event_yet, event_now}
 use Rattle.sf_mean.proofs.Once.{once_since}
-use Rattle.sf_law.specs.declared.plan.Plan.{Plan}
-use Rattle.sf_law.specs.Arena.{plan_tree, plan_expressions, network_of_plan}
+use Rattle.sf_law.specs.Arena.{plan_tree, plan_expressions}
 use Rattle.sf_state.specs.declared.state.State.{State}
 use Rattle.sf_state.specs.declared.state.Switch.{Switch}
 use Rattle.sf_state.specs.declared.env.Env.{Env}
 use Rattle.sf_state.specs.Standing.{IsNames, Stands, fired_to, took_over, Waits, waits_so, recurs_so}
+use Rattle.sf_state.specs.Machine.{Machine, machine_network}
 use Rattle.sf_meter.specs.declared.meter.Meter.{Meter}
 use Rattle.sf_meter.specs.Meters.{entered_of, meter_height, Ticks}
 use Rattle.sf_step.specs.Answering.{Rel, Spent, Within, StopsFor, answers}
@@ -48,9 +47,9 @@ same_recurring h k = let e = sym k ∙ h in cc
 pub no_more_spent : {m n : Meter} {depth : ℕ} {k : Cost} {r : Readings} → Spent m n depth k r → Spent m n depth (both_costs k no_cost) r
 no_more_spent s = record { entered = let a = s.entered in omega arith; high = let a = s.high in omega arith; recorded = s.recorded }
 
-module _ (φ : AnswersByName) (p : Plan) where
+module _ (μ : Machine) where
   abbrev net : Network
-  net = network_of_plan φ p
+  net = machine_network μ
 
   -- ## While it waits
 
@@ -139,15 +138,15 @@ module _ (φ : AnswersByName) (p : Plan) where
 
   module _ (names : Env) (k : Switch) (w : Observation) (form : k.form ≡ Basic w) (s : Step) (n n1 : Meter) (inside : ℕ) where
     -- its first term fails
-    pub source_fails : (f : Fault) → StateSteps φ p k.running s (Err f) n n1 inside
-        → (m : Meter) (depth : ℕ) → Ticks m n depth inside → (t : Term) (e : Environment) (L : Life) → IsNames φ p names e → Waits φ p k (closure t e) L → StopsFor (Gives net (closure t e) (s ∷ L)) f m n1 depth
+    pub source_fails : (f : Fault) → StateSteps μ k.running s (Err f) n n1 inside
+        → (m : Meter) (depth : ℕ) → Ticks m n depth inside → (t : Term) (e : Environment) (L : Life) → IsNames μ names e → Waits μ k (closure t e) L → StopsFor (Gives net (closure t e) (s ∷ L)) f m n1 depth
     source_fails f hs m depth t T e L N (waits_so own S O A) = fails_alike (form_alike net s L refl O) (fails_alike (switch_alike S) (over_fails t (then_fails (failed (hs _ _ A)))))
     source_fails f hs m depth t T e L N (recurs_so own O A) = absurd (not_recurring form own)
 
-    module _ (a : State) (y : Data) (hs : StateSteps φ p k.running s (Ok (a, y)) n n1 inside) where
+    module _ (a : State) (y : Data) (hs : StateSteps μ k.running s (Ok (a, y)) n n1 inside) where
       -- memory runs out after its first term was stepped
       pub switch_memory : (n2 : Meter) → entered_of n2 ≡ entered_of n1 → meter_height n2 ≡ meter_height n1
-          → (m : Meter) (depth : ℕ) → Ticks m n depth inside → (t : Term) (e : Environment) (L : Life) → IsNames φ p names e → Waits φ p k (closure t e) L → Within (Gives net (closure t e) (s ∷ L)) m n2 depth
+          → (m : Meter) (depth : ℕ) → Ticks m n depth inside → (t : Term) (e : Environment) (L : Life) → IsNames μ names e → Waits μ k (closure t e) L → Within (Gives net (closure t e) (s ∷ L)) m n2 depth
       switch_memory n2 en hn m depth t T e L N (waits_so own S O A) =
           let one = answered (hs _ _ A) in
           alike_within (form_alike net s L refl O) (alike_within (switch_alike S) (over_within t (then_within (spent_within (single_gives net _ _) one.given one.spent en hn))))
@@ -155,40 +154,40 @@ module _ (φ : AnswersByName) (p : Plan) where
 
       -- there is no event
       pub switch_waits_on : occurring (second_of y) ≡ None → (v : Data) → v ≡ first_of y → (k' : Switch) → k' ≡ record { form = k.form; running = a; pattern = k.pattern; body = k.body }
-          → SwitchSteps φ p names k s (Ok ((None, k'), v)) n n1 inside
+          → SwitchSteps μ names k s (Ok ((None, k'), v)) n n1 inside
       switch_waits_on none v ev k' ek m depth t T e L N (recurs_so own O A) = absurd (not_recurring form own)
       switch_waits_on none v ev k' ek m depth t T e L N (waits_so {w = x} {t = first} own S O A) =
           let one = answered (hs _ _ A) in
-          let q = pattern_of (stored_pattern (plan_expressions p) k.pattern) in
-          let u = plan_tree p k.body in
+          let q = pattern_of (stored_pattern (plan_expressions μ.plan) k.pattern) in
+          let u = plan_tree μ.plan k.body in
           let c = over (both_costs one.k no_cost) in
           let F : Form net (switching (Basic x) first q u) e nothing_made s L (gave (first_of y) one.r) c =
           of_switch S (while_waiting (beside_values one.given) (after_value (subst (λ o. Fires net x (body_of q u e) s (gave (first_of y) one.r) o (gave (first_of y) one.r) no_cost) (sym none) no_event_yet))) in
           let G = of_form refl (subst (λ v. Form net (switching (Basic x) first q u) e nothing_made s L (gave v one.r) c) (sym ev) F) in
           answers (gives O G) (over_spent t (no_more_spent one.spent))
-          (subst (λ (k' : Switch). Waits φ p k' (closure (switching (Basic x) first q u) e) (s ∷ L)) (sym ek) (waits_so own (watched S (beside_values one.given) (ap (stands_after (whenever (body_of q u e)) s L) none)) (and_gave O G) one.holds))
+          (subst (λ (k' : Switch). Waits μ k' (closure (switching (Basic x) first q u) e) (s ∷ L)) (sym ek) (waits_so own (watched S (beside_values one.given) (ap (stands_after (whenever (body_of q u e)) s L) none)) (and_gave O G) one.holds))
 
       module _ (v : Data) (some : occurring (second_of y) ≡ Some v) (b0 : State)
-          (ha : (e : Environment) → IsNames φ p names e → Stands φ p b0 (body_of (pattern_of (stored_pattern (plan_expressions p) k.pattern)) (plan_tree p k.body) e v) []) (n2 : Meter) where
+          (ha : (e : Environment) → IsNames μ names e → Stands μ b0 (body_of (pattern_of (stored_pattern (plan_expressions μ.plan) k.pattern)) (plan_tree μ.plan k.body) e v) []) (n2 : Meter) where
         -- the body fails
-        pub body_fails : (f : Fault) → StateSteps φ p b0 s (Err f) n1 n2 inside
-            → (m : Meter) (depth : ℕ) → Ticks m n depth inside → (t : Term) (e : Environment) (L : Life) → IsNames φ p names e → Waits φ p k (closure t e) L → StopsFor (Gives net (closure t e) (s ∷ L)) f m n2 depth
+        pub body_fails : (f : Fault) → StateSteps μ b0 s (Err f) n1 n2 inside
+            → (m : Meter) (depth : ℕ) → Ticks m n depth inside → (t : Term) (e : Environment) (L : Life) → IsNames μ names e → Waits μ k (closure t e) L → StopsFor (Gives net (closure t e) (s ∷ L)) f m n2 depth
         body_fails f hb m depth t T e L N (recurs_so own O A) = absurd (not_recurring form own)
         body_fails f hb m depth t T e L N (waits_so own S O A) =
             let one = answered (hs _ _ A) in
-            let B = body_of (pattern_of (stored_pattern (plan_expressions p) k.pattern)) (plan_tree p k.body) e in
+            let B = body_of (pattern_of (stored_pattern (plan_expressions μ.plan) k.pattern)) (plan_tree μ.plan k.body) e in
             let H = fails_alike (way_alike B s (first_of y) v (occurring (second_of y)) some) (failed (hb _ [] (ha e N))) in
             fails_alike (form_alike net s L refl O) (fails_alike (switch_alike S) (over_fails t (rest_fails (λ z. Beside B s (first_of z) (occurring (second_of z))) (single_gives net _ _) one.given one.spent H)))
 
         -- the body takes over
-        pub body_takes_over : (b : State) (z x : Data) → x ≡ switched_value w (first_of y) z → (k' : Switch) → StateSteps φ p b0 s (Ok (b, z)) n1 n2 inside
-            → SwitchSteps φ p names k s (Ok ((Some b, k'), x)) n n2 inside
+        pub body_takes_over : (b : State) (z x : Data) → x ≡ switched_value w (first_of y) z → (k' : Switch) → StateSteps μ b0 s (Ok (b, z)) n1 n2 inside
+            → SwitchSteps μ names k s (Ok ((Some b, k'), x)) n n2 inside
         body_takes_over b z x ex k' hb m depth t T e L N (recurs_so own O A) = absurd (not_recurring form own)
         body_takes_over b z x ex k' hb m depth t T e L N (waits_so {w = h} {t = first} own S O A) =
             let one = answered (hs _ _ A) in
             let two = answered (hb _ [] (ha e N)) in
-            let q = pattern_of (stored_pattern (plan_expressions p) k.pattern) in
-            let u = plan_tree p k.body in
+            let q = pattern_of (stored_pattern (plan_expressions μ.plan) k.pattern) in
+            let u = plan_tree μ.plan k.body in
             let c = over (both_costs one.k two.k) in
             let r = one.r ++ two.r in
             let F : Form net (switching (Basic h) first q u) e nothing_made s L (gave (switched_value h (first_of y) z) r) c =

@@ -9,17 +9,15 @@ use Rattle.sf_value.specs.Values.{KeyData, Data, table}
 use Rattle.sf_value.specs.View.{keyed_rows}
 use Rattle.sf_value.specs.declared.fault.Fault.{Fault}
 use Rattle.sf_value.specs.declared.fault.Fault.TheVariants.{Memory}
-use Rattle.sf_func.specs.Registries.{AnswersByName}
 use Rattle.sf_term.specs.declared.form.Observation.{Observation}
 use Rattle.sf_mean.specs.Lives.{Step, step, Life, Process, frozen, each_frozen, Members}
 use Rattle.sf_mean.specs.Meaning.{Network, Readings, Outcome, gave, Cost, count, height, Gives, Each, switched_value}
 use Rattle.sf_mean.proofs.Once.{once_each}
-use Rattle.sf_law.specs.declared.plan.Plan.{Plan}
-use Rattle.sf_law.specs.Arena.{network_of_plan}
 use Rattle.sf_state.specs.declared.state.State.{State}
 use Rattle.sf_state.specs.declared.state.Gathered.{Gathered}
 use Rattle.sf_state.specs.Held.{Holding, gathered_holding}
 use Rattle.sf_state.specs.Standing.{Stands, Gathers, gathers, EachStands, none_stands, one_stands, StandsAmong, as_it_stands, as_it_stood, AllFollow}
+use Rattle.sf_state.specs.Machine.{Machine, machine_network}
 use Rattle.sf_state.proofs.Copies.{each_follows, held_freeze}
 use Rattle.sf_begin.specs.declared.drafting.Change.{Change}
 use Rattle.sf_begin.specs.declared.drafting.Change.TheVariants.{Put, Add, Take}
@@ -109,9 +107,9 @@ abbrev behind_all : List State → List Data → List Turn → Result InTurn Fau
 behind_all done ys gs (Ok z) = Ok (done ++ z.0, (ys ++ z.1.0, gs ++ z.1.1))
 behind_all done ys gs (Err f) = Err f
 
-module _ (φ : AnswersByName) (p : Plan) (w : Option ℕ) (d : ℕ) (x : Data) (inside : ℕ) where
+module _ (μ : Machine) (w : Option ℕ) (d : ℕ) (x : Data) (inside : ℕ) where
   abbrev Notes : Meter → List State → Result InTurn Fault → Meter → Type 0
-  Notes m cs r l = HaveStepped φ p w (step d x) inside m cs r l
+  Notes m cs r l = HaveStepped μ w (step d x) inside m cs r l
 
   -- what is noted of those that are left is noted of all, behind those that are done
   abbrev pub NotesOn : Meter → List State → List State → List Data → List Turn → List State → Meter → Type 0
@@ -130,12 +128,12 @@ module _ (φ : AnswersByName) (p : Plan) (w : Option ℕ) (d : ℕ) (x : Data) (
     a = get_or now i any
 
     left_is : drop i now ≡ a ∷ drop (i + 1) now
-    left_is = left_from φ p w now i any short
+    left_is = left_from μ w now i any short
 
     as_left : {r : Result InTurn Fault} {l : Meter} → Notes n (a ∷ drop (i + 1) now) r l → Notes n (drop i now) r l
     as_left {r} {l} h = subst (λ (bs : List State). Notes n bs r l) (sym left_is) h
 
-    pub notes_next : (b : State) (y : Data) (n' : Meter) (g : spent_amounts.Spent) → MemberSteps φ p w a (step d x) (Ok (b, y)) n n' inside → IsBetween n n' g
+    pub notes_next : (b : State) (y : Data) (n' : Meter) (g : spent_amounts.Spent) → MemberSteps μ w a (step d x) (Ok (b, y)) n n' inside → IsBetween n n' g
         → NotesOn m all (take (i + 1) (set now i b)) (ys ++ y ∷ []) (gs ++ Stays g ∷ []) (drop (i + 1) (set now i b)) n'
     notes_next b y n' g hs bt (Ok z) l h =
         let rest = subst (λ (bs : List State). Notes n' bs (Ok z) l) (drop-set-lt (i + 1) now i b (omega arith)) h in
@@ -145,7 +143,7 @@ module _ (φ : AnswersByName) (p : Plan) (w : Option ℕ) (d : ℕ) (x : Data) (
         let rest = subst (λ (bs : List State). Notes n' bs (Err f) l) (drop-set-lt (i + 1) now i b (omega arith)) h in
         c (Err f) l (as_left (later_stopped hs rest))
 
-    pub notes_fail : (f : Fault) (n' : Meter) → MemberSteps φ p w a (step d x) (Err f) n n' inside → Notes m all (Err f) n'
+    pub notes_fail : (f : Fault) (n' : Meter) → MemberSteps μ w a (step d x) (Err f) n n' inside → Notes m all (Err f) n'
     notes_fail f n' hs = c (Err f) n' (as_left (one_stopped hs))
 
   -- memory runs out between them
@@ -163,14 +161,14 @@ module _ (φ : AnswersByName) (p : Plan) (w : Option ℕ) (d : ℕ) (x : Data) (
   notes_stopped {m} {n} {bs} {cs} same e h = subst (λ (f : Fault). Notes m cs (Err f) n) (sym e) (subst (λ (bs : List State). Notes m bs (Err Memory) n) same h)
 
   -- they step as members do
-  pub stepped_each : {m l : Meter} {cs ds : List State} {ys : List Data} {gs : List Turn} → Notes m cs (Ok (ds, (ys, gs))) l → EachSteps φ p w cs (step d x) (Ok (ds, ys)) m l inside
-  stepped_each {m} all_stepped = nobody_steps φ p w d x m inside
-  stepped_each {l = l} (one_stepped {m = m} {n = n} {a = a} {b = b} {y = y} {cs = cs} {ds = ds} {ys = ys} hs bt h) = one_steps φ p w a d x m n inside b y hs l cs (Ok (ds, ys)) (stepped_each h)
+  pub stepped_each : {m l : Meter} {cs ds : List State} {ys : List Data} {gs : List Turn} → Notes m cs (Ok (ds, (ys, gs))) l → EachSteps μ w cs (step d x) (Ok (ds, ys)) m l inside
+  stepped_each {m} all_stepped = nobody_steps μ w d x m inside
+  stepped_each {l = l} (one_stepped {m = m} {n = n} {a = a} {b = b} {y = y} {cs = cs} {ds = ds} {ys = ys} hs bt h) = one_steps μ w a d x m n inside b y hs l cs (Ok (ds, ys)) (stepped_each h)
 
-  pub stepped_fails : {m l : Meter} {cs : List State} {f : Fault} → Notes m cs (Err f) l → EachSteps φ p w cs (step d x) (Err f) m l inside
-  stepped_fails {l = l} {f = f} (later_stopped {m = m} {n = n} {a = a} {b = b} {y = y} {cs = cs} hs h) = one_steps φ p w a d x m n inside b y hs l cs (Err f) (stepped_fails h)
-  stepped_fails (one_stopped {m = m} {n = n} {a = a} {cs = cs} {f = f} hs) = one_fails φ p w a d x m n inside cs f hs
-  stepped_fails (no_memory_noted {m = m} {n = n} {cs = cs} en hn) = memory_now φ p w cs d x m n inside en hn
+  pub stepped_fails : {m l : Meter} {cs : List State} {f : Fault} → Notes m cs (Err f) l → EachSteps μ w cs (step d x) (Err f) m l inside
+  stepped_fails {l = l} {f = f} (later_stopped {m = m} {n = n} {a = a} {b = b} {y = y} {cs = cs} hs h) = one_steps μ w a d x m n inside b y hs l cs (Err f) (stepped_fails h)
+  stepped_fails (one_stopped {m = m} {n = n} {a = a} {cs = cs} {f = f} hs) = one_fails μ w a d x m n inside cs f hs
+  stepped_fails (no_memory_noted {m = m} {n = n} {cs = cs} en hn) = memory_now μ w cs d x m n inside en hn
 
   -- as many as they are
   pub notes_long : {m l : Meter} {cs ds : List State} {ys : List Data} {gs : List Turn} → Notes m cs (Ok (ds, (ys, gs))) l → (length ds ≡ length gs) × (length ys ≡ length gs)
@@ -180,7 +178,7 @@ module _ (φ : AnswersByName) (p : Plan) (w : Option ℕ) (d : ℕ) (x : Data) (
   -- ## What one gave
 
   abbrev net : Network
-  net = network_of_plan φ p
+  net = machine_network μ
 
   -- what a member that has stepped gave and spent, as it stands in a meter
   record HasGiven (P : Process) (L : Life) (l : Meter) (g : spent_amounts.Spent) (b : State) (y : Data) : Type 0 where
@@ -192,12 +190,12 @@ module _ (φ : AnswersByName) (p : Plan) (w : Option ℕ) (d : ℕ) (x : Data) (
     up : g.first ≤ g.behind
     far : g.behind ≤ length (readings l)
     part : slice_range (readings l) g.first g.behind ≡ r
-    stands : Stands φ p b P (step d x ∷ L)
+    stands : Stands μ b P (step d x ∷ L)
 
   abbrev HasStepped : Meter → State → spent_amounts.Spent → State → Data → Type 0
-  HasStepped l a g b y = (P : Process) (L : Life) → StandsAmong φ p w a P L → HasGiven P L l g b y
+  HasStepped l a g b y = (P : Process) (L : Life) → StandsAmong μ w a P L → HasGiven P L l g b y
 
-  has_stepped : {m n : Meter} {a b : State} {y : Data} {g : spent_amounts.Spent} → MemberSteps φ p w a (step d x) (Ok (b, y)) m n inside → IsBetween m n g → HasStepped n a g b y
+  has_stepped : {m n : Meter} {a b : State} {y : Data} {g : spent_amounts.Spent} → MemberSteps μ w a (step d x) (Ok (b, y)) m n inside → IsBetween m n g → HasStepped n a g b y
   has_stepped {m} {n} {g = g} hs bt P L A =
       let one = answered (hs P L A) in
       let told : readings n ≡ readings m ++ one.r = one.spent.recorded in
@@ -249,7 +247,7 @@ module _ (φ : AnswersByName) (p : Plan) (w : Option ℕ) (d : ℕ) (x : Data) (
     one_begins : {a : State} {cs ds : List State} {ys : List Data} {gs : List Turn} → TakeTurns l cs ds ys gs → TakeTurns l (a ∷ cs) (a ∷ ds) (x ∷ ys) (Begins ∷ gs)
 
   -- all that ran
-  noted_turns : {m l : Meter} {cs ds : List State} {ys : List Data} {gs : List Turn} {ms : Members} {L : Life} → Notes m cs (Ok (ds, (ys, gs))) l → EachStands φ p w cs ms L → Grown m l × TakeTurns l cs ds ys gs
+  noted_turns : {m l : Meter} {cs ds : List State} {ys : List Data} {gs : List Turn} {ms : Members} {L : Life} → Notes m cs (Ok (ds, (ys, gs))) l → EachStands μ w cs ms L → Grown m l × TakeTurns l cs ds ys gs
   noted_turns {m} all_stepped none_stands = (grown_none m, no_turns)
   noted_turns (one_stepped hs bt h) (one_stands A S) =
       let rest = noted_turns h S in
@@ -288,7 +286,7 @@ module _ (φ : AnswersByName) (p : Plan) (w : Option ℕ) (d : ℕ) (x : Data) (
 
   -- ## Again
 
-  repeats_step : {m n : Meter} {a b : State} {y : Data} {g : spent_amounts.Spent} → HasStepped m a g b y → CountsAgain m g n (Ok g) → MemberSteps φ p w a (step d x) (Ok (b, y)) m n inside
+  repeats_step : {m n : Meter} {a b : State} {y : Data} {g : spent_amounts.Spent} → HasStepped m a g b y → CountsAgain m g n (Ok g) → MemberSteps μ w a (step d x) (Ok (b, y)) m n inside
   repeats_step {m} {n} H R P L A =
       let o = H P L A in
       let i = o.entered in
@@ -304,57 +302,57 @@ module _ (φ : AnswersByName) (p : Plan) (w : Option ℕ) (d : ℕ) (x : Data) (
       let i = z.entered in
       absurd (omega (arith, few, big, same, i))
 
-  repeats_stop : {m n : Meter} {a b : State} {y : Data} {g : spent_amounts.Spent} {f : Fault} → HasStepped m a g b y → CountsAgain m g n (Err f) → MemberSteps φ p w a (step d x) (Err f) m n inside
+  repeats_stop : {m n : Meter} {a b : State} {y : Data} {g : spent_amounts.Spent} {f : Fault} → HasStepped m a g b y → CountsAgain m g n (Err f) → MemberSteps μ w a (step d x) (Err f) m n inside
   repeats_stop {m} {n} H (too_often big e h) P L A =
       fails (large (not_so_many {m = m} P L (H P L A) big) (record { most = λ o k G. record { entered = omega (arith, e); high = omega (arith, h) } }))
   repeats_stop {m} {n} H (not_repeated e h) P L A = fails (memory (record { most = λ o k G. record { entered = omega (arith, e); high = omega (arith, h) } }))
 
   -- one that stays steps as it did, where it waits from here on for the time of this step
-  stays_among : (w : Option ℕ) (a : State) (r : Result (State × Data) Fault) (m n : Meter) → MemberSteps φ p w a (step d x) r m n inside → MemberSteps φ p (Some (unwrap_or w d)) a (step d x) r m n inside
+  stays_among : (w : Option ℕ) (a : State) (r : Result (State × Data) Fault) (m n : Meter) → MemberSteps μ w a (step d x) r m n inside → MemberSteps μ (Some (unwrap_or w d)) a (step d x) r m n inside
   stays_among None a r m n h P L (as_it_stood {Q = Q} {M = M} A e) = by M A e
     where
-      by : (M : Life) → Stands φ p a Q M → P ≡ frozen Q M d → PartSteps φ p P [] (step d x) r m n inside
-      by [] A e = subst (λ P. PartSteps φ p P [] (step d x) r m n inside) (sym e) (h Q [] (as_it_stands A))
-      by (s ∷ M) A e = subst (λ P. PartSteps φ p P [] (step d x) r m n inside) (sym e) (gone_on φ p (h Q (s ∷ M) (as_it_stands A)))
+      by : (M : Life) → Stands μ a Q M → P ≡ frozen Q M d → PartSteps μ P [] (step d x) r m n inside
+      by [] A e = subst (λ P. PartSteps μ P [] (step d x) r m n inside) (sym e) (h Q [] (as_it_stands A))
+      by (s ∷ M) A e = subst (λ P. PartSteps μ P [] (step d x) r m n inside) (sym e) (gone_on μ (h Q (s ∷ M) (as_it_stands A)))
   stays_among (Some c) a r m n h P L A = h P L A
 
   abbrev later : ℕ
   later = unwrap_or w d
 
-  stays_step : {m0 m n : Meter} {a b : State} {y : Data} {g : spent_amounts.Spent} → Grown m0 m → HasStepped m0 a g b y → CountsAgain m g n (Ok g) → MemberSteps φ p (Some later) a (step d x) (Ok (b, y)) m n inside
+  stays_step : {m0 m n : Meter} {a b : State} {y : Data} {g : spent_amounts.Spent} → Grown m0 m → HasStepped m0 a g b y → CountsAgain m g n (Ok g) → MemberSteps μ (Some later) a (step d x) (Ok (b, y)) m n inside
   stays_step {m = m} {n = n} {a = a} {b = b} {y = y} grows H R = stays_among w a (Ok (b, y)) m n (repeats_step (has_grown grows H) R)
 
-  stays_stop : {m0 m n : Meter} {a b : State} {y : Data} {g : spent_amounts.Spent} {f : Fault} → Grown m0 m → HasStepped m0 a g b y → CountsAgain m g n (Err f) → MemberSteps φ p (Some later) a (step d x) (Err f) m n inside
+  stays_stop : {m0 m n : Meter} {a b : State} {y : Data} {g : spent_amounts.Spent} {f : Fault} → Grown m0 m → HasStepped m0 a g b y → CountsAgain m g n (Err f) → MemberSteps μ (Some later) a (step d x) (Err f) m n inside
   stays_stop {m = m} {n = n} {a = a} {f = f} grows H R = stays_among w a (Err f) m n (repeats_stop (has_grown grows H) R)
 
   -- members of an edit step as they take their turns
-  turned_each : {m0 m l : Meter} {cs ds es : List State} {ys zs : List Data} {gs : List Turn} → Grown m0 m → TakeTurns m0 cs ds ys gs → HaveTurned φ p later d inside m ds ys gs (Ok (es, zs)) l → EachSteps φ p (Some later) cs (step d x) (Ok (es, zs)) m l inside
-  turned_each {m = m} grows no_turns all_turned low ms L S = nobody_steps φ p (Some later) d x m inside low ms L S
+  turned_each : {m0 m l : Meter} {cs ds es : List State} {ys zs : List Data} {gs : List Turn} → Grown m0 m → TakeTurns m0 cs ds ys gs → HaveTurned μ later d inside m ds ys gs (Ok (es, zs)) l → EachSteps μ (Some later) cs (step d x) (Ok (es, zs)) m l inside
+  turned_each {m = m} grows no_turns all_turned low ms L S = nobody_steps μ (Some later) d x m inside low ms L S
   turned_each {m = m} {l = l} grows (one_stays {a = a} {b = b} {y = y} {cs = cs} H T) (stays_on {n = n} {ds = es} {zs = zs} R h) low ms L (one_stands A S) =
       let hs = stays_step grows H R in
       let one = answered (hs _ _ A) in
-      one_steps φ p (Some later) a d x m n inside b y hs l cs (Ok (es, zs)) (turned_each {m = n} (grown_on grows (grown_by one.spent)) T h) low ms L (one_stands A S)
+      one_steps μ (Some later) a d x m n inside b y hs l cs (Ok (es, zs)) (turned_each {m = n} (grown_on grows (grown_by one.spent)) T h) low ms L (one_stands A S)
   turned_each {m = m} {l = l} grows (one_begins {a = a} {cs = cs} T) (begins_on {n = n} {b = b} {z = z} {ds = es} {zs = zs} hs h) low ms L (one_stands A S) =
       let one = answered (hs _ _ A) in
-      one_steps φ p (Some later) a d x m n inside b z hs l cs (Ok (es, zs)) (turned_each {m = n} (grown_on grows (grown_by one.spent)) T h) low ms L (one_stands A S)
+      one_steps μ (Some later) a d x m n inside b z hs l cs (Ok (es, zs)) (turned_each {m = n} (grown_on grows (grown_by one.spent)) T h) low ms L (one_stands A S)
 
-  turned_fails : {m0 m l : Meter} {cs ds : List State} {ys : List Data} {gs : List Turn} {f : Fault} → Grown m0 m → TakeTurns m0 cs ds ys gs → HaveTurned φ p later d inside m ds ys gs (Err f) l → EachSteps φ p (Some later) cs (step d x) (Err f) m l inside
+  turned_fails : {m0 m l : Meter} {cs ds : List State} {ys : List Data} {gs : List Turn} {f : Fault} → Grown m0 m → TakeTurns m0 cs ds ys gs → HaveTurned μ later d inside m ds ys gs (Err f) l → EachSteps μ (Some later) cs (step d x) (Err f) m l inside
   turned_fails grows no_turns t low ms L S = elim t [ ]
   turned_fails {m = m} {l = l} {f = f} grows (one_stays {a = a} {b = b} {y = y} {cs = cs} H T) (stays_before {n = n} R h) low ms L (one_stands A S) =
       let hs = stays_step grows H R in
       let one = answered (hs _ _ A) in
-      one_steps φ p (Some later) a d x m n inside b y hs l cs (Err f) (turned_fails {m = n} (grown_on grows (grown_by one.spent)) T h) low ms L (one_stands A S)
-  turned_fails {m = m} {l = l} {f = f} grows (one_stays {a = a} {cs = cs} H T) (stays_not R) low ms L S = one_fails φ p (Some later) a d x m l inside cs f (stays_stop grows H R) low ms L S
+      one_steps μ (Some later) a d x m n inside b y hs l cs (Err f) (turned_fails {m = n} (grown_on grows (grown_by one.spent)) T h) low ms L (one_stands A S)
+  turned_fails {m = m} {l = l} {f = f} grows (one_stays {a = a} {cs = cs} H T) (stays_not R) low ms L S = one_fails μ (Some later) a d x m l inside cs f (stays_stop grows H R) low ms L S
   turned_fails {m = m} {l = l} {f = f} grows (one_begins {a = a} {cs = cs} T) (begins_before {n = n} {b = b} {z = z} hs h) low ms L (one_stands A S) =
       let one = answered (hs _ _ A) in
-      one_steps φ p (Some later) a d x m n inside b z hs l cs (Err f) (turned_fails {m = n} (grown_on grows (grown_by one.spent)) T h) low ms L (one_stands A S)
-  turned_fails {m = m} {l = l} {f = f} grows (one_begins {a = a} {cs = cs} T) (begins_not hs) low ms L S = one_fails φ p (Some later) a d x m l inside cs f hs low ms L S
+      one_steps μ (Some later) a d x m n inside b z hs l cs (Err f) (turned_fails {m = n} (grown_on grows (grown_by one.spent)) T h) low ms L (one_stands A S)
+  turned_fails {m = m} {l = l} {f = f} grows (one_begins {a = a} {cs = cs} T) (begins_not hs) low ms L S = one_fails μ (Some later) a d x m l inside cs f hs low ms L S
 
 -- ## The turns, one after another
 
-module _ (φ : AnswersByName) (p : Plan) (w d inside : ℕ) where
+module _ (μ : Machine) (w d inside : ℕ) where
   abbrev Turns : Meter → List State → List Data → List Turn → Result (List State × List Data) Fault → Meter → Type 0
-  Turns m cs ys gs r l = HaveTurned φ p w d inside m cs ys gs r l
+  Turns m cs ys gs r l = HaveTurned μ w d inside m cs ys gs r l
 
   abbrev behind_both : List State → List Data → Result (List State × List Data) Fault → Result (List State × List Data) Fault
   behind_both done ys (Ok z) = Ok (done ++ z.0, ys ++ z.1)
@@ -392,7 +390,7 @@ module _ (φ : AnswersByName) (p : Plan) (w d inside : ℕ) where
 
     -- one that begins
     module _ (a : State) (y : Data) (n' : Meter) (turn : drop i G ≡ Begins ∷ drop (i + 1) G) (s : i < length S) (o : i < length O) (is_a : a ≡ get_or S i a) (is_y : y ≡ get_or O i y) where
-      pub turns_begin : (b : State) (z : Data) → MemberSteps φ p (Some w) a (step d y) (Ok (b, z)) n n' inside → TurnsOn m all given turns (take (i + 1) (set S i b)) (take (i + 1) (set O i z)) (drop (i + 1) (set S i b)) (drop (i + 1) (set O i z)) (drop (i + 1) G) n'
+      pub turns_begin : (b : State) (z : Data) → MemberSteps μ (Some w) a (step d y) (Ok (b, z)) n n' inside → TurnsOn m all given turns (take (i + 1) (set S i b)) (take (i + 1) (set O i z)) (drop (i + 1) (set S i b)) (drop (i + 1) (set O i z)) (drop (i + 1) G) n'
       turns_begin b z hs (Ok q) l h =
           let rest = subst (λ (bs : List State). Turns n' bs (drop (i + 1) (set O i z)) (drop (i + 1) G) (Ok q) l) (drop-set-lt (i + 1) S i b (omega arith)) h in
           let left = subst (λ (ys : List Data). Turns n' (drop (i + 1) S) ys (drop (i + 1) G) (Ok q) l) (drop-set-lt (i + 1) O i z (omega arith)) rest in
@@ -403,7 +401,7 @@ module _ (φ : AnswersByName) (p : Plan) (w d inside : ℕ) where
           let left = subst (λ (ys : List Data). Turns n' (drop (i + 1) S) ys (drop (i + 1) G) (Err f) l) (drop-set-lt (i + 1) O i z (omega arith)) rest in
           c (Err f) l (at_left (this_at S i a is_a s) (this_at O i y is_y o) turn (begins_before hs left))
 
-      pub turns_begin_not : (f : Fault) → MemberSteps φ p (Some w) a (step d y) (Err f) n n' inside → Turns m all given turns (Err f) n'
+      pub turns_begin_not : (f : Fault) → MemberSteps μ (Some w) a (step d y) (Err f) n n' inside → Turns m all given turns (Err f) n'
       turns_begin_not f hs = c (Err f) n' (at_left (this_at S i a is_a s) (this_at O i y is_y o) turn (begins_not hs))
 
     -- all have had theirs
@@ -414,59 +412,59 @@ module _ (φ : AnswersByName) (p : Plan) (w d inside : ℕ) where
 
 -- ## Members that are held
 
-module _ (φ : AnswersByName) (p : Plan) where
-  pub as_held : (g a : Gathered) {s : Step} {y : Data} {m n : Meter} {inside : ℕ} → MembersSteps φ p g s (Ok (a, y)) m n inside → HeldSteps φ p (gathered_holding g) s (Ok (gathered_holding a, y)) m n inside
+module _ (μ : Machine) where
+  pub as_held : (g a : Gathered) {s : Step} {y : Data} {m n : Meter} {inside : ℕ} → MembersSteps μ g s (Ok (a, y)) m n inside → HeldSteps μ (gathered_holding g) s (Ok (gathered_holding a, y)) m n inside
   as_held g a h low ms L G = let one = answered (h low ms L G) in answers one.given one.spent one.holds
 
-  pub held_fails : (g : Gathered) {s : Step} {f : Fault} {m n : Meter} {inside : ℕ} → MembersSteps φ p g s (Err f) m n inside → HeldSteps φ p (gathered_holding g) s (Err f) m n inside
+  pub held_fails : (g : Gathered) {s : Step} {f : Fault} {m n : Meter} {inside : ℕ} → MembersSteps μ g s (Err f) m n inside → HeldSteps μ (gathered_holding g) s (Err f) m n inside
   held_fails g h low ms L G = fails (failed (h low ms L G))
 
   -- members step as their states do
-  pub held_step : (h : Holding) (d : ℕ) (x : Data) (m n : Meter) (inside : ℕ) (cs : List State) (ys : List Data) → EachSteps φ p h.wait h.states (step d x) (Ok (cs, ys)) m n inside
-      → HeldSteps φ p h (step d x) (Ok (record { keys = h.keys; states = cs; wait = None }, table (keyed_rows h.keys ys))) m n inside
+  pub held_step : (h : Holding) (d : ℕ) (x : Data) (m n : Meter) (inside : ℕ) (cs : List State) (ys : List Data) → EachSteps μ h.wait h.states (step d x) (Ok (cs, ys)) m n inside
+      → HeldSteps μ h (step d x) (Ok (record { keys = h.keys; states = cs; wait = None }, table (keyed_rows h.keys ys))) m n inside
   held_step h d x m n inside cs ys hs low ms L (gathers K S) =
       let one = answered (hs low ms L S) in
-      answers (subst (λ ks. Each (network_of_plan φ p) ms (step d x) L (gave (table (keyed_rows ks ys)) one.r) one.k) (sym K) one.given) one.spent (gathers K one.holds)
+      answers (subst (λ ks. Each (machine_network μ) ms (step d x) L (gave (table (keyed_rows ks ys)) one.r) one.k) (sym K) one.given) one.spent (gathers K one.holds)
 
-  pub held_stop : (h : Holding) (d : ℕ) (x : Data) (m n : Meter) (inside : ℕ) (f : Fault) → EachSteps φ p h.wait h.states (step d x) (Err f) m n inside → HeldSteps φ p h (step d x) (Err f) m n inside
+  pub held_stop : (h : Holding) (d : ℕ) (x : Data) (m n : Meter) (inside : ℕ) (f : Fault) → EachSteps μ h.wait h.states (step d x) (Err f) m n inside → HeldSteps μ h (step d x) (Err f) m n inside
   held_stop h d x m n inside f hs low ms L (gathers K S) = fails (failed (hs low ms L S))
 
   -- memory runs out after them
-  pub held_end : (h a : Holding) (s : Step) (y : Data) (m n n2 : Meter) (inside : ℕ) → entered_of n2 ≡ entered_of n → meter_height n2 ≡ meter_height n → HeldSteps φ p h s (Ok (a, y)) m n inside → HeldSteps φ p h s (Err Memory) m n2 inside
+  pub held_end : (h a : Holding) (s : Step) (y : Data) (m n n2 : Meter) (inside : ℕ) → entered_of n2 ≡ entered_of n → meter_height n2 ≡ meter_height n → HeldSteps μ h s (Ok (a, y)) m n inside → HeldSteps μ h s (Err Memory) m n2 inside
   held_end h a s y m n n2 inside en hn hs low ms L G =
       let one = answered (hs low ms L G) in
-      fails (memory (spent_within (single (λ a b j k G H. once_each (network_of_plan φ p) G H)) one.given one.spent en hn))
+      fails (memory (spent_within (single (λ a b j k G H. once_each (machine_network μ) G H)) one.given one.spent en hn))
 
   -- members that run, frozen
-  pub gathers_frozen : (g : Gathered) (d : ℕ) (ms : Members) (L : Life) → Gathers φ p (gathered_holding g) ms L → Gathers φ p (frozen_over g d) (each_frozen ms L d) []
-  gathers_frozen g d ms L G = held_freeze φ p d g (record { keys = g.keys; states = g.states; wait = Some (unwrap_or g.wait d) }) refl refl refl ms L G
+  pub gathers_frozen : (g : Gathered) (d : ℕ) (ms : Members) (L : Life) → Gathers μ (gathered_holding g) ms L → Gathers μ (frozen_over g d) (each_frozen ms L d) []
+  gathers_frozen g d ms L G = held_freeze μ d g (record { keys = g.keys; states = g.states; wait = Some (unwrap_or g.wait d) }) refl refl refl ms L G
 
   -- ## A draft
 
-  module _ (g : Holding) (bs : List State) (fs : AllFollow φ p g.states bs) (x : Draft) (d : ℕ) (i : Data) (inside : ℕ) (m n : Meter) (ds : List State) (ys : List Data) (gs : List Turn) (h : HaveStepped φ p g.wait (step d i) inside m bs (Ok (ds, (ys, gs))) n) where
+  module _ (g : Holding) (bs : List State) (fs : AllFollow μ g.states bs) (x : Draft) (d : ℕ) (i : Data) (inside : ℕ) (m n : Meter) (ds : List State) (ys : List Data) (gs : List Turn) (h : HaveStepped μ g.wait (step d i) inside m bs (Ok (ds, (ys, gs))) n) where
     -- the members that ran
-    pub old_step : HeldSteps φ p g (step d i) (Ok (record { keys = g.keys; states = ds; wait = None }, table (keyed_rows g.keys ys))) m n inside
-    old_step = held_step g d i m n inside ds ys (list_alike φ p fs (stepped_each φ p g.wait d i inside h))
+    pub old_step : HeldSteps μ g (step d i) (Ok (record { keys = g.keys; states = ds; wait = None }, table (keyed_rows g.keys ys))) m n inside
+    old_step = held_step g d i m n inside ds ys (list_alike μ fs (stepped_each μ g.wait d i inside h))
 
     abbrev pub NewTurns : Result (List State × List Data) Fault → Meter → Type 0
-    NewTurns r l = HaveTurned φ p (unwrap_or g.wait d) d inside n (all_changed (λ a. a) x.changes.items ds) (all_changed (λ a. i) x.changes.items ys) (all_changed (λ a. Begins) x.changes.items gs) r l
+    NewTurns r l = HaveTurned μ (unwrap_or g.wait d) d inside n (all_changed (λ a. a) x.changes.items ds) (all_changed (λ a. i) x.changes.items ys) (all_changed (λ a. Begins) x.changes.items gs) r l
 
     -- those of the edit
     pub new_step : (es : List State) (zs : List Data) (ks : List KeyData) (l : Meter) → ks ≡ x.keys → NewTurns (Ok (es, zs)) l
-        → HeldStepsAfter φ p g m (laid_over g.states (Some (unwrap_or g.wait d)) x) (step d i) (Ok (record { keys = ks; states = es; wait = None }, table (keyed_rows ks zs))) n l inside
+        → HeldStepsAfter μ g m (laid_over g.states (Some (unwrap_or g.wait d)) x) (step d i) (Ok (record { keys = ks; states = es; wait = None }, table (keyed_rows ks zs))) n l inside
     new_step es zs ks l same t low ms L (gathers K S) =
-        let T = noted_turns φ p g.wait d i inside h (each_follows φ p fs S) in
-        let steps = turned_each φ p g.wait d i inside (grown_none n) (changed_turns φ p g.wait d i inside x.changes.items T.1) t in
-        subst (λ (ks : List KeyData). HeldSteps φ p (laid_over g.states (Some (unwrap_or g.wait d)) x) (step d i) (Ok (record { keys = ks; states = es; wait = None }, table (keyed_rows ks zs))) n l inside) (sym same)
-        (held_step (laid_over g.states (Some (unwrap_or g.wait d)) x) d i n l inside es zs (list_alike φ p (follow_changes φ p x.changes.items fs) steps))
+        let T = noted_turns μ g.wait d i inside h (each_follows μ fs S) in
+        let steps = turned_each μ g.wait d i inside (grown_none n) (changed_turns μ g.wait d i inside x.changes.items T.1) t in
+        subst (λ (ks : List KeyData). HeldSteps μ (laid_over g.states (Some (unwrap_or g.wait d)) x) (step d i) (Ok (record { keys = ks; states = es; wait = None }, table (keyed_rows ks zs))) n l inside) (sym same)
+        (held_step (laid_over g.states (Some (unwrap_or g.wait d)) x) d i n l inside es zs (list_alike μ (follow_changes μ x.changes.items fs) steps))
 
-    pub new_stop : (f : Fault) (l : Meter) → NewTurns (Err f) l → HeldStepsAfter φ p g m (laid_over g.states (Some (unwrap_or g.wait d)) x) (step d i) (Err f) n l inside
+    pub new_stop : (f : Fault) (l : Meter) → NewTurns (Err f) l → HeldStepsAfter μ g m (laid_over g.states (Some (unwrap_or g.wait d)) x) (step d i) (Err f) n l inside
     new_stop f l t low ms L (gathers K S) =
-        let T = noted_turns φ p g.wait d i inside h (each_follows φ p fs S) in
-        let steps = turned_fails φ p g.wait d i inside (grown_none n) (changed_turns φ p g.wait d i inside x.changes.items T.1) t in
-        held_stop (laid_over g.states (Some (unwrap_or g.wait d)) x) d i n l inside f (list_alike φ p (follow_changes φ p x.changes.items fs) steps)
+        let T = noted_turns μ g.wait d i inside h (each_follows μ fs S) in
+        let steps = turned_fails μ g.wait d i inside (grown_none n) (changed_turns μ g.wait d i inside x.changes.items T.1) t in
+        held_stop (laid_over g.states (Some (unwrap_or g.wait d)) x) d i n l inside f (list_alike μ (follow_changes μ x.changes.items fs) steps)
 
-    pub new_end : (es : List State) (zs : List Data) (l l2 : Meter) → entered_of l2 ≡ entered_of l → meter_height l2 ≡ meter_height l → NewTurns (Ok (es, zs)) l → HeldStepsAfter φ p g m (laid_over g.states (Some (unwrap_or g.wait d)) x) (step d i) (Err Memory) n l2 inside
+    pub new_end : (es : List State) (zs : List Data) (l l2 : Meter) → entered_of l2 ≡ entered_of l → meter_height l2 ≡ meter_height l → NewTurns (Ok (es, zs)) l → HeldStepsAfter μ g m (laid_over g.states (Some (unwrap_or g.wait d)) x) (step d i) (Err Memory) n l2 inside
     new_end es zs l l2 en hn t low ms L G = held_end (laid_over g.states (Some (unwrap_or g.wait d)) x) _ (step d i) _ n l l2 inside en hn (new_step es zs x.keys l refl t low ms L G)
 
 -- ## Values that don't show again
@@ -478,7 +476,7 @@ pub data Agree : List Turn → List Data → List Data → Type 0 where
   one_same : {x : Data} {gs : List Turn} {ys zs : List Data} → Agree gs ys zs → Agree (Begins ∷ gs) (x ∷ ys) (x ∷ zs)
 
 -- of those that ran none begins
-pub first_agree : {φ : AnswersByName} {p : Plan} {w : Option ℕ} {s : Step} {inside : ℕ} {m l : Meter} {cs ds : List State} {ys : List Data} {gs : List Turn} (zs : List Data) → HaveStepped φ p w s inside m cs (Ok (ds, (ys, gs))) l → length zs ≡ length ys → Agree gs zs ys
+pub first_agree : {μ : Machine} {w : Option ℕ} {s : Step} {inside : ℕ} {m l : Meter} {cs ds : List State} {ys : List Data} {gs : List Turn} (zs : List Data) → HaveStepped μ w s inside m cs (Ok (ds, (ys, gs))) l → length zs ≡ length ys → Agree gs zs ys
 first_agree [] all_stepped e = none_agree
 first_agree (z ∷ zs) all_stepped e = absurd (omega (arith, e))
 first_agree [] (one_stepped hs bt h) e = absurd (omega (arith, e))
@@ -520,14 +518,14 @@ same_head e = cc
 same_tail : {A : Type 0} {a b : A} {xs ys : List A} → a ∷ xs ≡ b ∷ ys → xs ≡ ys
 same_tail e = cc
 
-module _ (φ : AnswersByName) (p : Plan) (w d inside : ℕ) where
+module _ (μ : Machine) (w d inside : ℕ) where
   -- turns over other values
   pub record Refilled (m : Meter) (cs : List State) (ys zs : List Data) (gs : List Turn) (es : List State) (us : List Data) (l : Meter) : Type 0 where
     pub vs : List Data
-    pub turned : HaveTurned φ p w d inside m cs zs gs (Ok (es, vs)) l
+    pub turned : HaveTurned μ w d inside m cs zs gs (Ok (es, vs)) l
     pub same : ys ≡ zs → us ≡ vs
 
-  pub refilled : {m l : Meter} {cs es : List State} {ys zs us : List Data} {gs : List Turn} → Agree gs ys zs → HaveTurned φ p w d inside m cs ys gs (Ok (es, us)) l → Refilled m cs ys zs gs es us l
+  pub refilled : {m l : Meter} {cs es : List State} {ys zs us : List Data} {gs : List Turn} → Agree gs ys zs → HaveTurned μ w d inside m cs ys gs (Ok (es, us)) l → Refilled m cs ys zs gs es us l
   refilled none_agree all_turned = record { vs = []; turned = all_turned; same = λ e. refl }
   refilled (one_apart {z = z} A) (stays_on {zs = us} R h) =
       let r = refilled A h in
@@ -536,7 +534,7 @@ module _ (φ : AnswersByName) (p : Plan) (w d inside : ℕ) where
       let r = refilled A h in
       record { vs = z ∷ r.vs; turned = begins_on hs r.turned; same = λ e. ap (λ (ys : List Data). z ∷ ys) (r.same (same_tail e)) }
 
-  pub refilled_fails : {m l : Meter} {cs : List State} {ys zs : List Data} {gs : List Turn} {f : Fault} → Agree gs ys zs → HaveTurned φ p w d inside m cs ys gs (Err f) l → HaveTurned φ p w d inside m cs zs gs (Err f) l
+  pub refilled_fails : {m l : Meter} {cs : List State} {ys zs : List Data} {gs : List Turn} {f : Fault} → Agree gs ys zs → HaveTurned μ w d inside m cs ys gs (Err f) l → HaveTurned μ w d inside m cs zs gs (Err f) l
   refilled_fails none_agree t = elim t [ ]
   refilled_fails (one_apart A) (stays_before R h) = stays_before R (refilled_fails A h)
   refilled_fails (one_apart A) (stays_not R) = stays_not R
@@ -548,30 +546,30 @@ pub shows_so : (w : Observation) (y v : Data) (o : Option Data) (worth : List Da
 shows_so w y v (Some r) worth us vs h same e = e ∙ h (worth vs)
 shows_so w y v None worth us vs h same e = e ∙ ap worth (same refl) ∙ h (worth vs)
 
-module _ (φ : AnswersByName) (p : Plan) where
+module _ (μ : Machine) where
   -- ## Their turns, as they were made
 
-  module _ (g : Holding) (bs : List State) (x : Draft) (d : ℕ) (i : Data) (inside : ℕ) (m n : Meter) (ds : List State) (ys os : List Data) (gs : List Turn) (h : HaveStepped φ p g.wait (step d i) inside m bs (Ok (ds, (ys, gs))) n) (long : length os ≡ length ys) where
+  module _ (g : Holding) (bs : List State) (x : Draft) (d : ℕ) (i : Data) (inside : ℕ) (m n : Meter) (ds : List State) (ys os : List Data) (gs : List Turn) (h : HaveStepped μ g.wait (step d i) inside m bs (Ok (ds, (ys, gs))) n) (long : length os ≡ length ys) where
     agreeing : Agree (all_changed (λ a. Begins) x.changes.items gs) (all_changed (λ a. i) x.changes.items os) (all_changed (λ a. i) x.changes.items ys)
     agreeing = agree_all i x.changes.items (first_agree os h long)
 
     module _ {v : ℕ} {cs : List State} {us : List Data} {hs : List Turn} (l : Meter) (ev : v ≡ unwrap_or g.wait d) (ec : cs ≡ all_changed (λ a. a) x.changes.items ds) (eu : us ≡ all_changed (λ a. i) x.changes.items os) (eh : hs ≡ all_changed (λ a. Begins) x.changes.items gs) where
-      as_made_of : (r : Result (List State × List Data) Fault) → HaveTurned φ p v d inside n cs us hs r l → HaveTurned φ p (unwrap_or g.wait d) d inside n (all_changed (λ a. a) x.changes.items ds) (all_changed (λ a. i) x.changes.items os) (all_changed (λ a. Begins) x.changes.items gs) r l
+      as_made_of : (r : Result (List State × List Data) Fault) → HaveTurned μ v d inside n cs us hs r l → HaveTurned μ (unwrap_or g.wait d) d inside n (all_changed (λ a. a) x.changes.items ds) (all_changed (λ a. i) x.changes.items os) (all_changed (λ a. Begins) x.changes.items gs) r l
       as_made_of r t =
           let later = unwrap_or g.wait d in
           let ds' = all_changed (λ a. a) x.changes.items ds in
           let ys' = all_changed (λ a. i) x.changes.items os in
-          subst (λ (gs : List Turn). HaveTurned φ p later d inside n ds' ys' gs r l) eh
-          (subst (λ (ys : List Data). HaveTurned φ p later d inside n ds' ys hs r l) eu
-          (subst (λ (ds : List State). HaveTurned φ p later d inside n ds us hs r l) ec
-          (subst (λ v. HaveTurned φ p v d inside n cs us hs r l) ev t)))
+          subst (λ (gs : List Turn). HaveTurned μ later d inside n ds' ys' gs r l) eh
+          (subst (λ (ys : List Data). HaveTurned μ later d inside n ds' ys hs r l) eu
+          (subst (λ (ds : List State). HaveTurned μ later d inside n ds us hs r l) ec
+          (subst (λ v. HaveTurned μ v d inside n cs us hs r l) ev t)))
 
-      pub turned_so : (es : List State) (zs : List Data) → HaveTurned φ p v d inside n cs us hs (Ok (es, zs)) l
-          → Refilled φ p (unwrap_or g.wait d) d inside n (all_changed (λ a. a) x.changes.items ds) (all_changed (λ a. i) x.changes.items os) (all_changed (λ a. i) x.changes.items ys) (all_changed (λ a. Begins) x.changes.items gs) es zs l
-      turned_so es zs t = refilled φ p (unwrap_or g.wait d) d inside agreeing (as_made_of (Ok (es, zs)) t)
+      pub turned_so : (es : List State) (zs : List Data) → HaveTurned μ v d inside n cs us hs (Ok (es, zs)) l
+          → Refilled μ (unwrap_or g.wait d) d inside n (all_changed (λ a. a) x.changes.items ds) (all_changed (λ a. i) x.changes.items os) (all_changed (λ a. i) x.changes.items ys) (all_changed (λ a. Begins) x.changes.items gs) es zs l
+      turned_so es zs t = refilled μ (unwrap_or g.wait d) d inside agreeing (as_made_of (Ok (es, zs)) t)
 
-      pub not_turned_so : (f : Fault) → HaveTurned φ p v d inside n cs us hs (Err f) l → HaveTurned φ p (unwrap_or g.wait d) d inside n (all_changed (λ a. a) x.changes.items ds) (all_changed (λ a. i) x.changes.items ys) (all_changed (λ a. Begins) x.changes.items gs) (Err f) l
-      not_turned_so f t = refilled_fails φ p (unwrap_or g.wait d) d inside agreeing (as_made_of (Err f) t)
+      pub not_turned_so : (f : Fault) → HaveTurned μ v d inside n cs us hs (Err f) l → HaveTurned μ (unwrap_or g.wait d) d inside n (all_changed (λ a. a) x.changes.items ds) (all_changed (λ a. i) x.changes.items ys) (all_changed (λ a. Begins) x.changes.items gs) (Err f) l
+      not_turned_so f t = refilled_fails μ (unwrap_or g.wait d) d inside agreeing (as_made_of (Err f) t)
 
 -- as many as they are, whatever they are
 pub changed_long : {A B : Type 0} (worth : State → A) (other : State → B) (cs : List Change) (xs : List A) (ys : List B) → length xs ≡ length ys → length (all_changed worth cs xs) ≡ length (all_changed other cs ys)
@@ -588,24 +586,24 @@ changed_long worth other (c ∷ cs) xs ys e = changed_long worth other cs (chang
 
 -- ## Exits
 
-pub edit_stopped : {φ : AnswersByName} {p : Plan} {g : Holding} {made : Result Holding Fault} {w : Observation} {s : Step} {m n : Meter} {inside : ℕ} {e f : Fault} → f ≡ e → EditSteps φ p g made w s (Err e) m n inside → EditSteps φ p g made w s (Err f) m n inside
-edit_stopped {φ} {p} {g} {made} {w} {s} {m} {n} {inside} same h = subst (λ (f : Fault). EditSteps φ p g made w s (Err f) m n inside) (sym same) h
+pub edit_stopped : {μ : Machine} {g : Holding} {made : Result Holding Fault} {w : Observation} {s : Step} {m n : Meter} {inside : ℕ} {e f : Fault} → f ≡ e → EditSteps μ g made w s (Err e) m n inside → EditSteps μ g made w s (Err f) m n inside
+edit_stopped {μ} {g} {made} {w} {s} {m} {n} {inside} same h = subst (λ (f : Fault). EditSteps μ g made w s (Err f) m n inside) (sym same) h
 
 -- memory runs out after all of them
-pub edit_late : {φ : AnswersByName} {p : Plan} {g h : Holding} {made : Result Holding Fault} {w : Observation} {s : Step} {y : Data} {m n n2 : Meter} {inside : ℕ} {f : Fault} → f ≡ Memory → entered_of n2 ≡ entered_of n → meter_height n2 ≡ meter_height n
-    → EditSteps φ p g made w s (Ok (h, y)) m n inside → EditSteps φ p g made w s (Err f) m n2 inside
-edit_late {φ} {p} {g} {h} {made} {w} {s} {y} {m} {n} {n2} {inside} e en hn (new_run {h = k} {l = l} {z = z} {n = n1} old same hb shows) =
-    edit_stopped e (new_fails old same (λ low ms L G. held_end φ p k l s z n1 n n2 inside en hn (hb low ms L G)))
+pub edit_late : {μ : Machine} {g h : Holding} {made : Result Holding Fault} {w : Observation} {s : Step} {y : Data} {m n n2 : Meter} {inside : ℕ} {f : Fault} → f ≡ Memory → entered_of n2 ≡ entered_of n → meter_height n2 ≡ meter_height n
+    → EditSteps μ g made w s (Ok (h, y)) m n inside → EditSteps μ g made w s (Err f) m n2 inside
+edit_late {μ} {g} {h} {made} {w} {s} {y} {m} {n} {n2} {inside} e en hn (new_run {h = k} {l = l} {z = z} {n = n1} old same hb shows) =
+    edit_stopped e (new_fails old same (λ low ms L G. held_end μ k l s z n1 n n2 inside en hn (hb low ms L G)))
 
-pub pass_edit : {φ : AnswersByName} {p : Plan} {g : Holding} {made : Result Holding Fault} {w : Observation} {s : Step} {A E : Type 0} {m n : Meter} {inside : ℕ} {f : Fault} (r : Result A E) (y : Holding × Data) → IsErr r
-    → EditSteps φ p g made w s (Err f) m n inside → EditSteps φ p g made w s (left_or r y f) m n inside
+pub pass_edit : {μ : Machine} {g : Holding} {made : Result Holding Fault} {w : Observation} {s : Step} {A E : Type 0} {m n : Meter} {inside : ℕ} {f : Fault} (r : Result A E) (y : Holding × Data) → IsErr r
+    → EditSteps μ g made w s (Err f) m n inside → EditSteps μ g made w s (left_or r y f) m n inside
 pass_edit (Ok a) y e h = absurd cc
 pass_edit (Err q) y e h = h
 
-pub pass_notes : {φ : AnswersByName} {p : Plan} {w : Option ℕ} {s : Step} {inside : ℕ} {E : Type 0} {m n : Meter} {cs : List State} {f : Fault} (r : Result Noted E) (ds : List State) → IsErr r → HaveStepped φ p w s inside m cs (Err f) n → HaveStepped φ p w s inside m cs (left_noted r ds f) n
+pub pass_notes : {μ : Machine} {w : Option ℕ} {s : Step} {inside : ℕ} {E : Type 0} {m n : Meter} {cs : List State} {f : Fault} (r : Result Noted E) (ds : List State) → IsErr r → HaveStepped μ w s inside m cs (Err f) n → HaveStepped μ w s inside m cs (left_noted r ds f) n
 pass_notes (Ok a) ds e h = absurd cc
 pass_notes (Err q) ds e h = h
 
-pub pass_turns : {φ : AnswersByName} {p : Plan} {w d inside : ℕ} {A E : Type 0} {m n : Meter} {cs : List State} {ys : List Data} {gs : List Turn} {f : Fault} (r : Result A E) (z : List State × List Data) → IsErr r → HaveTurned φ p w d inside m cs ys gs (Err f) n → HaveTurned φ p w d inside m cs ys gs (left_or r z f) n
+pub pass_turns : {μ : Machine} {w d inside : ℕ} {A E : Type 0} {m n : Meter} {cs : List State} {ys : List Data} {gs : List Turn} {f : Fault} (r : Result A E) (z : List State × List Data) → IsErr r → HaveTurned μ w d inside m cs ys gs (Err f) n → HaveTurned μ w d inside m cs ys gs (left_or r z f) n
 pass_turns (Ok a) z e h = absurd cc
 pass_turns (Err q) z e h = h

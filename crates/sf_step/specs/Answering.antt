@@ -4,17 +4,15 @@ use Rattle.sf_value.specs.Values.{Data}
 use Rattle.sf_value.specs.declared.fault.ValueFault.{ValueFault}
 use Rattle.sf_value.specs.declared.fault.Fault.{Fault}
 use Rattle.sf_value.specs.declared.fault.Fault.TheVariants.{Value, Large, Memory}
-use Rattle.sf_func.specs.Registries.{AnswersByName}
 use Rattle.sf_term.specs.Trees.{Term}
 use Rattle.sf_mean.specs.Lives.{Step, Life, Process, closure, Environment, first_input}
 use Rattle.sf_mean.specs.Meaning.{Readings, Outcome, gave, faulted, Cost, count, height, Gives}
-use Rattle.sf_law.specs.declared.plan.Plan.{Plan}
-use Rattle.sf_law.specs.Arena.{network_of_plan}
 use Rattle.sf_prim.specs.declared.prim_state.PrimState.{PrimState}
 use Rattle.sf_state.specs.declared.state.Live.{Live}
 use Rattle.sf_state.specs.declared.state.State.{State}
 use Rattle.sf_state.specs.declared.env.Env.{Env}
 use Rattle.sf_state.specs.Standing.{IsNames, Recalls, Stands, Settles, Ready}
+use Rattle.sf_state.specs.Machine.{Machine, machine_network}
 use Rattle.sf_meter.specs.declared.meter.Meter.{Meter}
 use Rattle.sf_meter.specs.Meters.{Ticks, entered_of, meter_height, readings}
 
@@ -53,16 +51,16 @@ pub data Answers {A : Type 0} (view : A → Data) (after : A → Type 0) (R : Re
   fails : {f : Fault} {m n : Meter} {depth : ℕ} → StopsFor R f m n depth → Answers view after R (Err f) m n depth
 
 -- a primitive that counted between m and n steps to the outcome of its process on the longer life
-abbrev pub PrimSteps : AnswersByName → Plan → PrimState → Step → Result (PrimState × Data) Fault → Meter → Meter → Type 0
-PrimSteps φ p i s result n n' = (m : Meter) (depth inside : ℕ) → Ticks m n depth inside → (P : Process) (L : Life) → Recalls φ p i P L
-    → Answers (λ y. y.1) (λ y. Recalls φ p y.0 P (s ∷ L)) (Gives (network_of_plan φ p) P (s ∷ L)) result m n' depth
+abbrev pub PrimSteps : Machine → PrimState → Step → Result (PrimState × Data) Fault → Meter → Meter → Type 0
+PrimSteps μ i s result n n' = (m : Meter) (depth inside : ℕ) → Ticks m n depth inside → (P : Process) (L : Life) → Recalls μ i P L
+    → Answers (λ y. y.1) (λ y. Recalls μ y.0 P (s ∷ L)) (Gives (machine_network μ) P (s ∷ L)) result m n' depth
 
 -- a live part that counted between m and n steps likewise, where its parts stand inside so many nodes
-abbrev pub LiveSteps : AnswersByName → Plan → Live → Step → Result (Live × Data) Fault → Meter → Meter → ℕ → Type 0
-LiveSteps φ p l s result n n' inside = (m : Meter) (depth : ℕ) → Ticks m n depth inside → (P : Process) (L : Life) → Ready φ p l P (first_input s L) L
-    → Answers (λ y. y.1) (λ y. Settles φ p y.0 P (s ∷ L)) (Gives (network_of_plan φ p) P (s ∷ L)) result m n' depth
+abbrev pub LiveSteps : Machine → Live → Step → Result (Live × Data) Fault → Meter → Meter → ℕ → Type 0
+LiveSteps μ l s result n n' inside = (m : Meter) (depth : ℕ) → Ticks m n depth inside → (P : Process) (L : Life) → Ready μ l P (first_input s L) L
+    → Answers (λ y. y.1) (λ y. Settles μ y.0 P (s ∷ L)) (Gives (machine_network μ) P (s ∷ L)) result m n' depth
 
 -- a term with names around it, which counted between m and n, steps likewise at its first sample
-abbrev pub FirstSteps : AnswersByName → Plan → Term → Env → Step → Result (State × Data) Fault → Meter → Meter → Type 0
-FirstSteps φ p t names s result n n' = (m : Meter) (depth inside : ℕ) → Ticks m n depth inside → (e : Environment) → IsNames φ p names e
-    → Answers (λ y. y.1) (λ y. Stands φ p y.0 (closure t e) (s ∷ [])) (Gives (network_of_plan φ p) (closure t e) (s ∷ [])) result m n' depth
+abbrev pub FirstSteps : Machine → Term → Env → Step → Result (State × Data) Fault → Meter → Meter → Type 0
+FirstSteps μ t names s result n n' = (m : Meter) (depth inside : ℕ) → Ticks m n depth inside → (e : Environment) → IsNames μ names e
+    → Answers (λ y. y.1) (λ y. Stands μ y.0 (closure t e) (s ∷ [])) (Gives (machine_network μ) (closure t e) (s ∷ [])) result m n' depth

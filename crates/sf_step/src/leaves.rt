@@ -6,7 +6,7 @@ ghost use Rattle.sf_law.specs.Arena.{BuildsPlan};
 ghost use Rattle.sf_law.specs.declared.node.PlanNode.TheVariants as NodeOf;
 ghost use Rattle.sf_meter.specs.Meters.{left_or, entered_of, meter_fault};
 ghost use Rattle.sf_step.specs.Answering.{PrimSteps, LiveSteps, FirstSteps};
-ghost use Rattle.sf_begin.specs.Contexts.{plan_in, dt_in};
+ghost use Rattle.sf_begin.specs.Contexts.{context_machine, plan_in, dt_in};
 
 use sf_begin::{SampleContext, fault_of};
 use sf_func::Holds;
@@ -27,7 +27,7 @@ pub(crate) fn step_prim<R: Holds>(
     meter: &mut Meter,
 ) -> Result<(), Stop>
     ensures entered { entered_of meter.new ≡ entered_of meter.old }
-    ensures answers { PrimSteps (R.answers context.now.functions.now) (plan_in context.now) prim.old (step (dt_in context.now) value.old)
+    ensures answers { PrimSteps (context_machine R.answers context.now) prim.old (step (dt_in context.now) value.old)
         (left_or result (prim.new, value.new) (meter_fault meter.new)) meter.old meter.new }
 {
     match prim.step(context.alloc, context.functions, context.dt, value) {
@@ -47,7 +47,7 @@ pub(crate) fn first_primitive<R: Holds>(
     value: &mut Value,
     meter: &mut Meter,
 ) -> Result<(), Stop>
-    ensures { (t : Term) → BuildsPlan (plan_in context.now) (NodeOf.Primitive primitive.now) t → FirstSteps (R.answers context.now.functions.now) (plan_in context.now) t names.now (step (dt_in context.now) value.old)
+    ensures { (t : Term) → BuildsPlan (plan_in context.now) (NodeOf.Primitive primitive.now) t → FirstSteps (context_machine R.answers context.now) t names.now (step (dt_in context.now) value.old)
         (left_or result (state.new, value.new) (meter_fault meter.new)) meter.old meter.new }
 {
     let plan = context.plan;
@@ -73,17 +73,11 @@ pub(crate) fn step_probe<R: Holds>(
     meter: &mut Meter,
 ) -> Result<(), Stop>
     ensures entered { entered_of meter.new ≡ entered_of meter.old }
-    ensures answers { (inside : ℕ) → LiveSteps (R.answers context.now.functions.now) (plan_in context.now) (Live.Probe name.now) (step (dt_in context.now) value.now)
+    ensures answers { (inside : ℕ) → LiveSteps (context_machine R.answers context.now) (Live.Probe name.now) (step (dt_in context.now) value.now)
         (left_or result (Live.Probe name.now, value.now) (meter_fault meter.new)) meter.old meter.new inside }
 {
-    let Ok(shared) = name.clone() else {
-        return Err(meter.stop(Fault::Memory));
-    };
-    let Ok(copy) = value.clone_in(context.alloc) else {
-        return Err(meter.stop(Fault::Memory));
-    };
-    match meter.record(shared, copy) {
-        Ok(()) => Ok(()),
-        Err(_) => Err(meter.stop(Fault::Memory)),
-    }
+    let shared = granted!(meter, name.clone());
+    let copy = granted!(meter, value.clone_in(context.alloc));
+    granted!(meter, meter.record(shared, copy));
+    Ok(())
 }

@@ -2,12 +2,11 @@
 ghost use Rattle.std.specs.Prelude.{◌≡◌, IfOk, IfErr, OnOk, Ok, Err, None, unwrap_or};
 ghost use Rattle.std.specs.Option.{option_map};
 ghost use Rattle.sf_value.specs.Values.{pair, first_of, second_of};
-ghost use Rattle.sf_func.specs.Registries.{AnswersByName};
-ghost use Rattle.sf_law.specs.declared.plan.Plan.{Plan};
 ghost use Rattle.sf_mean.specs.Lives.{Life, Process};
 ghost use Rattle.sf_mean.specs.Formulas.{occurring};
 ghost use Rattle.sf_mean.specs.Meaning.{switched_value};
 ghost use Rattle.sf_state.specs.Standing.{Stands};
+ghost use Rattle.sf_state.specs.Machine.{Machine};
 
 use sf_state::State;
 use sf_term::Observation;
@@ -99,7 +98,7 @@ pub(crate) fn hold_back(
     before: &mut State,
 ) -> Result<(), AllocError>
     ensures held { OnOk result (before.new ≡ source.old) }
-    ensures runs_on { OnOk result ((φ : AnswersByName) (p : Plan) (P : Process) (L : Life) → Stands φ p source.old P L → Stands φ p source.new P L) }
+    ensures runs_on { OnOk result ((μ : Machine) (P : Process) (L : Life) → Stands μ source.old P L → Stands μ source.new P L) }
 {
     before.renew(alloc, source)?;
     mem::swap(source, before);

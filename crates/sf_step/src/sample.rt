@@ -1,13 +1,14 @@
 //! One sample.
 ghost use Rattle.std.specs.Prelude.{◌≡◌, ◌≤◌, ◌∷◌, List, None, Some, Ok, length, IsTrue, IsFalse};
-ghost use Rattle.sf_begin.specs.Beginning.{is_awake, is_in_place};
+ghost use Rattle.sf_begin.specs.Beginning.{is_awake};
 ghost use Rattle.sf_mean.specs.Lives.{step, Life, Process};
 ghost use Rattle.sf_state.specs.declared.state.State as state_forms;
 ghost use Rattle.sf_state.specs.Held.{gathered_holding, held_as};
 ghost use Rattle.sf_state.specs.Standing.{Stands, AllFollow, is_frozen};
+ghost use Rattle.sf_state.specs.Machine.{machine};
 ghost use Rattle.sf_meter.specs.Meters.{kept, left_or, entered_of, meter_height, meter_fault};
 ghost use Rattle.sf_step.specs.Answering.{LiveSteps};
-ghost use Rattle.sf_begin.specs.Contexts.{plan_in, dt_in};
+ghost use Rattle.sf_begin.specs.Contexts.{context_machine, dt_in};
 ghost use Rattle.sf_step.specs.Sampling.{StateSteps, SwitchSteps, ContinuationSteps, GatheringSteps, MembersSteps, EachSteps, MemberSteps, CountedSteps, left_beside, left_with};
 ghost use Rattle.sf_step.specs.Edits.{HaveStepped, HaveTurned, EditSteps, DraftSteps, held_as_made, left_noted};
 ghost use Rattle.sf_step.specs.Stepping.{Steps};
@@ -79,8 +80,8 @@ pub fn step<R: Holds>(
     meter: &mut Meter,
 ) -> Result<(Value, Readings), Fault>
     // a state of (P, L) steps to the outcome of P on the longer life
-    ensures answers { (P : Process) (L : Life) → Stands (R.answers functions.now) plan.now state.old P L →
-        Steps (R.answers functions.now) plan.now P (step dt input ∷ L) result state.new meter.new }
+    ensures answers { (P : Process) (L : Life) → Stands (machine (R.answers functions.now) plan.now) state.old P L →
+        Steps (machine (R.answers functions.now) plan.now) P (step dt input ∷ L) result state.new meter.new }
     ensures bounded { (entered_of meter.new ≤ 1000000) × (meter_height meter.new ≤ 1600) }
 {
     meter.reset(alloc);
@@ -108,7 +109,7 @@ fn step_state<R: Holds>(
     value: &mut Value,
     meter: &mut Meter,
 ) -> Result<(), Stop>
-    ensures { StateSteps (R.answers context.now.functions.now) (plan_in context.now) state.old (step (dt_in context.now) value.old)
+    ensures { StateSteps (context_machine R.answers context.now) state.old (step (dt_in context.now) value.old)
         (left_or result (state.new, value.new) (meter_fault meter.new)) meter.old meter.new depth }
 {
     match state {
@@ -134,27 +135,18 @@ fn step_other<R: Holds>(
     value: &mut Value,
     meter: &mut Meter,
 ) -> Result<(), Stop>
-    requires { IsFalse (is_in_place state.old) }
-    ensures { StateSteps (R.answers context.now.functions.now) (plan_in context.now) state.old (step (dt_in context.now) value.old)
+    ensures { StateSteps (context_machine R.answers context.now) state.old (step (dt_in context.now) value.old)
         (left_or result (state.new, value.new) (meter_fault meter.new)) meter.old meter.new depth }
 {
+    if has_lived(state) {
+        let inside = meter.tick(depth)?;
+        return step_counted(context, state, inside, value, meter);
+    }
     match state {
-        State::Switch(_, _) => {
-            let inside = meter.tick(depth)?;
-            step_counted(context, state, inside, value, meter)
-        }
-        State::Continuation(_, _) => {
-            let inside = meter.tick(depth)?;
-            step_counted(context, state, inside, value, meter)
-        }
-        State::Gathering(_, _) => {
-            let inside = meter.tick(depth)?;
-            step_counted(context, state, inside, value, meter)
-        }
         State::Unborn(_) => step_unborn(context, state, depth, value, meter),
         State::Frozen(_) => step_frozen(context, state, depth, value, meter),
-        // these are stepped in place, above
-        State::Primitive(_) | State::Live(_, _) => unreachable!(),
+        // what has lived is counted above
+        _ => unreachable!(),
     }
 }
 
@@ -170,7 +162,7 @@ fn step_unborn<R: Holds>(
 ) -> Result<(), Stop>
     requires unborn { IsFalse (is_awake state.old) }
     requires thawed { IsFalse (is_frozen state.old) }
-    ensures { StateSteps (R.answers context.now.functions.now) (plan_in context.now) state.old (step (dt_in context.now) value.old)
+    ensures { StateSteps (context_machine R.answers context.now) state.old (step (dt_in context.now) value.old)
         (left_or result (state.new, value.new) (meter_fault meter.new)) meter.old meter.new depth }
 {
     let State::Unborn(process) = state else {
@@ -200,7 +192,7 @@ fn step_frozen<R: Holds>(
     meter: &mut Meter,
 ) -> Result<(), Stop>
     requires { IsTrue (is_frozen state.old) }
-    ensures { StateSteps (R.answers context.now.functions.now) (plan_in context.now) state.old (step (dt_in context.now) value.old)
+    ensures { StateSteps (context_machine R.answers context.now) state.old (step (dt_in context.now) value.old)
         (left_or result (state.new, value.new) (meter_fault meter.new)) meter.old meter.new depth }
 {
     let State::Frozen(frozen) = state else {
@@ -212,9 +204,7 @@ fn step_frozen<R: Holds>(
         functions: context.functions,
         dt: frozen.wait,
     };
-    let Ok(awake) = frozen.wake(context.alloc) else {
-        return Err(meter.stop(Fault::Memory));
-    };
+    let awake = granted!(meter, frozen.wake(context.alloc));
     *state = awake;
     step_state(&later, state, depth, value, meter)
 }
@@ -230,7 +220,7 @@ fn step_counted<R: Holds>(
     meter: &mut Meter,
 ) -> Result<(), Stop>
     requires { IsTrue (is_awake state.old) }
-    ensures { CountedSteps (R.answers context.now.functions.now) (plan_in context.now) state.old (step (dt_in context.now) value.old)
+    ensures { CountedSteps (context_machine R.answers context.now) state.old (step (dt_in context.now) value.old)
         (left_or result (state.new, value.new) (meter_fault meter.new)) meter.old meter.new inside }
 {
     match state {
@@ -266,7 +256,7 @@ fn step_watching<R: Holds>(
     value: &mut Value,
     meter: &mut Meter,
 ) -> Result<Option<State>, Stop>
-    ensures { SwitchSteps (R.answers context.now.functions.now) (plan_in context.now) names.now node.old.value (step (dt_in context.now) value.old)
+    ensures { SwitchSteps (context_machine R.answers context.now) names.now node.old.value (step (dt_in context.now) value.old)
         (left_beside result node.new.value value.new (meter_fault meter.new)) meter.old meter.new inside }
 {
     match Rc::get_mut(node) {
@@ -287,16 +277,12 @@ fn step_watching_copy<R: Holds>(
     value: &mut Value,
     meter: &mut Meter,
 ) -> Result<Option<State>, Stop>
-    ensures { SwitchSteps (R.answers context.now.functions.now) (plan_in context.now) names.now node.old.value (step (dt_in context.now) value.old)
+    ensures { SwitchSteps (context_machine R.answers context.now) names.now node.old.value (step (dt_in context.now) value.old)
         (left_beside result node.new.value value.new (meter_fault meter.new)) meter.old meter.new inside }
 {
-    let Ok(mut own) = node.clone_in(context.alloc) else {
-        return Err(meter.stop(Fault::Memory));
-    };
+    let mut own = granted!(meter, node.clone_in(context.alloc));
     let over = step_switch(context, &mut own, names, inside, value, meter)?;
-    let Ok(copy) = Rc::new(context.alloc, own) else {
-        return Err(meter.stop(Fault::Memory));
-    };
+    let copy = granted!(meter, Rc::new(context.alloc, own));
     *node = copy;
     Ok(over)
 }
@@ -312,7 +298,7 @@ fn step_observing<R: Holds>(
     value: &mut Value,
     meter: &mut Meter,
 ) -> Result<Option<State>, Stop>
-    ensures { ContinuationSteps (R.answers context.now.functions.now) (plan_in context.now) names.now node.old.value (step (dt_in context.now) value.old)
+    ensures { ContinuationSteps (context_machine R.answers context.now) names.now node.old.value (step (dt_in context.now) value.old)
         (left_beside result node.new.value value.new (meter_fault meter.new)) meter.old meter.new inside }
 {
     match Rc::get_mut(node) {
@@ -333,16 +319,12 @@ fn step_observing_copy<R: Holds>(
     value: &mut Value,
     meter: &mut Meter,
 ) -> Result<Option<State>, Stop>
-    ensures { ContinuationSteps (R.answers context.now.functions.now) (plan_in context.now) names.now node.old.value (step (dt_in context.now) value.old)
+    ensures { ContinuationSteps (context_machine R.answers context.now) names.now node.old.value (step (dt_in context.now) value.old)
         (left_beside result node.new.value value.new (meter_fault meter.new)) meter.old meter.new inside }
 {
-    let Ok(mut own) = node.clone_in(context.alloc) else {
-        return Err(meter.stop(Fault::Memory));
-    };
+    let mut own = granted!(meter, node.clone_in(context.alloc));
     let over = step_continuing(context, &mut own, names, inside, value, meter)?;
-    let Ok(copy) = Rc::new(context.alloc, own) else {
-        return Err(meter.stop(Fault::Memory));
-    };
+    let copy = granted!(meter, Rc::new(context.alloc, own));
     *node = copy;
     Ok(over)
 }
@@ -358,7 +340,7 @@ fn step_gathering<R: Holds>(
     value: &mut Value,
     meter: &mut Meter,
 ) -> Result<Option<State>, Stop>
-    ensures { GatheringSteps (R.answers context.now.functions.now) (plan_in context.now) names.now node.old.value (step (dt_in context.now) value.old)
+    ensures { GatheringSteps (context_machine R.answers context.now) names.now node.old.value (step (dt_in context.now) value.old)
         (left_beside result node.new.value value.new (meter_fault meter.new)) meter.old meter.new inside }
 {
     match Rc::get_mut(node) {
@@ -379,16 +361,12 @@ fn step_gathering_copy<R: Holds>(
     value: &mut Value,
     meter: &mut Meter,
 ) -> Result<Option<State>, Stop>
-    ensures { GatheringSteps (R.answers context.now.functions.now) (plan_in context.now) names.now node.old.value (step (dt_in context.now) value.old)
+    ensures { GatheringSteps (context_machine R.answers context.now) names.now node.old.value (step (dt_in context.now) value.old)
         (left_beside result node.new.value value.new (meter_fault meter.new)) meter.old meter.new inside }
 {
-    let Ok(mut own) = node.clone_in(context.alloc) else {
-        return Err(meter.stop(Fault::Memory));
-    };
+    let mut own = granted!(meter, node.clone_in(context.alloc));
     let over = step_members_waiting(context, &mut own, names, inside, value, meter)?;
-    let Ok(copy) = Rc::new(context.alloc, own) else {
-        return Err(meter.stop(Fault::Memory));
-    };
+    let copy = granted!(meter, Rc::new(context.alloc, own));
     *node = copy;
     Ok(over)
 }
@@ -404,7 +382,7 @@ fn step_members_waiting<R: Holds>(
     value: &mut Value,
     meter: &mut Meter,
 ) -> Result<Option<State>, Stop>
-    ensures { GatheringSteps (R.answers context.now.functions.now) (plan_in context.now) names.now gathering.old (step (dt_in context.now) value.old)
+    ensures { GatheringSteps (context_machine R.answers context.now) names.now gathering.old (step (dt_in context.now) value.old)
         (left_beside result gathering.new value.new (meter_fault meter.new)) meter.old meter.new inside }
 {
     match gathering {
@@ -429,28 +407,26 @@ fn step_releasing<R: Holds>(
     value: &mut Value,
     meter: &mut Meter,
 ) -> Result<Option<State>, Stop>
-    ensures { GatheringSteps (R.answers context.now.functions.now) (plan_in context.now) names.now (Gathering.Releasing releasing.old) (step (dt_in context.now) value.old)
+    ensures { GatheringSteps (context_machine R.answers context.now) names.now (Gathering.Releasing releasing.old) (step (dt_in context.now) value.old)
         (left_beside result (Gathering.Releasing releasing.new) value.new (meter_fault meter.new)) meter.old meter.new inside }
 {
     let alloc = context.alloc;
-    let Ok(()) = hold_back_members(alloc, &mut releasing.members, &mut releasing.before) else {
-        return Err(meter.stop(Fault::Memory));
-    };
-    let Ok((input, output)) = copies(alloc, &*value) else {
-        return Err(meter.stop(Fault::Memory));
-    };
+    granted!(
+        meter,
+        hold_back_members(alloc, &mut releasing.members, &mut releasing.before)
+    );
+    let (input, output) = granted!(meter, copies(alloc, &*value));
     step_members(context, &mut releasing.members, inside, value, meter)?;
-    let Ok(mut seen) = beside(alloc, input, &*value) else {
-        return Err(meter.stop(Fault::Memory));
-    };
+    let mut seen = granted!(meter, beside(alloc, input, &*value));
     step_state(context, &mut releasing.observer, inside, &mut seen, meter)?;
     match payload_of(seen) {
         None => Ok(None),
         Some(payload) => {
             let plan = context.plan;
-            let Ok(successor) = releasing.begin(alloc, plan, names, context.dt, payload) else {
-                return Err(meter.stop(Fault::Memory));
-            };
+            let successor = granted!(
+                meter,
+                releasing.begin(alloc, plan, names, context.dt, payload)
+            );
             let (successor, output) = step_begun(context, successor, inside, output, meter)?;
             show(releasing.shown, value, output);
             Ok(Some(successor))
@@ -469,7 +445,7 @@ fn step_edited<R: Holds>(
     value: &mut Value,
     meter: &mut Meter,
 ) -> Result<Option<State>, Stop>
-    ensures { GatheringSteps (R.answers context.now.functions.now) (plan_in context.now) names.now (Gathering.Editing editing.old) (step (dt_in context.now) value.old)
+    ensures { GatheringSteps (context_machine R.answers context.now) names.now (Gathering.Editing editing.old) (step (dt_in context.now) value.old)
         (left_beside result (Gathering.Editing editing.new) value.new (meter_fault meter.new)) meter.old meter.new inside }
 {
     step_editing(context, editing, names, inside, value, meter)?;
@@ -488,20 +464,19 @@ fn step_editing<R: Holds>(
     value: &mut Value,
     meter: &mut Meter,
 ) -> Result<(), Stop>
-    ensures { GatheringSteps (R.answers context.now.functions.now) (plan_in context.now) names.now (Gathering.Editing editing.old) (step (dt_in context.now) value.old)
+    ensures { GatheringSteps (context_machine R.answers context.now) names.now (Gathering.Editing editing.old) (step (dt_in context.now) value.old)
         (left_or result ((None, Gathering.Editing editing.new), value.new) (meter_fault meter.new)) meter.old meter.new inside }
 {
     let alloc = context.alloc;
-    let Ok((input, occurring)) = value_and_payload(alloc, value) else {
-        return Err(meter.stop(Fault::Memory));
-    };
+    let (input, occurring) = granted!(meter, value_and_payload(alloc, value));
     *value = input;
     match occurring {
         None => step_members(context, &mut editing.members, inside, value, meter),
         Some(payload) => {
-            let Ok(around) = editing.inside(alloc, context.plan, names, context.dt, payload) else {
-                return Err(meter.stop(Fault::Memory));
-            };
+            let around = granted!(
+                meter,
+                editing.inside(alloc, context.plan, names, context.dt, payload)
+            );
             let shown = editing.shown;
             match draft_of(context, &*editing, &*editing.edit, &around) {
                 Ok(Some(draft)) => {
@@ -542,7 +517,7 @@ fn step_exchange<R: Holds>(
     value: &mut Value,
     meter: &mut Meter,
 ) -> Result<(), Stop>
-    ensures { EditSteps (R.answers context.now.functions.now) (plan_in context.now) (gathered_holding members.old) (held_as_made exchange.made) exchange.shown (step (dt_in context.now) value.old)
+    ensures { EditSteps (context_machine R.answers context.now) (gathered_holding members.old) (held_as_made exchange.made) exchange.shown (step (dt_in context.now) value.old)
         (left_or result (gathered_holding members.new, value.new) (meter_fault meter.new)) meter.old meter.new exchange.inside }
 {
     let Exchange {
@@ -550,9 +525,7 @@ fn step_exchange<R: Holds>(
         inside,
         made,
     } = exchange;
-    let Ok(mut begun) = value.clone_in(context.alloc) else {
-        return Err(meter.stop(Fault::Memory));
-    };
+    let mut begun = granted!(meter, value.clone_in(context.alloc));
     step_members(context, members, inside, value, meter)?;
     match made {
         Err(fault) => Err(meter.stop(fault)),
@@ -575,7 +548,7 @@ fn step_draft<R: Holds>(
     value: &mut Value,
     meter: &mut Meter,
 ) -> Result<(), Stop>
-    ensures { DraftSteps (R.answers context.now.functions.now) (plan_in context.now) edit (dt_in context.now) members.old.keys members.old.states.value.items value.old
+    ensures { DraftSteps (context_machine R.answers context.now) edit (dt_in context.now) members.old.keys members.old.states.value.items value.old
         (left_or result (gathered_holding members.new, value.new) (meter_fault meter.new)) meter.old meter.new }
 {
     members.wait = None;
@@ -599,19 +572,13 @@ fn step_turns_copy<R: Holds>(
     value: &mut Value,
     meter: &mut Meter,
 ) -> Result<(), Stop>
-    ensures { DraftSteps (R.answers context.now.functions.now) (plan_in context.now) edit (dt_in context.now) keys.old list.old.value.items value.old
+    ensures { DraftSteps (context_machine R.answers context.now) edit (dt_in context.now) keys.old list.old.value.items value.old
         (left_or result (held_as keys.new list.new.value.items None, value.new) (meter_fault meter.new)) meter.old meter.new }
 {
-    let Ok(shared) = list.clone() else {
-        return Err(meter.stop(Fault::Memory));
-    };
-    let Ok(mut own) = own_states(context.alloc, shared) else {
-        return Err(meter.stop(Fault::Memory));
-    };
+    let shared = granted!(meter, list.clone());
+    let mut own = granted!(meter, own_states(context.alloc, shared));
     step_turns(context, edit, keys, &mut own, value, meter)?;
-    let Ok(copy) = Rc::new(context.alloc, own) else {
-        return Err(meter.stop(Fault::Memory));
-    };
+    let copy = granted!(meter, Rc::new(context.alloc, own));
     *list = copy;
     Ok(())
 }
@@ -628,7 +595,7 @@ fn step_turns<R: Holds>(
     value: &mut Value,
     meter: &mut Meter,
 ) -> Result<(), Stop>
-    ensures { (bs : List state_forms.State) → AllFollow (R.answers context.now.functions.now) (plan_in context.now) bs states.old.items → DraftSteps (R.answers context.now.functions.now) (plan_in context.now) edit (dt_in context.now) keys.old bs value.old
+    ensures { (bs : List state_forms.State) → AllFollow (context_machine R.answers context.now) bs states.old.items → DraftSteps (context_machine R.answers context.now) edit (dt_in context.now) keys.old bs value.old
         (left_or result (held_as keys.new states.new.items None, value.new) (meter_fault meter.new)) meter.old meter.new }
 {
     let alloc = context.alloc;
@@ -640,16 +607,13 @@ fn step_turns<R: Holds>(
     } = edit;
     let noted = step_noted(context, wait, states, inside, &*value, meter)?;
     let Noted { outputs, mut turns } = noted;
-    let Ok((before, mut outputs)) = table_before(alloc, shown, &*keys, outputs) else {
-        return Err(meter.stop(Fault::Memory));
-    };
+    let (before, mut outputs) = granted!(meter, table_before(alloc, shown, &*keys, outputs));
     let Draft { keys: all, changes } = draft;
-    let Ok(all) = Rc::new(alloc, all) else {
-        return Err(meter.stop(Fault::Memory));
-    };
-    let Ok(()) = change_all(alloc, &*value, changes, states, &mut outputs, &mut turns) else {
-        return Err(meter.stop(Fault::Memory));
-    };
+    let all = granted!(meter, Rc::new(alloc, all));
+    granted!(
+        meter,
+        change_all(alloc, &*value, changes, states, &mut outputs, &mut turns)
+    );
     let turns = Turns {
         inside,
         wait: wait.unwrap_or(context.dt),
@@ -657,13 +621,8 @@ fn step_turns<R: Holds>(
     };
     step_again(context, turns, states, &mut outputs, meter)?;
     *keys = all;
-    match table_after(alloc, before, &*keys, outputs) {
-        Ok(rows) => {
-            *value = rows;
-            Ok(())
-        }
-        Err(_) => Err(meter.stop(Fault::Memory)),
-    }
+    *value = granted!(meter, table_after(alloc, before, &*keys, outputs));
+    Ok(())
 }
 
 // The next sample of members that run, or wait so long: what each gave, and what the meter counted of it.
@@ -677,21 +636,15 @@ fn step_noted<R: Holds>(
     value: &Value,
     meter: &mut Meter,
 ) -> Result<Noted, Stop>
-    ensures { HaveStepped (R.answers context.now.functions.now) (plan_in context.now) wait (step (dt_in context.now) value.now) inside meter.old states.old.items
+    ensures { HaveStepped (context_machine R.answers context.now) wait (step (dt_in context.now) value.now) inside meter.old states.old.items
         (left_noted result states.new.items (meter_fault meter.new)) meter.new }
 {
     let alloc = context.alloc;
     let room = room_for(states.len());
-    let Ok(mut outputs) = Vec::with_capacity(alloc, room) else {
-        return Err(meter.stop(Fault::Memory));
-    };
-    let Ok(mut turns) = Vec::with_capacity(alloc, room) else {
-        return Err(meter.stop(Fault::Memory));
-    };
+    let mut outputs = granted!(meter, Vec::with_capacity(alloc, room));
+    let mut turns = granted!(meter, Vec::with_capacity(alloc, room));
     for ran in states.iter_mut() {
-        let Ok(mut output) = value.clone_in(alloc) else {
-            return Err(meter.stop(Fault::Memory));
-        };
+        let mut output = granted!(meter, value.clone_in(alloc));
         let mark = meter.mark();
         step_member(context, wait, ran, inside, &mut output, meter)?;
         outputs.push_reserved(output);
@@ -712,7 +665,7 @@ fn step_again<R: Holds>(
 ) -> Result<(), Stop>
     requires states { length states.old.items ≡ length turns.each.now }
     requires outputs { length outputs.old.items ≡ length turns.each.now }
-    ensures { HaveTurned (R.answers context.now.functions.now) (plan_in context.now) turns.entry.wait (dt_in context.now) turns.entry.inside meter.old states.old.items outputs.old.items turns.entry.each.now
+    ensures { HaveTurned (context_machine R.answers context.now) turns.entry.wait (dt_in context.now) turns.entry.inside meter.old states.old.items outputs.old.items turns.entry.each.now
         (left_or result (states.new.items, outputs.new.items) (meter_fault meter.new)) meter.new }
 {
     let Turns { inside, wait, each } = turns;
@@ -739,19 +692,14 @@ fn step_members<R: Holds>(
     value: &mut Value,
     meter: &mut Meter,
 ) -> Result<(), Stop>
-    ensures { MembersSteps (R.answers context.now.functions.now) (plan_in context.now) members.old (step (dt_in context.now) value.old)
+    ensures { MembersSteps (context_machine R.answers context.now) members.old (step (dt_in context.now) value.old)
         (left_or result (members.new, value.new) (meter_fault meter.new)) meter.old meter.new inside }
 {
     let wait = members.wait;
     let outputs = step_list(context, wait, &mut members.states, inside, &*value, meter)?;
     members.wait = None;
-    match table_of(context.alloc, &members.keys, outputs) {
-        Ok(rows) => {
-            *value = rows;
-            Ok(())
-        }
-        Err(_) => Err(meter.stop(Fault::Memory)),
-    }
+    *value = granted!(meter, table_of(context.alloc, &members.keys, outputs));
+    Ok(())
 }
 
 // The same of their states, in a list that others may share: their values in order.
@@ -765,7 +713,7 @@ fn step_list<R: Holds>(
     value: &Value,
     meter: &mut Meter,
 ) -> Result<Vec<Value>, Stop>
-    ensures { EachSteps (R.answers context.now.functions.now) (plan_in context.now) wait list.old.value.items (step (dt_in context.now) value.now)
+    ensures { EachSteps (context_machine R.answers context.now) wait list.old.value.items (step (dt_in context.now) value.now)
         (left_with result list.new.value.items (meter_fault meter.new)) meter.old meter.new inside }
 {
     match Rc::get_mut(list) {
@@ -786,19 +734,13 @@ fn step_list_copy<R: Holds>(
     value: &Value,
     meter: &mut Meter,
 ) -> Result<Vec<Value>, Stop>
-    ensures { EachSteps (R.answers context.now.functions.now) (plan_in context.now) wait list.old.value.items (step (dt_in context.now) value.now)
+    ensures { EachSteps (context_machine R.answers context.now) wait list.old.value.items (step (dt_in context.now) value.now)
         (left_with result list.new.value.items (meter_fault meter.new)) meter.old meter.new inside }
 {
-    let Ok(shared) = list.clone() else {
-        return Err(meter.stop(Fault::Memory));
-    };
-    let Ok(mut own) = own_states(context.alloc, shared) else {
-        return Err(meter.stop(Fault::Memory));
-    };
+    let shared = granted!(meter, list.clone());
+    let mut own = granted!(meter, own_states(context.alloc, shared));
     let values = step_each(context, wait, &mut own, inside, value, meter)?;
-    let Ok(copy) = Rc::new(context.alloc, own) else {
-        return Err(meter.stop(Fault::Memory));
-    };
+    let copy = granted!(meter, Rc::new(context.alloc, own));
     *list = copy;
     Ok(values)
 }
@@ -814,16 +756,12 @@ fn step_each<R: Holds>(
     value: &Value,
     meter: &mut Meter,
 ) -> Result<Vec<Value>, Stop>
-    ensures { EachSteps (R.answers context.now.functions.now) (plan_in context.now) wait states.old.items (step (dt_in context.now) value.now)
+    ensures { EachSteps (context_machine R.answers context.now) wait states.old.items (step (dt_in context.now) value.now)
         (left_with result states.new.items (meter_fault meter.new)) meter.old meter.new inside }
 {
-    let Ok(mut outputs) = Vec::with_capacity(context.alloc, states.len()) else {
-        return Err(meter.stop(Fault::Memory));
-    };
+    let mut outputs = granted!(meter, Vec::with_capacity(context.alloc, states.len()));
     for state in states.iter_mut() {
-        let Ok(mut output) = value.clone_in(context.alloc) else {
-            return Err(meter.stop(Fault::Memory));
-        };
+        let mut output = granted!(meter, value.clone_in(context.alloc));
         step_member(context, wait, state, inside, &mut output, meter)?;
         outputs.push_reserved(output);
     }
@@ -841,7 +779,7 @@ fn step_member<R: Holds>(
     value: &mut Value,
     meter: &mut Meter,
 ) -> Result<(), Stop>
-    ensures { MemberSteps (R.answers context.now.functions.now) (plan_in context.now) wait state.old (step (dt_in context.now) value.old)
+    ensures { MemberSteps (context_machine R.answers context.now) wait state.old (step (dt_in context.now) value.old)
         (left_or result (state.new, value.new) (meter_fault meter.new)) meter.old meter.new inside }
 {
     match wait {
@@ -861,7 +799,7 @@ fn step_waiting<R: Holds>(
     value: &mut Value,
     meter: &mut Meter,
 ) -> Result<(), Stop>
-    ensures { MemberSteps (R.answers context.now.functions.now) (plan_in context.now) (Some wait) state.old (step (dt_in context.now) value.old)
+    ensures { MemberSteps (context_machine R.answers context.now) (Some wait) state.old (step (dt_in context.now) value.old)
         (left_or result (state.new, value.new) (meter_fault meter.new)) meter.old meter.new inside }
 {
     if has_lived(state) {
@@ -894,6 +832,7 @@ fn room_for(count: usize) -> usize
 }
 
 // Whether a state has lived a step, and not been frozen since.
+#[inline(always)]
 fn has_lived(state: &State) -> bool
     ensures { result ≡ is_awake state.now }
 {
@@ -913,7 +852,7 @@ fn step_gathered<R: Holds>(
     value: &mut Value,
     meter: &mut Meter,
 ) -> Result<(), Stop>
-    ensures { LiveSteps (R.answers context.now.functions.now) (plan_in context.now) (Live.Gathered members.old) (step (dt_in context.now) value.old)
+    ensures { LiveSteps (context_machine R.answers context.now) (Live.Gathered members.old) (step (dt_in context.now) value.old)
         (left_or result (Live.Gathered members.new, value.new) (meter_fault meter.new)) meter.old meter.new inside }
 {
     step_members(context, members, inside, value, meter)
@@ -931,7 +870,7 @@ fn step_switch<R: Holds>(
     value: &mut Value,
     meter: &mut Meter,
 ) -> Result<Option<State>, Stop>
-    ensures { SwitchSteps (R.answers context.now.functions.now) (plan_in context.now) names.now switch.old (step (dt_in context.now) value.old)
+    ensures { SwitchSteps (context_machine R.answers context.now) names.now switch.old (step (dt_in context.now) value.old)
         (left_beside result switch.new value.new (meter_fault meter.new)) meter.old meter.new inside }
 {
     match switch.form {
@@ -955,23 +894,20 @@ fn step_basic<R: Holds>(
     meter: &mut Meter,
 ) -> Result<Option<State>, Stop>
     requires form { switch.old.form ≡ Switching.Basic (observation_of switch.old.form) }
-    ensures { SwitchSteps (R.answers context.now.functions.now) (plan_in context.now) names.now switch.old (step (dt_in context.now) value.old)
+    ensures { SwitchSteps (context_machine R.answers context.now) names.now switch.old (step (dt_in context.now) value.old)
         (left_beside result switch.new value.new (meter_fault meter.new)) meter.old meter.new inside }
 {
-    let Ok(output) = value.clone_in(context.alloc) else {
-        return Err(meter.stop(Fault::Memory));
-    };
+    let output = granted!(meter, value.clone_in(context.alloc));
     step_state(context, &mut switch.running, inside, value, meter)?;
-    let Ok((old, occurring)) = value_and_payload(context.alloc, value) else {
-        return Err(meter.stop(Fault::Memory));
-    };
+    let (old, occurring) = granted!(meter, value_and_payload(context.alloc, value));
     *value = old;
     match occurring {
         None => Ok(None),
         Some(payload) => {
-            let Ok(body) = switch.begin(context.alloc, context.plan, names, payload) else {
-                return Err(meter.stop(Fault::Memory));
-            };
+            let body = granted!(
+                meter,
+                switch.begin(context.alloc, context.plan, names, payload)
+            );
             let (body, output) = step_begun(context, body, inside, output, meter)?;
             show(shown_by(&switch.form), value, output);
             Ok(Some(body))
@@ -992,24 +928,21 @@ fn step_recurring<R: Holds>(
     meter: &mut Meter,
 ) -> Result<(), Stop>
     requires form { switch.old.form ≡ Switching.Recurring (observation_of switch.old.form) }
-    ensures { SwitchSteps (R.answers context.now.functions.now) (plan_in context.now) names.now switch.old (step (dt_in context.now) value.old)
+    ensures { SwitchSteps (context_machine R.answers context.now) names.now switch.old (step (dt_in context.now) value.old)
         (left_or result ((None, switch.new), value.new) (meter_fault meter.new)) meter.old meter.new inside }
 {
-    let Ok((input, occurring)) = value_and_payload(context.alloc, value) else {
-        return Err(meter.stop(Fault::Memory));
-    };
+    let (input, occurring) = granted!(meter, value_and_payload(context.alloc, value));
     *value = input;
     match occurring {
         None => step_state(context, &mut switch.running, inside, value, meter),
         Some(payload) => {
-            let Ok(begun) = value.clone_in(context.alloc) else {
-                return Err(meter.stop(Fault::Memory));
-            };
+            let begun = granted!(meter, value.clone_in(context.alloc));
             let ran = &mut switch.running;
             step_state(context, ran, inside, value, meter)?;
-            let Ok(body) = switch.begin(context.alloc, context.plan, names, payload) else {
-                return Err(meter.stop(Fault::Memory));
-            };
+            let body = granted!(
+                meter,
+                switch.begin(context.alloc, context.plan, names, payload)
+            );
             let (body, output) = step_begun(context, body, inside, begun, meter)?;
             take_over(&mut switch.running, Some(body));
             show(shown_by(&switch.form), value, output);
@@ -1030,32 +963,29 @@ fn step_continuing<R: Holds>(
     value: &mut Value,
     meter: &mut Meter,
 ) -> Result<Option<State>, Stop>
-    ensures { ContinuationSteps (R.answers context.now.functions.now) (plan_in context.now) names.now continuing.old (step (dt_in context.now) value.old)
+    ensures { ContinuationSteps (context_machine R.answers context.now) names.now continuing.old (step (dt_in context.now) value.old)
         (left_beside result continuing.new value.new (meter_fault meter.new)) meter.old meter.new inside }
 {
-    let Ok(()) = hold_back(
-        context.alloc,
-        &mut continuing.source,
-        &mut continuing.before,
-    ) else {
-        return Err(meter.stop(Fault::Memory));
-    };
-    let Ok((input, output)) = copies(context.alloc, &*value) else {
-        return Err(meter.stop(Fault::Memory));
-    };
+    granted!(
+        meter,
+        hold_back(
+            context.alloc,
+            &mut continuing.source,
+            &mut continuing.before,
+        )
+    );
+    let (input, output) = granted!(meter, copies(context.alloc, &*value));
     step_state(context, &mut continuing.source, inside, value, meter)?;
-    let Ok(mut seen) = beside(context.alloc, input, &*value) else {
-        return Err(meter.stop(Fault::Memory));
-    };
+    let mut seen = granted!(meter, beside(context.alloc, input, &*value));
     step_state(context, &mut continuing.observer, inside, &mut seen, meter)?;
     match payload_of(seen) {
         None => Ok(None),
         Some(payload) => {
             let plan = context.plan;
-            let Ok(successor) = continuing.begin(context.alloc, plan, names, context.dt, payload)
-            else {
-                return Err(meter.stop(Fault::Memory));
-            };
+            let successor = granted!(
+                meter,
+                continuing.begin(context.alloc, plan, names, context.dt, payload)
+            );
             let (successor, output) = step_begun(context, successor, inside, output, meter)?;
             show(continuing.shown, value, output);
             Ok(Some(successor))
@@ -1073,7 +1003,7 @@ fn step_begun<R: Holds>(
     input: Value,
     meter: &mut Meter,
 ) -> Result<(State, Value), Stop>
-    ensures { StateSteps (R.answers context.now.functions.now) (plan_in context.now) body (step (dt_in context.now) input)
+    ensures { StateSteps (context_machine R.answers context.now) body (step (dt_in context.now) input)
         (kept result (meter_fault meter.new)) meter.old meter.new inside }
 {
     let mut body = body;
@@ -1099,7 +1029,7 @@ fn step_node<R: Holds>(
     value: &mut Value,
     meter: &mut Meter,
 ) -> Result<(), Stop>
-    ensures { LiveSteps (R.answers context.now.functions.now) (plan_in context.now) node.old.value (step (dt_in context.now) value.old)
+    ensures { LiveSteps (context_machine R.answers context.now) node.old.value (step (dt_in context.now) value.old)
         (left_or result (node.new.value, value.new) (meter_fault meter.new)) meter.old meter.new inside }
 {
     match Rc::get_mut(node) {
@@ -1119,16 +1049,12 @@ fn step_node_copy<R: Holds>(
     value: &mut Value,
     meter: &mut Meter,
 ) -> Result<(), Stop>
-    ensures { LiveSteps (R.answers context.now.functions.now) (plan_in context.now) node.old.value (step (dt_in context.now) value.old)
+    ensures { LiveSteps (context_machine R.answers context.now) node.old.value (step (dt_in context.now) value.old)
         (left_or result (node.new.value, value.new) (meter_fault meter.new)) meter.old meter.new inside }
 {
-    let Ok(mut own) = node.clone_in(context.alloc) else {
-        return Err(meter.stop(Fault::Memory));
-    };
+    let mut own = granted!(meter, node.clone_in(context.alloc));
     step_live(context, &mut own, inside, value, meter)?;
-    let Ok(copy) = Rc::new(context.alloc, own) else {
-        return Err(meter.stop(Fault::Memory));
-    };
+    let copy = granted!(meter, Rc::new(context.alloc, own));
     *node = copy;
     Ok(())
 }
@@ -1143,7 +1069,7 @@ fn step_live<R: Holds>(
     value: &mut Value,
     meter: &mut Meter,
 ) -> Result<(), Stop>
-    ensures { LiveSteps (R.answers context.now.functions.now) (plan_in context.now) live.old (step (dt_in context.now) value.old)
+    ensures { LiveSteps (context_machine R.answers context.now) live.old (step (dt_in context.now) value.old)
         (left_or result (live.new, value.new) (meter_fault meter.new)) meter.old meter.new inside }
 {
     match live {
@@ -1179,7 +1105,7 @@ fn step_sequence<R: Holds>(
     value: &mut Value,
     meter: &mut Meter,
 ) -> Result<(), Stop>
-    ensures { LiveSteps (R.answers context.now.functions.now) (plan_in context.now) (Live.Join Join.InSequence left.old right.old) (step (dt_in context.now) value.old)
+    ensures { LiveSteps (context_machine R.answers context.now) (Live.Join Join.InSequence left.old right.old) (step (dt_in context.now) value.old)
         (left_or result (Live.Join Join.InSequence left.new right.new, value.new) (meter_fault meter.new)) meter.old meter.new inside }
 {
     step_state(context, left, inside, value, meter)?;
@@ -1197,16 +1123,12 @@ fn step_parallel<R: Holds>(
     value: &mut Value,
     meter: &mut Meter,
 ) -> Result<(), Stop>
-    ensures { LiveSteps (R.answers context.now.functions.now) (plan_in context.now) (Live.Join Join.InParallel left.old right.old) (step (dt_in context.now) value.old)
+    ensures { LiveSteps (context_machine R.answers context.now) (Live.Join Join.InParallel left.old right.old) (step (dt_in context.now) value.old)
         (left_or result (Live.Join Join.InParallel left.new right.new, value.new) (meter_fault meter.new)) meter.old meter.new inside }
 {
     let input = mem::replace(value, Value::int(0));
-    let Ok(mut node) = input.into_pair(context.alloc) else {
-        return Err(meter.stop(Fault::Memory));
-    };
-    let Ok(halves) = Rc::make_mut(&mut node) else {
-        return Err(meter.stop(Fault::Memory));
-    };
+    let mut node = granted!(meter, input.into_pair(context.alloc));
+    let halves = granted!(meter, Rc::make_mut(&mut node));
     step_state(context, left, inside, &mut halves.first, meter)?;
     step_state(context, right, inside, &mut halves.second, meter)?;
     *value = Value::of_pair(node);
@@ -1224,18 +1146,14 @@ fn step_fan<R: Holds>(
     value: &mut Value,
     meter: &mut Meter,
 ) -> Result<(), Stop>
-    ensures { LiveSteps (R.answers context.now.functions.now) (plan_in context.now) (Live.Join Join.FannedOut left.old right.old) (step (dt_in context.now) value.old)
+    ensures { LiveSteps (context_machine R.answers context.now) (Live.Join Join.FannedOut left.old right.old) (step (dt_in context.now) value.old)
         (left_or result (Live.Join Join.FannedOut left.new right.new, value.new) (meter_fault meter.new)) meter.old meter.new inside }
 {
-    let Ok(mut first) = value.clone_in(context.alloc) else {
-        return Err(meter.stop(Fault::Memory));
-    };
+    let mut first = granted!(meter, value.clone_in(context.alloc));
     step_state(context, left, inside, &mut first, meter)?;
     step_state(context, right, inside, value, meter)?;
     let second = mem::replace(value, Value::int(0));
-    let Ok(both) = Value::pair(context.alloc, first, second) else {
-        return Err(meter.stop(Fault::Memory));
-    };
+    let both = granted!(meter, Value::pair(context.alloc, first, second));
     *value = both;
     Ok(())
 }
@@ -1250,7 +1168,7 @@ fn step_pipeline<R: Holds>(
     value: &mut Value,
     meter: &mut Meter,
 ) -> Result<(), Stop>
-    ensures { LiveSteps (R.answers context.now.functions.now) (plan_in context.now) (Live.Pipeline stages.old) (step (dt_in context.now) value.old)
+    ensures { LiveSteps (context_machine R.answers context.now) (Live.Pipeline stages.old) (step (dt_in context.now) value.old)
         (left_or result (Live.Pipeline stages.new, value.new) (meter_fault meter.new)) meter.old meter.new inside }
 {
     for stage in stages.iter_mut() {
@@ -1269,16 +1187,12 @@ fn step_first<R: Holds>(
     value: &mut Value,
     meter: &mut Meter,
 ) -> Result<(), Stop>
-    ensures { LiveSteps (R.answers context.now.functions.now) (plan_in context.now) (Live.Wrap Wrap.First part.old) (step (dt_in context.now) value.old)
+    ensures { LiveSteps (context_machine R.answers context.now) (Live.Wrap Wrap.First part.old) (step (dt_in context.now) value.old)
         (left_or result (Live.Wrap Wrap.First part.new, value.new) (meter_fault meter.new)) meter.old meter.new inside }
 {
     let input = mem::replace(value, Value::int(0));
-    let Ok(mut node) = input.into_pair(context.alloc) else {
-        return Err(meter.stop(Fault::Memory));
-    };
-    let Ok(halves) = Rc::make_mut(&mut node) else {
-        return Err(meter.stop(Fault::Memory));
-    };
+    let mut node = granted!(meter, input.into_pair(context.alloc));
+    let halves = granted!(meter, Rc::make_mut(&mut node));
     step_state(context, part, inside, &mut halves.first, meter)?;
     *value = Value::of_pair(node);
     Ok(())
@@ -1294,16 +1208,12 @@ fn step_second<R: Holds>(
     value: &mut Value,
     meter: &mut Meter,
 ) -> Result<(), Stop>
-    ensures { LiveSteps (R.answers context.now.functions.now) (plan_in context.now) (Live.Wrap Wrap.Second part.old) (step (dt_in context.now) value.old)
+    ensures { LiveSteps (context_machine R.answers context.now) (Live.Wrap Wrap.Second part.old) (step (dt_in context.now) value.old)
         (left_or result (Live.Wrap Wrap.Second part.new, value.new) (meter_fault meter.new)) meter.old meter.new inside }
 {
     let input = mem::replace(value, Value::int(0));
-    let Ok(mut node) = input.into_pair(context.alloc) else {
-        return Err(meter.stop(Fault::Memory));
-    };
-    let Ok(halves) = Rc::make_mut(&mut node) else {
-        return Err(meter.stop(Fault::Memory));
-    };
+    let mut node = granted!(meter, input.into_pair(context.alloc));
+    let halves = granted!(meter, Rc::make_mut(&mut node));
     step_state(context, part, inside, &mut halves.second, meter)?;
     *value = Value::of_pair(node);
     Ok(())
@@ -1320,17 +1230,13 @@ fn step_loop<R: Holds>(
     value: &mut Value,
     meter: &mut Meter,
 ) -> Result<(), Stop>
-    ensures { LiveSteps (R.answers context.now.functions.now) (plan_in context.now) (Live.Wrap (Wrap.Loop feedback.old) part.old) (step (dt_in context.now) value.old)
+    ensures { LiveSteps (context_machine R.answers context.now) (Live.Wrap (Wrap.Loop feedback.old) part.old) (step (dt_in context.now) value.old)
         (left_or result (Live.Wrap (Wrap.Loop feedback.new) part.new, value.new) (meter_fault meter.new)) meter.old meter.new inside }
 {
-    let Ok(mut both) = feedback.beside(context.alloc, value) else {
-        return Err(meter.stop(Fault::Memory));
-    };
+    let mut both = granted!(meter, feedback.beside(context.alloc, value));
     step_state(context, part, inside, &mut both, meter)?;
-    match feedback.keep(context.alloc, both, value) {
-        Ok(()) => Ok(()),
-        Err(_) => Err(meter.stop(Fault::Memory)),
-    }
+    granted!(meter, feedback.keep(context.alloc, both, value));
+    Ok(())
 }
 
 // The next sample of a part with a value at its head, likewise.
@@ -1344,7 +1250,7 @@ fn step_initialized<R: Holds>(
     value: &mut Value,
     meter: &mut Meter,
 ) -> Result<(), Stop>
-    ensures { LiveSteps (R.answers context.now.functions.now) (plan_in context.now) (Live.Wrap (Wrap.Initialized first.old) part.old) (step (dt_in context.now) value.old)
+    ensures { LiveSteps (context_machine R.answers context.now) (Live.Wrap (Wrap.Initialized first.old) part.old) (step (dt_in context.now) value.old)
         (left_or result (Live.Wrap (Wrap.Initialized first.new) part.new, value.new) (meter_fault meter.new)) meter.old meter.new inside }
 {
     step_state(context, part, inside, value, meter)?;
@@ -1363,7 +1269,7 @@ fn step_replaced<R: Holds>(
     value: &mut Value,
     meter: &mut Meter,
 ) -> Result<(), Stop>
-    ensures { LiveSteps (R.answers context.now.functions.now) (plan_in context.now) (Live.Wrap (Wrap.Replaced initial.old) part.old) (step (dt_in context.now) value.old)
+    ensures { LiveSteps (context_machine R.answers context.now) (Live.Wrap (Wrap.Replaced initial.old) part.old) (step (dt_in context.now) value.old)
         (left_or result (Live.Wrap (Wrap.Replaced initial.new) part.new, value.new) (meter_fault meter.new)) meter.old meter.new inside }
 {
     put_first(initial, value);
@@ -1381,7 +1287,7 @@ fn step_followed<R: Holds>(
     value: &mut Value,
     meter: &mut Meter,
 ) -> Result<(), Stop>
-    ensures { LiveSteps (R.answers context.now.functions.now) (plan_in context.now) (Live.Wrap (Wrap.Followed last.old) part.old) (step (dt_in context.now) value.old)
+    ensures { LiveSteps (context_machine R.answers context.now) (Live.Wrap (Wrap.Followed last.old) part.old) (step (dt_in context.now) value.old)
         (left_or result (Live.Wrap (Wrap.Followed last.new) part.new, value.new) (meter_fault meter.new)) meter.old meter.new inside }
 {
     step_state(context, part, inside, value, meter)?;

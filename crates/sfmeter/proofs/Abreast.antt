@@ -12,6 +12,7 @@ use Rattle.sf_mean.proofs.Once.{once}
 use Rattle.sf_optimise.specs.Optimised.{IsOptimisedPlan}
 use Rattle.sf_state.specs.declared.state.State.{State}
 use Rattle.sf_state.specs.Standing.{Stands}
+use Rattle.sf_state.specs.Machine.{Machine, machine}
 use Rattle.sf_meter.specs.declared.meter.Meter.{Meter}
 use Rattle.sf_meter.specs.Meters.{entered_of}
 use Rattle.sf_step.specs.Stepping.{Steps, stepped}
@@ -27,7 +28,7 @@ rewritten_means c p q P Q φ =
 -- a sample that both plans give enters no more nodes in the rewritten one
 pub enters_no_more : {φ : AnswersByName} {p q : Plan} {L : Life} {x y : _} {s t : State} {m k : Meter}
     → MeansTheSame (network_of_plan φ p) (main_of_plan p) (network_of_plan φ q) (main_of_plan q)
-    → Steps φ p (main_of_plan p) L (Ok x) s m → Steps φ q (main_of_plan q) L (Ok y) t k → entered_of k ≤ entered_of m
+    → Steps (machine φ p) (main_of_plan p) L (Ok x) s m → Steps (machine φ q) (main_of_plan q) L (Ok y) t k → entered_of k ≤ entered_of m
 enters_no_more {φ = φ} {q = q} {L = L} M (stepped {k = c} G entered high stands) (stepped {k = d} H entered' high' stands') =
     let less = M.gives L _ c G in
     let same = once (network_of_plan φ q) H less.1 in
@@ -35,5 +36,5 @@ enters_no_more {φ = φ} {q = q} {L = L} M (stepped {k = c} G entered high stand
     omega (arith, entered, entered', less.2, cost)
 
 -- the state that a sample leaves
-pub stands_after : {φ : AnswersByName} {p : Plan} {L : Life} {x : _} {s : State} {m : Meter} → Steps φ p (main_of_plan p) L (Ok x) s m → Stands φ p s (main_of_plan p) L
+pub stands_after : {μ : Machine} {L : Life} {x : _} {s : State} {m : Meter} → Steps μ (main_of_plan μ.plan) L (Ok x) s m → Stands μ s (main_of_plan μ.plan) L
 stands_after (stepped G entered high stands) = stands

@@ -1,5 +1,6 @@
 //! What engines keep under names.
 ghost use Rattle.std.specs.Prelude.{◌≡◌, ◌≢◌, ◌≤◌, ◌↔◌, None, IfOk, OnOk, OnErr, IsTrue};
+ghost use Rattle.sf_state.specs.Machine.{Machine};
 
 use super::{Engine, EngineError};
 use sf_func::Holds;
@@ -22,15 +23,13 @@ pub(super) struct Save {
 }
 
 impl Save {
-    ghost use Rattle.sf_func.specs.Registries.{AnswersByName};
-    ghost use Rattle.sf_law.specs.declared.plan.Plan.{Plan};
     ghost use Rattle.sf_term.specs.Trees.{Template};
     ghost use Rattle.sf_mean.specs.Lives.{Life};
     ghost use Rattle.sf_engine.specs.Running.{IsSaveOf};
 
     /// The same, over the same nodes of the state. The error is a want of memory, or too many owners of one node.
     fn share(&self, alloc: Global) -> Result<Save, AllocError>
-        ensures { IfOk result (λ same. (φ : AnswersByName) (p : Plan) (m : Template) (L : Life) → IsSaveOf φ p m self.now L → IsSaveOf φ p m same L) }
+        ensures { IfOk result (λ same. (μ : Machine) (m : Template) (L : Life) → IsSaveOf μ m self.now L → IsSaveOf μ m same L) }
     {
         Ok(Save {
             last: self.last.clone_in(alloc)?,

@@ -4,6 +4,7 @@ use Rattle.sf_expr.specs.Patterns.{pattern_of}
 use Rattle.sf_law.specs.Arena.{plan_expressions}
 use Rattle.sf_mean.specs.Lives.{bind, known, collected}
 use Rattle.sf_state.specs.Standing.{IsNames, IsHanded}
+use Rattle.sf_state.specs.Machine.{machine}
 use Rattle.sf_begin.proofs.Arguments.{value_inside, process_inside, members_inside}
 use Rattle.sf_begin.proofs.References.{when_ok}
 use Rattle.sf_begin.proofs.calling.bind.Goals as goal
@@ -14,17 +15,17 @@ returns-in_ok-shared-in-Value g c = when_ok c.inside.result (λ inner h φ d e M
     let x = plan_expressions p in
     let w = c.in_ok-shared-in-Value.shared.value in
     let name = name_at x c.args.parameter.now.name in
-    value_inside φ p name c.args.bound.now inner c.in-Value.value (λ d M.
-    subst (λ b. IsNames φ p inner b) (ap (λ i. bind (pattern_of (stored_pattern x i)) w d) c.pattern.ensures ∙ ap (λ r. bind r w d) c.requires ∙ ap (λ v. known name v d) c.in_ok-shared-in-Value.ensures.ok) (h φ p c.expressions-expressions.ensures d M)) d e M (rw c.in-Value.is at G)) c.inside.ensures
+    value_inside (machine φ p) name c.args.bound.now inner c.in-Value.value (λ d M.
+    subst (λ b. IsNames (machine φ p) inner b) (ap (λ i. bind (pattern_of (stored_pattern x i)) w d) c.pattern.ensures ∙ ap (λ r. bind r w d) c.requires ∙ ap (λ v. known name v d) c.in_ok-shared-in-Value.ensures.ok) (h (machine φ p) c.expressions-expressions.ensures d M)) d e M (rw c.in-Value.is at G)) c.inside.ensures
 
 pub returns-in-Process : goal.returns-in-Process
 returns-in-Process g c = when_ok c.with_process.result (λ inner h φ d e M G.
     let p = c.args.context.now.plan.now in
-    process_inside φ p (name_at (plan_expressions p) c.args.parameter.now.name) c.args.bound.now inner c.in-Process.handed
-    (λ d P M H. rw c.name.ensures at (h φ p d P M (subst (λ k. IsHanded φ p (name_at (plan_expressions p) k) c.in-Process.handed P) (sym c.name.ensures) H))) d e M (rw c.in-Process.is at G)) c.with_process.ensures
+    process_inside (machine φ p) (name_at (plan_expressions p) c.args.parameter.now.name) c.args.bound.now inner c.in-Process.handed
+    (λ d P M H. rw c.name.ensures at (h (machine φ p) d P M (subst (λ k. IsHanded (machine φ p) (name_at (plan_expressions p) k) c.in-Process.handed P) (sym c.name.ensures) H))) d e M (rw c.in-Process.is at G)) c.with_process.ensures
 
 pub returns-in-Members : goal.returns-in-Members
 returns-in-Members g c = when_ok c.with_members.result (λ inner h φ d e M G.
     let p = c.args.context.now.plan.now in
-    members_inside φ p (name_at (plan_expressions p) c.args.parameter.now.name) c.args.bound.now inner c.in-Members.members
-    (λ d ms M H. subst (λ k. IsNames φ p inner (collected (name_at (plan_expressions p) k) ms d)) c.name-in-Members.ensures (h φ p d ms M H)) d e M (rw c.in-Members.is at G)) c.with_members.ensures
+    members_inside (machine φ p) (name_at (plan_expressions p) c.args.parameter.now.name) c.args.bound.now inner c.in-Members.members
+    (λ d ms M H. subst (λ k. IsNames (machine φ p) inner (collected (name_at (plan_expressions p) k) ms d)) c.name-in-Members.ensures (h (machine φ p) d ms M H)) d e M (rw c.in-Members.is at G)) c.with_members.ensures

@@ -3,6 +3,7 @@ use Rattle.std.proofs.lemmas.List.Elements.{All-head, All-tail}
 use Rattle.sf_value.specs.declared.fault.Fault.TheVariants.{Memory}
 use Rattle.sf_law.specs.Entries.{IsCodedArgument}
 use Rattle.sf_law.specs.Arena.{plan_asks}
+use Rattle.sf_begin.specs.Contexts.{context_machine}
 use Rattle.sf_begin.specs.Beginning.{makes_nothing}
 use Rattle.sf_begin.proofs.Arguments.{first_asked, none_given, next_given, next_not_given, all_given, made_failure}
 use Rattle.sf_begin.proofs.calling.side_by_side.Goals as goal
@@ -16,7 +17,7 @@ loop-parameter-init g c =
     record {
       coded = rw arguments c.requires.coded;
       asked = rw (parameters, arguments) c.requires.asked;
-      gives = λ e N. none_given (g.R.Holds.answers c.args.context.now.functions.now) c.args.context.now.plan.now c.args.parameters.now c.args.arguments.now e _ _ _ parameters arguments c.requires.long c.in_ok-given.ensures.items;
+      gives = λ e N. none_given (context_machine g.R.Holds.answers c.args.context.now) c.args.parameters.now c.args.arguments.now e _ _ _ parameters arguments c.requires.long c.in_ok-given.ensures.items;
     }
 
 pub given_by-requires : goal.given_by-requires
@@ -31,13 +32,12 @@ given_by-requires g c =
 
 pub loop-parameter-preserved : goal.loop-parameter-preserved
 loop-parameter-preserved g c =
-    let φ = g.R.Holds.answers c.args.context.now.functions.now in
-    let p = c.args.context.now.plan.now in
+    let μ = context_machine g.R.Holds.answers c.args.context.now in
     let steps = c.in-Some.ensures.steps in
     record {
-      coded = All-tail (IsCodedArgument p.expressions) c.in-Some.argument.now c.next.new.self.b.rest.now (rw steps.1 at c.loop-parameter.invariant.coded);
-      asked = (first_asked p.expressions (plan_asks p) c.in-Some.parameter.now _ _ c.in-Some.argument.now _ _ steps.0 steps.1 c.loop-parameter.invariant.asked).1;
-      gives = λ e N. next_given φ p c.args.parameters.now c.args.arguments.now e _ _ _ _ c.loop-parameter.given.items
+      coded = All-tail (IsCodedArgument μ.plan.expressions) c.in-Some.argument.now c.next.new.self.b.rest.now (rw steps.1 at c.loop-parameter.invariant.coded);
+      asked = (first_asked μ.plan.expressions (plan_asks μ.plan) c.in-Some.parameter.now _ _ c.in-Some.argument.now _ _ steps.0 steps.1 c.loop-parameter.invariant.asked).1;
+      gives = λ e N. next_given μ c.args.parameters.now c.args.arguments.now e _ _ _ _ c.loop-parameter.given.items
           c.in-Some.parameter.now c.in-Some.argument.now steps.0 steps.1 (c.loop-parameter.invariant.gives e N) c.args.names.now c.in_ok-given_by.field-0 _ N c.in_ok-given_by.ensures c.in_ok-push.ensures.items;
     }
 
@@ -46,11 +46,10 @@ returns-in_err-given g c = λ e N. made_failure _ _ _ Memory c.from_residual.ens
 
 pub returns-in_err-given_by : goal.returns-in_err-given_by
 returns-in_err-given_by g c = λ e N.
-    let φ = g.R.Holds.answers c.args.context.now.functions.now in
-    let p = c.args.context.now.plan.now in
+    let μ = context_machine g.R.Holds.answers c.args.context.now in
     let steps = c.in-Some.ensures.steps in
     made_failure _ _ _ c.in_err-given_by.field-0.0 c.from_residual-in_err-given_by.ensures.1
-    (next_not_given φ p c.args.parameters.now c.args.arguments.now e _ _ _ _ c.loop-parameter.given.items c.in-Some.parameter.now c.in-Some.argument.now steps.0 steps.1 (c.loop-parameter.invariant.gives e N) c.args.names.now c.in_err-given_by.field-0.0 N c.in_err-given_by.ensures)
+    (next_not_given μ c.args.parameters.now c.args.arguments.now e _ _ _ _ c.loop-parameter.given.items c.in-Some.parameter.now c.in-Some.argument.now steps.0 steps.1 (c.loop-parameter.invariant.gives e N) c.args.names.now c.in_err-given_by.field-0.0 N c.in_err-given_by.ensures)
 
 pub returns-in_err-push : goal.returns-in_err-push
 returns-in_err-push g c = λ e N. made_failure _ _ _ Memory c.from_residual-in_err-push.ensures.1 makes_nothing
@@ -60,8 +59,7 @@ returns-in_err-of_call g c = λ e N. made_failure _ _ _ Memory c.from_residual-i
 
 pub returns : goal.returns
 returns g c = λ e N.
-    let φ = g.R.Holds.answers c.args.context.now.functions.now in
-    let p = c.args.context.now.plan.now in
-    all_given φ p c.args.parameters.now c.args.arguments.now e _ _ c.loop-parameter.given.items c.in_ok-of_call.field-0 (c.loop-parameter.invariant.gives e N)
+    let μ = context_machine g.R.Holds.answers c.args.context.now in
+    all_given μ c.args.parameters.now c.args.arguments.now e _ _ c.loop-parameter.given.items c.in_ok-of_call.field-0 (c.loop-parameter.invariant.gives e N)
     (elim (c.in-None.ensures.steps) [ inl w ↦ inl w.1.0 | inr w ↦ inr w.1.0 ])
-    (λ b G. c.in_ok-of_call.ensures φ p b (rw c.requires.same at G))
+    (λ b G. c.in_ok-of_call.ensures μ b (rw c.requires.same at G))

@@ -4,7 +4,7 @@ use Rattle.sf_law.specs.Arena.{plan_expressions, plan_asks}
 use Rattle.sf_law.specs.Entries.{IsCodedArgument}
 use Rattle.sf_law.specs.Asking.{arguments_asked}
 use Rattle.sf_state.specs.Standing.{IsNames}
-use Rattle.sf_begin.specs.Contexts.{plan_in}
+use Rattle.sf_begin.specs.Contexts.{context_machine, plan_in}
 use Rattle.sf_begin.proofs.Arguments.{Gives}
 use Rattle.sf_begin.proofs.calling.side_by_side.Given as goal
 
@@ -12,6 +12,6 @@ abbrev pub invariant-loop-parameter : goal.invariant-loop-parameter
 invariant-loop-parameter g l = record {
   coded : All (IsCodedArgument (plan_expressions (plan_in l.context))) l.parameter-iterator.b.rest.now;
   asked : IsTrue (arguments_asked (plan_expressions (plan_in l.context)) (plan_asks (plan_in l.context)) l.parameter-iterator.a.rest.now l.parameter-iterator.b.rest.now);
-  gives : (e : Environment) → IsNames (g.R.Holds.answers l.context.functions.now) (plan_in l.context) l.names e →
-      Gives (g.R.Holds.answers l.context.functions.now) (plan_in l.context) l.parameters l.arguments e l.parameter-iterator.a.rest.now l.parameter-iterator.b.rest.now l.given.items;
+  gives : (e : Environment) → IsNames (context_machine g.R.Holds.answers l.context) l.names e →
+      Gives (context_machine g.R.Holds.answers l.context) l.parameters l.arguments e l.parameter-iterator.a.rest.now l.parameter-iterator.b.rest.now l.given.items;
 }

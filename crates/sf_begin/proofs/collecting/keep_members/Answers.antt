@@ -9,6 +9,7 @@ use Rattle.sf_mean.specs.Formulas.{is_high}
 use Rattle.sf_state.specs.declared.state.State.{State}
 use Rattle.sf_state.specs.declared.state.Gathered.{Gathered}
 use Rattle.sf_law.specs.Arena.{plan_expressions}
+use Rattle.sf_begin.specs.Contexts.{context_machine}
 use Rattle.sf_code.specs.Worth.{frame_around}
 use Rattle.sf_state.proofs.Scopes.{functions_around, scope_is}
 use Rattle.sf_begin.proofs.Sought.{left_out, placeless_before, put_behind}
@@ -32,9 +33,8 @@ loop-key-init g c =
     record {
       different = subst (λ ks. AreDifferentKeys (ks ++ map key_of c.into_iter-key-iterator.result.a.rest.now)) (sym c.new-under.ensures) (subst AreDifferentKeys (sym (ap (map key_of) keys ∙ c.all.ensures.keys)) c.all.ensures.different);
       sifted = λ f e ms C N G.
-          let φ = g.R.Holds.answers c.args.context.now.functions.now in
-          let p = c.args.context.now.plan.now in
-          start_sifted φ p c.args.members (λ x. apply f x (scope_around φ e)) ms _ _ _ _ under c.in_ok-own.own.items states (c.in_ok-own.ensures φ p) c.new-under.ensures c.new-kept.ensures.items G;
+          let μ = context_machine g.R.Holds.answers c.args.context.now in
+          start_sifted μ c.args.members (λ x. apply f x (scope_around μ.answers e)) ms _ _ _ _ under c.in_ok-own.own.items states (c.in_ok-own.ensures μ) c.new-under.ensures c.new-kept.ensures.items G;
     }
 
 pub loop-key-preserved-in-Continue-branch-6 : goal.loop-key-preserved-in-Continue-branch-6
@@ -47,10 +47,9 @@ loop-key-preserved-in-Continue-branch-6 g c =
     record {
       different = different_kept c.loop-key.under _ (key_of c.in-Some.key.now) _ _ _ (ap (map key_of) steps.0) c.in_ok-same.ensures put c.loop-key.invariant.different;
       sifted = λ f e ms C N G.
-          let φ = g.R.Holds.answers c.args.context.now.functions.now in
-          let p = c.args.context.now.plan.now in
-          let told = subst (λ b. Makes (λ b v. b ≡ is_high v) (apply f (value_of_key (key_of c.in-Some.key.now)) (scope_around φ e)) (Ok b)) c.if-stays.true (c.in_ok-stays.ensures f (scope_around φ e) (functions_around φ e) (coded_over C (scope_around φ e) _ (c.in_ok-around.ensures φ ∙ ap (frame_around (plan_expressions p) c.args.code.now.around) (scope_is φ p c.args.names.now e N)))) in
-          sifted_kept φ p c.args.members.wait (λ x. apply f x (scope_around φ e)) ms _ _ _ _ _ _ c.in-Some.key.now c.in-Some.state steps.0 steps.1.0 (c.loop-key.invariant.sifted f e ms C N G) c.in_ok-same.same _ _ told c.in_ok-same.ensures put c.in_ok-push-2.ensures.items;
+          let μ = context_machine g.R.Holds.answers c.args.context.now in
+          let told = subst (λ b. Makes (λ b v. b ≡ is_high v) (apply f (value_of_key (key_of c.in-Some.key.now)) (scope_around μ.answers e)) (Ok b)) c.if-stays.true (c.in_ok-stays.ensures f (scope_around μ.answers e) (functions_around μ.answers e) (coded_over C (scope_around μ.answers e) _ (c.in_ok-around.ensures μ.answers ∙ ap (frame_around (plan_expressions μ.plan) c.args.code.now.around) (scope_is μ c.args.names.now e N)))) in
+          sifted_kept μ c.args.members.wait (λ x. apply f x (scope_around μ.answers e)) ms _ _ _ _ _ _ c.in-Some.key.now c.in-Some.state steps.0 steps.1.0 (c.loop-key.invariant.sifted f e ms C N G) c.in_ok-same.same _ _ told c.in_ok-same.ensures put c.in_ok-push-2.ensures.items;
     }
 
 pub loop-key-preserved : goal.loop-key-preserved
@@ -59,20 +58,18 @@ loop-key-preserved g c =
     record {
       different = left_out c.loop-key.under (key_of c.in-Some.key.now) _ (subst (λ (ks : _). AreDifferentKeys (c.loop-key.under ++ map key_of ks)) steps.0 c.loop-key.invariant.different);
       sifted = λ f e ms C N G.
-          let φ = g.R.Holds.answers c.args.context.now.functions.now in
-          let p = c.args.context.now.plan.now in
-          let told = subst (λ b. Makes (λ b v. b ≡ is_high v) (apply f (value_of_key (key_of c.in-Some.key.now)) (scope_around φ e)) (Ok b)) c.if-stays.false (c.in_ok-stays.ensures f (scope_around φ e) (functions_around φ e) (coded_over C (scope_around φ e) _ (c.in_ok-around.ensures φ ∙ ap (frame_around (plan_expressions p) c.args.code.now.around) (scope_is φ p c.args.names.now e N)))) in
-          sifted_out φ p c.args.members.wait (λ x. apply f x (scope_around φ e)) ms _ _ _ _ _ _ c.in-Some.key.now c.in-Some.state steps.0 steps.1.0 (c.loop-key.invariant.sifted f e ms C N G) told;
+          let μ = context_machine g.R.Holds.answers c.args.context.now in
+          let told = subst (λ b. Makes (λ b v. b ≡ is_high v) (apply f (value_of_key (key_of c.in-Some.key.now)) (scope_around μ.answers e)) (Ok b)) c.if-stays.false (c.in_ok-stays.ensures f (scope_around μ.answers e) (functions_around μ.answers e) (coded_over C (scope_around μ.answers e) _ (c.in_ok-around.ensures μ.answers ∙ ap (frame_around (plan_expressions μ.plan) c.args.code.now.around) (scope_is μ c.args.names.now e N)))) in
+          sifted_out μ c.args.members.wait (λ x. apply f x (scope_around μ.answers e)) ms _ _ _ _ _ _ c.in-Some.key.now c.in-Some.state steps.0 steps.1.0 (c.loop-key.invariant.sifted f e ms C N G) told;
     }
 
 pub returns-in_err-stays : goal.returns-in_err-stays
 returns-in_err-stays g c = λ f e ms C N G.
-    let φ = g.R.Holds.answers c.args.context.now.functions.now in
-    let p = c.args.context.now.plan.now in
+    let μ = context_machine g.R.Holds.answers c.args.context.now in
     let steps = c.in-Some.ensures.steps in
     let x = c.in_err-stays.field-0.0 in
     made_failure _ _ _ x c.from_residual-in_err-stays.ensures.1
-    (not_sifted φ p c.args.members.wait (λ x. apply f x (scope_around φ e)) ms _ _ _ _ _ _ c.in-Some.key.now c.in-Some.state steps.0 steps.1.0 (c.loop-key.invariant.sifted f e ms C N G) x (c.in_err-stays.ensures f (scope_around φ e) (functions_around φ e) (coded_over C (scope_around φ e) _ (c.in_ok-around.ensures φ ∙ ap (frame_around (plan_expressions p) c.args.code.now.around) (scope_is φ p c.args.names.now e N)))))
+    (not_sifted μ c.args.members.wait (λ x. apply f x (scope_around μ.answers e)) ms _ _ _ _ _ _ c.in-Some.key.now c.in-Some.state steps.0 steps.1.0 (c.loop-key.invariant.sifted f e ms C N G) x (c.in_err-stays.ensures f (scope_around μ.answers e) (functions_around μ.answers e) (coded_over C (scope_around μ.answers e) _ (c.in_ok-around.ensures μ.answers ∙ ap (frame_around (plan_expressions μ.plan) c.args.code.now.around) (scope_is μ c.args.names.now e N)))))
 
 pub returns-in_err-same : goal.returns-in_err-same
 returns-in_err-same g c = λ f e ms C N G. made_failure _ _ _ Memory c.from_residual-in_err-same.ensures.1 makes_nothing
@@ -91,8 +88,7 @@ returns-in_err-states g c = λ f e ms C N G. made_failure _ _ _ Memory c.from_re
 
 pub returns : goal.returns
 returns g c = λ f e ms C N G.
-    let φ = g.R.Holds.answers c.args.context.now.functions.now in
-    let p = c.args.context.now.plan.now in
+    let μ = context_machine g.R.Holds.answers c.args.context.now in
     let h : Gathered = record { keys = c.in_ok-keys.keys; states = c.in_ok-states.states; wait = c.args.members.wait } in
-    all_sifted φ p c.args.members.wait (λ x. apply f x (scope_around φ e)) ms _ _ c.loop-key.under c.loop-key.kept.items h (c.loop-key.invariant.sifted f e ms C N G)
+    all_sifted μ c.args.members.wait (λ x. apply f x (scope_around μ.answers e)) ms _ _ c.loop-key.under c.loop-key.kept.items h (c.loop-key.invariant.sifted f e ms C N G)
     (elim (c.in-None.ensures.steps) [ inl w ↦ inl w.1.0 | inr w ↦ inr (sym c.loop-key.key-iterator.b.rest.ok.0 ∙ w.1.0) ]) c.in_ok-keys.ensures.ok (ap (λ (v : Vec State Global). v.items) c.in_ok-states.ensures.ok) refl

@@ -4,6 +4,7 @@ use Rattle.sf_law.specs.Arena.{plan_tree}
 use Rattle.sf_mean.specs.Lives.{closure}
 use Rattle.sf_mean.specs.Collections.{as_key, add}
 use Rattle.sf_state.specs.Standing.{itself, unborn}
+use Rattle.sf_begin.specs.Contexts.{context_machine}
 use Rattle.sf_begin.specs.Beginning.{makes_nothing}
 use Rattle.sf_begin.specs.Collecting.{HasMembers}
 use Rattle.sf_begin.proofs.Arguments.{made_failure}
@@ -18,13 +19,11 @@ returns-in_err-all-in-Ok g c = λ j e ms C N G. made_failure _ _ _ Memory c.from
 
 pub returns-in_ok-all-in-Ok : goal.returns-in_ok-all-in-Ok
 returns-in_ok-all-in-Ok g c = λ j e ms C N G.
-    let φ = g.R.Holds.answers c.args.context.now.functions.now in
-    let p = c.args.context.now.plan.now in
-    let t = plan_tree p c.args.term in
-    is_added φ p c.args.names.now e N j c.in-Ok.value _ c.in_ok-all-in-Ok.all ms (c.in-Ok.ensures j C) c.as_key.ensures t (c.in_ok-all-in-Ok.ensures φ p ms (closure t e) G (itself (unborn (c.in_ok-process-in-Ok.ensures φ e N))))
+    let μ = context_machine g.R.Holds.answers c.args.context.now in
+    let t = plan_tree μ.plan c.args.term in
+    is_added μ c.args.names.now e N j c.in-Ok.value _ c.in_ok-all-in-Ok.all ms (c.in-Ok.ensures j C) c.as_key.ensures t (c.in_ok-all-in-Ok.ensures μ ms (closure t e) G (itself (unborn (c.in_ok-process-in-Ok.ensures μ.answers e N))))
 
 pub returns-in-Err : goal.returns-in-Err
 returns-in-Err g c = λ j e ms C N G.
-    let φ = g.R.Holds.answers c.args.context.now.functions.now in
-    let p = c.args.context.now.plan.now in
-    rw c.fault_of.ensures (fails_in φ p c.args.names.now e N (eval j) (HasMembers φ p) (λ v. answer (add (as_key v) (closure (plan_tree p c.args.term) e) ms)) c.in-Err.fault (c.in-Err.ensures j C))
+    let μ = context_machine g.R.Holds.answers c.args.context.now in
+    rw c.fault_of.ensures (fails_in μ c.args.names.now e N (eval j) (HasMembers μ) (λ v. answer (add (as_key v) (closure (plan_tree μ.plan c.args.term) e) ms)) c.in-Err.fault (c.in-Err.ensures j C))

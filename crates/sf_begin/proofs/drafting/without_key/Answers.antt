@@ -5,13 +5,13 @@ use Rattle.sf_begin.proofs.Drafts.{place_dropped, place_missing}
 use Rattle.sf_begin.proofs.drafting.without_key.Goals as goal
 
 pub returns-in-Some : goal.returns-in-Some
-returns-in-Some c = λ φ p bs w ms G.
+returns-in-Some c = λ μ bs w ms G.
     let k = key_of c.args.key.now in
     let at : key_index k c.args.made.keys ≡ Some c.in-Some.at = sym c.place.ensures ∙ c.in-Some.is in
     let y : Draft = record { keys = c.remove.new.self; changes = c.push.new.self } in
-    place_dropped φ p bs w c.args.made y k c.in-Some.at at c.remove.ensures c.in_ok-push.ensures.items ms G
+    place_dropped μ bs w c.args.made y k c.in-Some.at at c.remove.ensures c.in_ok-push.ensures.items ms G
 
 pub returns : goal.returns
-returns c = λ φ p bs w ms G.
+returns c = λ μ bs w ms G.
     let k = key_of c.args.key.now in
-    place_missing φ p bs w c.args.made k (sym c.place.ensures ∙ c.in_default.is) ms G
+    place_missing μ bs w c.args.made k (sym c.place.ensures ∙ c.in_default.is) ms G

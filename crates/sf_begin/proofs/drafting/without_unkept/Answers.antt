@@ -6,6 +6,7 @@ use Rattle.sf_expr.specs.Evaluation.{apply}
 use Rattle.sf_mean.specs.Lives.{scope_around}
 use Rattle.sf_mean.specs.Formulas.{is_high}
 use Rattle.sf_law.specs.Arena.{plan_expressions}
+use Rattle.sf_begin.specs.Contexts.{context_machine}
 use Rattle.sf_code.specs.Worth.{frame_around}
 use Rattle.sf_state.proofs.Scopes.{functions_around, scope_is}
 use Rattle.sf_begin.specs.Beginning.{Makes}
@@ -16,14 +17,14 @@ use Rattle.sf_begin.proofs.drafting.without_unkept.Goals as goal
 pub loop-at-init : goal.loop-at-init
 loop-at-init g c = record {
   left_over = λ f e bs w ms C N G.
-      let φ = g.R.Holds.answers c.args.context.now.functions.now in
-      all_next φ c.args.context.now.plan.now bs w (λ x. apply f x (scope_around φ e)) ms c.args.made G;
+      let μ = context_machine g.R.Holds.answers c.args.context.now in
+      all_next μ bs w (λ x. apply f x (scope_around μ.answers e)) ms c.args.made G;
 }
 
 pub returns : goal.returns
 returns g c = λ f e bs w ms C N G.
-    let φ = g.R.Holds.answers c.args.context.now.functions.now in
-    all_left φ c.args.context.now.plan.now bs w (λ x. apply f x (scope_around φ e)) ms c.loop-at.left c.loop-at.at (c.loop-at.invariant.left_over f e bs w ms C N G) (omega arith)
+    let μ = context_machine g.R.Holds.answers c.args.context.now in
+    all_left μ bs w (λ x. apply f x (scope_around μ.answers e)) ms c.loop-at.left c.loop-at.at (c.loop-at.invariant.left_over f e bs w ms C N G) (omega arith)
 
 pub loop-at-preserved-then-stays : goal.loop-at-preserved-then-stays
 loop-at-preserved-then-stays g c =
@@ -31,10 +32,9 @@ loop-at-preserved-then-stays g c =
     let is : k ≡ get_or c.loop-at.left.keys c.loop-at.at k = ap key_of c.index-all-at.is ∙ sym (get_or-map key_of c.all.result.now c.loop-at.at c.index-all-at.result) ∙ ap (λ ks. get_or ks c.loop-at.at k) c.all.ensures.keys in
     record {
       left_over = λ f e bs w ms C N G.
-          let φ = g.R.Holds.answers c.args.context.now.functions.now in
-          let p = c.args.context.now.plan.now in
-          let told = subst (λ b. Makes (λ b v. b ≡ is_high v) (apply f (value_of_key k) (scope_around φ e)) (Ok b)) c.if-stays.true (c.in_ok-stays.ensures f (scope_around φ e) (functions_around φ e) (coded_over C (scope_around φ e) _ (c.in_ok-around.ensures φ ∙ ap (frame_around (plan_expressions p) c.args.code.now.around) (scope_is φ p c.args.names.now e N)))) in
-          kept_on φ p bs w (λ x. apply f x (scope_around φ e)) ms c.loop-at.left c.loop-at.at k (c.loop-at.invariant.left_over f e bs w ms C N G) (omega arith) is told;
+          let μ = context_machine g.R.Holds.answers c.args.context.now in
+          let told = subst (λ b. Makes (λ b v. b ≡ is_high v) (apply f (value_of_key k) (scope_around μ.answers e)) (Ok b)) c.if-stays.true (c.in_ok-stays.ensures f (scope_around μ.answers e) (functions_around μ.answers e) (coded_over C (scope_around μ.answers e) _ (c.in_ok-around.ensures μ.answers ∙ ap (frame_around (plan_expressions μ.plan) c.args.code.now.around) (scope_is μ c.args.names.now e N)))) in
+          kept_on μ bs w (λ x. apply f x (scope_around μ.answers e)) ms c.loop-at.left c.loop-at.at k (c.loop-at.invariant.left_over f e bs w ms C N G) (omega arith) is told;
     }
 
 pub loop-at-preserved : goal.loop-at-preserved
@@ -43,8 +43,7 @@ loop-at-preserved g c =
     let is : k ≡ get_or c.loop-at.left.keys c.loop-at.at k = ap key_of c.index-all-at.is ∙ sym (get_or-map key_of c.all.result.now c.loop-at.at c.index-all-at.result) ∙ ap (λ ks. get_or ks c.loop-at.at k) c.all.ensures.keys in
     record {
       left_over = λ f e bs w ms C N G.
-          let φ = g.R.Holds.answers c.args.context.now.functions.now in
-          let p = c.args.context.now.plan.now in
-          let told = subst (λ b. Makes (λ b v. b ≡ is_high v) (apply f (value_of_key k) (scope_around φ e)) (Ok b)) c.if-stays.false (c.in_ok-stays.ensures f (scope_around φ e) (functions_around φ e) (coded_over C (scope_around φ e) _ (c.in_ok-around.ensures φ ∙ ap (frame_around (plan_expressions p) c.args.code.now.around) (scope_is φ p c.args.names.now e N)))) in
-          taken_out φ p bs w (λ x. apply f x (scope_around φ e)) ms c.loop-at.left c.loop-at.at k (c.loop-at.invariant.left_over f e bs w ms C N G) (omega arith) is c.take.new.left c.in_ok-take.ensures.keys c.in_ok-take.ensures.changes told;
+          let μ = context_machine g.R.Holds.answers c.args.context.now in
+          let told = subst (λ b. Makes (λ b v. b ≡ is_high v) (apply f (value_of_key k) (scope_around μ.answers e)) (Ok b)) c.if-stays.false (c.in_ok-stays.ensures f (scope_around μ.answers e) (functions_around μ.answers e) (coded_over C (scope_around μ.answers e) _ (c.in_ok-around.ensures μ.answers ∙ ap (frame_around (plan_expressions μ.plan) c.args.code.now.around) (scope_is μ c.args.names.now e N)))) in
+          taken_out μ bs w (λ x. apply f x (scope_around μ.answers e)) ms c.loop-at.left c.loop-at.at k (c.loop-at.invariant.left_over f e bs w ms C N G) (omega arith) is c.take.new.left c.in_ok-take.ensures.keys c.in_ok-take.ensures.changes told;
     }

@@ -4,14 +4,14 @@ use Rattle.sf_begin.proofs.Begins.{open_exit, open_staged, two_joined}
 use Rattle.sf_begin.proofs.opening.pipeline.Goals as goal
 
 pub returns-in-Some : goal.returns-in-Some
-returns-in-Some c = λ φ p v t same B. c.joined.ensures φ p t (two_joined φ p _ _ v t (same ∙ c.in-Some.ensures) B)
+returns-in-Some c = λ μ v t same B. c.joined.ensures μ t (two_joined μ _ _ v t (same ∙ c.in-Some.ensures) B)
 
 pub returns-in_err-begun : goal.returns-in_err-begun
-returns-in_err-begun c = λ φ p v t same B x e N. open_exit φ p t e _ c.from_residual.ensures.1
+returns-in_err-begun c = λ μ v t same B x e N. open_exit μ t e _ c.from_residual.ensures.1
 
 pub returns-in_err-node : goal.returns-in_err-node
-returns-in_err-node c = λ φ p v t same B x e N. open_exit φ p t e _ c.from_residual-in_err-node.ensures.1
+returns-in_err-node c = λ μ v t same B x e N. open_exit μ t e _ c.from_residual-in_err-node.ensures.1
 
 pub returns : goal.returns
-returns c = λ φ p v t same B x e N.
-    open_staged φ p v t c.in_ok-begun.begun c.in_ok-node.node c.in_ok-node.ensures.ok e B (subst (λ ids. AllBegin φ p e ids c.in_ok-begun.begun.items) (sym same) (c.in_ok-begun.ensures φ p e N))
+returns c = λ μ v t same B x e N.
+    open_staged μ v t c.in_ok-begun.begun c.in_ok-node.node c.in_ok-node.ensures.ok e B (subst (λ ids. AllBegin μ e ids c.in_ok-begun.begun.items) (sym same) (c.in_ok-begun.ensures μ e N))

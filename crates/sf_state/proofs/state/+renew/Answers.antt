@@ -4,15 +4,15 @@ use Rattle.sf_state.proofs.state.+renew.Goals as goal
 
 pub State::renew-returns-in-Some : goal.State::renew-returns-in-Some
 State::renew-returns-in-Some t c =
-    on_ok_weaker c.renew.result (λ h φ p P L A.
-    alive_follows φ p c.in-Live.names c.in_ok-shared.shared c.in-Live.node.value c.renew.new.self (c.in_ok-shared.ensures φ p) (h φ p) P L (rw c.in-Live.is at A)) (rw c.deref.ensures at c.renew.ensures)
+    on_ok_weaker c.renew.result (λ h μ P L A.
+    alive_follows μ c.in-Live.names c.in_ok-shared.shared c.in-Live.node.value c.renew.new.self (c.in_ok-shared.ensures μ) (h μ) P L (rw c.in-Live.is at A)) (rw c.deref.ensures at c.renew.ensures)
 
 pub Live::renew-returns-in-Join-self : goal.Live::renew-returns-in-Join-self
 Live::renew-returns-in-Join-self t c =
-    on_ok_weaker c.renew-in-Join-self.result (λ h φ p P x L R.
-    join_follows φ p c.in-Join.join c.in-Join.left c.renew.new.self c.in-Join.right c.renew-in-Join-self.new.self (c.in_ok-renew-in-Join.ensures φ p) (h φ p) P x L (rw c.in-Join.is at R)) c.renew-in-Join-self.ensures
+    on_ok_weaker c.renew-in-Join-self.result (λ h μ P x L R.
+    join_follows μ c.in-Join.join c.in-Join.left c.renew.new.self c.in-Join.right c.renew-in-Join-self.new.self (c.in_ok-renew-in-Join.ensures μ) (h μ) P x L (rw c.in-Join.is at R)) c.renew-in-Join-self.ensures
 
 pub Live::renew-returns-in-Wrap-self : goal.Live::renew-returns-in-Wrap-self
 Live::renew-returns-in-Wrap-self t c =
-    on_ok_weaker c.renew-in-Wrap-self.result (λ h φ p P x L R.
-    wrap_follows φ p c.in-Wrap.wrap c.in_ok-copy-in-Wrap.copy c.in-Wrap.part c.renew-in-Wrap-self.new.self c.in_ok-copy-in-Wrap.ensures (h φ p) P x L (rw c.in-Wrap.is at R)) c.renew-in-Wrap-self.ensures
+    on_ok_weaker c.renew-in-Wrap-self.result (λ h μ P x L R.
+    wrap_follows μ c.in-Wrap.wrap c.in_ok-copy-in-Wrap.copy c.in-Wrap.part c.renew-in-Wrap-self.new.self c.in_ok-copy-in-Wrap.ensures (h μ) P x L (rw c.in-Wrap.is at R)) c.renew-in-Wrap-self.ensures

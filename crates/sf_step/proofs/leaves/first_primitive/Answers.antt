@@ -1,10 +1,11 @@
 use Rattle.std.proofs.Common.{◌∙◌}
 use Rattle.sf_step.proofs.First.{first_steps, first_fails}
 use Rattle.sf_step.proofs.leaves.first_primitive.Goals as goal
+use Rattle.sf_begin.specs.Contexts.{context_machine}
 
 pub returns-in-Ok : goal.returns-in-Ok
-returns-in-Ok g c = λ t B. rw c.put.ensures (first_steps (g.R.Holds.answers c.args.context.now.functions.now) c.args.context.now.plan.now c.args.primitive.now t c.args.names.now c.in-Ok.born c.step_prim-stepped.new.prim _ c.step_prim-stepped.new.value c.step_prim-stepped.result _ B c.in-Ok.ensures c.step_prim-stepped.ensures.answers)
+returns-in-Ok g c = λ t B. rw c.put.ensures (first_steps (context_machine g.R.Holds.answers c.args.context.now) c.args.primitive.now t c.args.names.now c.in-Ok.born c.step_prim-stepped.new.prim _ c.step_prim-stepped.new.value c.step_prim-stepped.result _ B c.in-Ok.ensures c.step_prim-stepped.ensures.answers)
 
 pub returns-in-Err : goal.returns-in-Err
 returns-in-Err g c = λ t B.
-    first_fails (g.R.Holds.answers c.args.context.now.functions.now) c.args.context.now.plan.now c.args.primitive.now t c.args.names.now c.in-Err.fault _ c.args.context.now.dt c.args.value.now (c.stop.ensures.fault ∙ c.fault_of.ensures) c.stop.ensures.entered c.stop.ensures.height B c.in-Err.ensures
+    first_fails (context_machine g.R.Holds.answers c.args.context.now) c.args.primitive.now t c.args.names.now c.in-Err.fault _ c.args.context.now.dt c.args.value.now (c.stop.ensures.fault ∙ c.fault_of.ensures) c.stop.ensures.entered c.stop.ensures.height B c.in-Err.ensures

@@ -1,11 +1,12 @@
 use Rattle.std.proofs.Common.{◌∙◌}
 use Rattle.sf_step.proofs.Primitives.{prim_steps, prim_fails}
 use Rattle.sf_step.proofs.leaves.step_prim.Goals as goal
+use Rattle.sf_begin.specs.Contexts.{context_machine}
 
 pub returns-in-Ok-clause-answers : goal.returns-in-Ok-clause-answers
-returns-in-Ok-clause-answers g c = prim_steps (g.R.Holds.answers c.args.context.now.functions.now) c.args.context.now.plan.now c.args.prim.now c.step.new.self _ c.args.meter.now c.step.new.value c.in-Ok.ensures
+returns-in-Ok-clause-answers g c = prim_steps (context_machine g.R.Holds.answers c.args.context.now) c.args.prim.now c.step.new.self _ c.args.meter.now c.step.new.value c.in-Ok.ensures
 
 pub returns-in-Err-clause-answers : goal.returns-in-Err-clause-answers
 returns-in-Err-clause-answers g c =
-    prim_fails (g.R.Holds.answers c.args.context.now.functions.now) c.args.context.now.plan.now c.args.prim.now c.step.new.self _ c.args.meter.now c.stop.new.self _ c.in-Err.fault
+    prim_fails (context_machine g.R.Holds.answers c.args.context.now) c.args.prim.now c.step.new.self _ c.args.meter.now c.stop.new.self _ c.in-Err.fault
     (c.stop.ensures.fault ∙ c.fault_of.ensures) c.stop.ensures.entered c.stop.ensures.height c.in-Err.ensures

@@ -14,6 +14,7 @@ use Rattle.sf_state.specs.declared.state.State.{State}
 use Rattle.sf_state.specs.declared.state.Gathered.{Gathered}
 use Rattle.sf_state.specs.Held.{gathered_holding, held_as}
 use Rattle.sf_state.specs.Standing.{Stands, AllFollow, frozen_state, worth_given, Waits, WaitsContinuation, WaitsGathered}
+use Rattle.sf_begin.specs.Contexts.{context_machine}
 use Rattle.sf_expr.specs.Evaluation.{answer}
 use Rattle.sf_mean.specs.Meaning.{switched_value}
 use Rattle.sf_meter.specs.Meters.{entered_of, meter_fault, left_or}
@@ -26,7 +27,7 @@ use Rattle.sf_step.specs.Routing.{observation_of}
 use Rattle.sf_state.proofs.Copies.{list_follows}
 use Rattle.sf_step.proofs.Parts.{pass_exit, failed, own_halves}
 use Rattle.sf_step.proofs.Stages.{StagesStep, continues_first, continues_next, continues_fails, continues_last, pipeline_steps, pipeline_fails}
-use Rattle.sf_step.proofs.Exits.{ticked_by, tick_fails, first_memory, join_left_fails, join_right_fails, join_steps, join_last, wrap_fails, wrap_steps, wrap_faults, wrap_last, late_memory, late_waiting, waits_alike, primitive_counted, live_counted, own_steps, primitive_is, live_is, switch_is, continuing_is, gathering_is, counted_steps, first_counted, begun_steps, begun_runs, begun_fails}
+use Rattle.sf_step.proofs.Exits.{ticked_by, tick_fails, first_memory, join_left_fails, join_right_fails, join_steps, join_last, wrap_fails, wrap_steps, wrap_faults, wrap_last, late_memory, late_waiting, waits_alike, primitive_counted, live_counted, own_steps, primitive_is, live_is, awake_is, counted_steps, first_counted, begun_steps, begun_runs, begun_fails}
 use Rattle.sf_step.proofs.Recurring.{run_fails, run_memory, new_fails, new_runs, runs_alone}
 use Rattle.sf_step.proofs.Switches.{source_fails, switch_memory, switch_waits_on, body_fails, body_takes_over}
 use Rattle.sf_step.proofs.Continuation.{runs_alike, kept_fails, kept_memory, observer_fails, observer_memory, keeps_on, kept_body_fails, continuation_takes_over, some_occurs, none_occurs}
@@ -47,78 +48,78 @@ there_is e = subst IsOk (sym e) refl
 -- ## step_state
 
 pub step_state-returns-in_err-tick-in-Primitive : goal.step_state-returns-in_err-tick-in-Primitive
-step_state-returns-in_err-tick-in-Primitive g t c = λ P L A. pass_exit _ _ c.from_residual.ensures.0 (tick_fails (g.R.Holds.answers c.args.context.now.functions.now) c.args.context.now.plan.now P _ c.in_err-tick-in-Primitive.ensures.ticked)
+step_state-returns-in_err-tick-in-Primitive g t c = λ P L A. pass_exit _ _ c.from_residual.ensures.0 (tick_fails (context_machine g.R.Holds.answers c.args.context.now) P _ c.in_err-tick-in-Primitive.ensures.ticked)
 
 pub step_state-returns-in_err-inside-in-Live : goal.step_state-returns-in_err-inside-in-Live
-step_state-returns-in_err-inside-in-Live g t c = λ P L A. pass_exit _ _ c.from_residual-in_err-inside-in-Live.ensures.0 (tick_fails (g.R.Holds.answers c.args.context.now.functions.now) c.args.context.now.plan.now P _ c.in_err-inside-in-Live.ensures.ticked)
+step_state-returns-in_err-inside-in-Live g t c = λ P L A. pass_exit _ _ c.from_residual-in_err-inside-in-Live.ensures.0 (tick_fails (context_machine g.R.Holds.answers c.args.context.now) P _ c.in_err-inside-in-Live.ensures.ticked)
 
 pub step_state-returns-in_default : goal.step_state-returns-in_default
 step_state-returns-in_default g t c = c.step_other.ensures
 
 pub step_state-returns-in_ok-tick-in-Primitive : goal.step_state-returns-in_ok-tick-in-Primitive
 step_state-returns-in_ok-tick-in-Primitive g t c = λ P L A.
-    counted_steps (g.R.Holds.answers c.args.context.now.functions.now) c.args.context.now.plan.now _ _ _ (ticked_by c.in_ok-tick-in-Primitive.ensures.ticked) (primitive_is (g.R.Holds.answers c.args.context.now.functions.now) c.args.context.now.plan.now c.in-Primitive.prim)
-    (primitive_counted (g.R.Holds.answers c.args.context.now.functions.now) c.args.context.now.plan.now c.in-Primitive.prim c.step_prim.new.prim _ c.step_prim.new.value c.step_prim.result _ c.step_prim.ensures.answers) P L (rw c.in-Primitive.is at A)
+    counted_steps (context_machine g.R.Holds.answers c.args.context.now) _ _ _ (ticked_by c.in_ok-tick-in-Primitive.ensures.ticked) (primitive_is (context_machine g.R.Holds.answers c.args.context.now) c.in-Primitive.prim)
+    (primitive_counted (context_machine g.R.Holds.answers c.args.context.now) c.in-Primitive.prim c.step_prim.new.prim _ c.step_prim.new.value c.step_prim.result _ c.step_prim.ensures.answers) P L (rw c.in-Primitive.is at A)
 
 pub step_state-returns-in_ok-inside-in-Live : goal.step_state-returns-in_ok-inside-in-Live
 step_state-returns-in_ok-inside-in-Live g t c = λ P L A.
-    counted_steps (g.R.Holds.answers c.args.context.now.functions.now) c.args.context.now.plan.now _ _ _ (ticked_by c.in_ok-inside-in-Live.ensures.ticked) (live_is (g.R.Holds.answers c.args.context.now.functions.now) c.args.context.now.plan.now c.in-Live.field-0 c.in-Live.node.value)
-    (live_counted (g.R.Holds.answers c.args.context.now.functions.now) c.args.context.now.plan.now _ c.in-Live.field-0 c.in-Live.node.value c.step_node.new.node.value _ c.step_node.new.value c.step_node.result _ c.step_node.ensures) P L (rw c.in-Live.is at A)
+    counted_steps (context_machine g.R.Holds.answers c.args.context.now) _ _ _ (ticked_by c.in_ok-inside-in-Live.ensures.ticked) (live_is (context_machine g.R.Holds.answers c.args.context.now) c.in-Live.field-0 c.in-Live.node.value)
+    (live_counted (context_machine g.R.Holds.answers c.args.context.now) _ c.in-Live.field-0 c.in-Live.node.value c.step_node.new.node.value _ c.step_node.new.value c.step_node.result _ c.step_node.ensures) P L (rw c.in-Live.is at A)
 
 -- ## step_node
 
 pub step_node-returns-in-Some : goal.step_node-returns-in-Some
 step_node-returns-in-Some g t c =
-    own_steps (g.R.Holds.answers c.args.context.now.functions.now) c.args.context.now.plan.now c.args.node.now.value c.in-Some.live.now _ _ (λ P x L R. rw c.in-Some.ensures.value R) c.step_live.ensures
+    own_steps (context_machine g.R.Holds.answers c.args.context.now) c.args.node.now.value c.in-Some.live.now _ _ (λ P x L R. rw c.in-Some.ensures.value R) c.step_live.ensures
 
 pub step_node-returns-in-None : goal.step_node-returns-in-None
 step_node-returns-in-None g t c = c.step_node_copy.ensures
 
 -- ## step_node_copy
 
-pub step_node_copy-returns-in_default : goal.step_node_copy-returns-in_default
-step_node_copy-returns-in_default g t c = λ m depth t P L R. early_memory (g.R.Holds.answers c.args.context.now.functions.now) c.args.context.now.plan.now t c.stop.ensures.entered c.stop.ensures.height c.stop.ensures.fault
+pub step_node_copy-returns-in-Err : goal.step_node_copy-returns-in-Err
+step_node_copy-returns-in-Err g t c = λ m depth t P L R. early_memory (context_machine g.R.Holds.answers c.args.context.now) t c.stop.ensures.entered c.stop.ensures.height c.stop.ensures.fault
 
 pub step_node_copy-returns-in_err-step_live : goal.step_node_copy-returns-in_err-step_live
 step_node_copy-returns-in_err-step_live g t c = λ m depth t P L R.
-    pass_exit _ _ c.from_residual.ensures.0 (failed (own_steps (g.R.Holds.answers c.args.context.now.functions.now) c.args.context.now.plan.now c.args.node.now.value c.in-Ok.own _ _ (λ P x L R. c.in-Ok.ensures (g.R.Holds.answers c.args.context.now.functions.now) c.args.context.now.plan.now P x L (rw c.deref.ensures R)) c.in_err-step_live.ensures m depth t P L R))
+    pass_exit _ _ c.from_residual.ensures.0 (failed (own_steps (context_machine g.R.Holds.answers c.args.context.now) c.args.node.now.value c.in-Ok.value _ _ (λ P x L R. c.in-Ok.ensures (context_machine g.R.Holds.answers c.args.context.now) P x L (rw c.deref.ensures R)) c.in_err-step_live.ensures m depth t P L R))
 
-pub step_node_copy-returns-in_default-new : goal.step_node_copy-returns-in_default-new
-step_node_copy-returns-in_default-new g t c =
-    late_memory (g.R.Holds.answers c.args.context.now.functions.now) c.args.context.now.plan.now (own_steps (g.R.Holds.answers c.args.context.now.functions.now) c.args.context.now.plan.now c.args.node.now.value c.in-Ok.own _ _ (λ P x L R. c.in-Ok.ensures (g.R.Holds.answers c.args.context.now.functions.now) c.args.context.now.plan.now P x L (rw c.deref.ensures R)) c.in_ok-step_live.ensures) c.stop-in_default-new.ensures.entered c.stop-in_default-new.ensures.height c.stop-in_default-new.ensures.fault
+pub step_node_copy-returns-in-Err-new : goal.step_node_copy-returns-in-Err-new
+step_node_copy-returns-in-Err-new g t c =
+    late_memory (context_machine g.R.Holds.answers c.args.context.now) (own_steps (context_machine g.R.Holds.answers c.args.context.now) c.args.node.now.value c.in-Ok.value _ _ (λ P x L R. c.in-Ok.ensures (context_machine g.R.Holds.answers c.args.context.now) P x L (rw c.deref.ensures R)) c.in_ok-step_live.ensures) c.stop-in-Err-new.ensures.entered c.stop-in-Err-new.ensures.height c.stop-in-Err-new.ensures.fault
 
 pub step_node_copy-returns : goal.step_node_copy-returns
 step_node_copy-returns g t c =
-    rw c.in-Ok-new.ensures.ok (own_steps (g.R.Holds.answers c.args.context.now.functions.now) c.args.context.now.plan.now c.args.node.now.value c.in-Ok.own _ _ (λ P x L R. c.in-Ok.ensures (g.R.Holds.answers c.args.context.now.functions.now) c.args.context.now.plan.now P x L (rw c.deref.ensures R)) c.in_ok-step_live.ensures)
+    rw c.in-Ok-new.ensures.ok (own_steps (context_machine g.R.Holds.answers c.args.context.now) c.args.node.now.value c.in-Ok.value _ _ (λ P x L R. c.in-Ok.ensures (context_machine g.R.Holds.answers c.args.context.now) P x L (rw c.deref.ensures R)) c.in_ok-step_live.ensures)
 
 -- ## step_counted
 
 pub step_counted-returns-in-Primitive : goal.step_counted-returns-in-Primitive
 step_counted-returns-in-Primitive g t c = λ m depth t P L A.
-    primitive_counted (g.R.Holds.answers c.args.context.now.functions.now) c.args.context.now.plan.now c.in-Primitive.prim c.step_prim.new.prim _ c.step_prim.new.value c.step_prim.result _ c.step_prim.ensures.answers m depth t P L (rw c.in-Primitive.is at A)
+    primitive_counted (context_machine g.R.Holds.answers c.args.context.now) c.in-Primitive.prim c.step_prim.new.prim _ c.step_prim.new.value c.step_prim.result _ c.step_prim.ensures.answers m depth t P L (rw c.in-Primitive.is at A)
 
 pub step_counted-returns-in-Live : goal.step_counted-returns-in-Live
 step_counted-returns-in-Live g t c = λ m depth t P L A.
-    live_counted (g.R.Holds.answers c.args.context.now.functions.now) c.args.context.now.plan.now _ c.in-Live.field-0 c.in-Live.node.value c.step_node.new.node.value _ c.step_node.new.value c.step_node.result _ c.step_node.ensures m depth t P L (rw c.in-Live.is at A)
+    live_counted (context_machine g.R.Holds.answers c.args.context.now) _ c.in-Live.field-0 c.in-Live.node.value c.step_node.new.node.value _ c.step_node.new.value c.step_node.result _ c.step_node.ensures m depth t P L (rw c.in-Live.is at A)
 
 pub step_counted-returns-in_err-over-in-Switch : goal.step_counted-returns-in_err-over-in-Switch
 step_counted-returns-in_err-over-in-Switch g t c = λ m depth t P L A.
-    pass_exit _ _ c.from_residual.ensures.0 (failed (watching_fails (g.R.Holds.answers c.args.context.now.functions.now) c.args.context.now.plan.now _ c.in-Switch.names c.in-Switch.node.value c.in-Switch.node.value (λ P L S. S)
+    pass_exit _ _ c.from_residual.ensures.0 (failed (watching_fails (context_machine g.R.Holds.answers c.args.context.now) _ c.in-Switch.names c.in-Switch.node.value c.in-Switch.node.value (λ P L S. S)
     (step c.args.context.now.dt c.args.value.now) c.args.meter.now c.step_watching.new.meter c.args.inside _ c.in_err-over-in-Switch.ensures m depth t P L (rw c.in-Switch.is at A)))
 
 pub step_counted-returns-in_ok-over-in-Switch : goal.step_counted-returns-in_ok-over-in-Switch
 step_counted-returns-in_ok-over-in-Switch g t c = λ m depth t P L A.
-    watching_turns (g.R.Holds.answers c.args.context.now.functions.now) c.args.context.now.plan.now _ c.in-Switch.names c.in-Switch.node.value c.in-Switch.node.value (λ P L S. S) (step c.args.context.now.dt c.args.value.now) c.args.meter.now c.step_watching.new.meter c.args.inside
+    watching_turns (context_machine g.R.Holds.answers c.args.context.now) _ c.in-Switch.names c.in-Switch.node.value c.in-Switch.node.value (λ P L S. S) (step c.args.context.now.dt c.args.value.now) c.args.meter.now c.step_watching.new.meter c.args.inside
     _ c.in_ok-over-in-Switch.over c.step_watching.new.node.value c.step_watching.new.value _ c.take_over.ensures c.in_ok-over-in-Switch.ensures m depth t P L (rw c.in-Switch.is at A)
 
 pub step_counted-returns-in_err-kept-in-Continuation : goal.step_counted-returns-in_err-kept-in-Continuation
 step_counted-returns-in_err-kept-in-Continuation g t c = λ m depth t P L A.
-    pass_exit _ _ c.from_residual-in_err-kept-in-Continuation.ensures.0 (failed (continuing_fails (g.R.Holds.answers c.args.context.now.functions.now) c.args.context.now.plan.now _ c.in-Continuation.names c.in-Continuation.node.value c.in-Continuation.node.value (λ P L S. S)
+    pass_exit _ _ c.from_residual-in_err-kept-in-Continuation.ensures.0 (failed (continuing_fails (context_machine g.R.Holds.answers c.args.context.now) _ c.in-Continuation.names c.in-Continuation.node.value c.in-Continuation.node.value (λ P L S. S)
     (step c.args.context.now.dt c.args.value.now) c.args.meter.now c.step_observing.new.meter c.args.inside _ c.in_err-kept-in-Continuation.ensures m depth t P L (rw c.in-Continuation.is at A)))
 
 pub step_counted-returns-in_ok-kept-in-Continuation : goal.step_counted-returns-in_ok-kept-in-Continuation
 step_counted-returns-in_ok-kept-in-Continuation g t c = λ m depth t P L A.
-    continuing_turns (g.R.Holds.answers c.args.context.now.functions.now) c.args.context.now.plan.now _ c.in-Continuation.names c.in-Continuation.node.value c.in-Continuation.node.value (λ P L S. S) (step c.args.context.now.dt c.args.value.now) c.args.meter.now c.step_observing.new.meter c.args.inside
+    continuing_turns (context_machine g.R.Holds.answers c.args.context.now) _ c.in-Continuation.names c.in-Continuation.node.value c.in-Continuation.node.value (λ P L S. S) (step c.args.context.now.dt c.args.value.now) c.args.meter.now c.step_observing.new.meter c.args.inside
     _ c.in_ok-kept-in-Continuation.kept c.step_observing.new.node.value c.step_observing.new.value _ c.take_over-in-Continuation.ensures c.in_ok-kept-in-Continuation.ensures m depth t P L (rw c.in-Continuation.is at A)
 
 -- ## step_watching, step_observing
@@ -129,20 +130,20 @@ step_watching-returns-in-Some g t c = λ m depth t T e L N W. c.step_switch.ensu
 pub step_watching-returns-in-None : goal.step_watching-returns-in-None
 step_watching-returns-in-None g t c = c.step_watching_copy.ensures
 
-pub step_watching_copy-returns-in_default : goal.step_watching_copy-returns-in_default
-step_watching_copy-returns-in_default g t c = λ m depth t T e L N W. early_memory (g.R.Holds.answers c.args.context.now.functions.now) c.args.context.now.plan.now t c.stop.ensures.entered c.stop.ensures.height c.stop.ensures.fault
+pub step_watching_copy-returns-in-Err : goal.step_watching_copy-returns-in-Err
+step_watching_copy-returns-in-Err g t c = λ m depth t T e L N W. early_memory (context_machine g.R.Holds.answers c.args.context.now) t c.stop.ensures.entered c.stop.ensures.height c.stop.ensures.fault
 
 pub step_watching_copy-returns-in_err-over : goal.step_watching_copy-returns-in_err-over
 step_watching_copy-returns-in_err-over g t c = λ m depth t T e L N W.
-    pass_beside (g.R.Holds.answers c.args.context.now.functions.now) c.args.context.now.plan.now _ _ _ c.from_residual.ensures.0 (failed (waits_alike (g.R.Holds.answers c.args.context.now.functions.now) c.args.context.now.plan.now (Waits (g.R.Holds.answers c.args.context.now.functions.now) c.args.context.now.plan.now) {k = c.args.node.now.value} (λ P L S. c.in-Ok.ensures (g.R.Holds.answers c.args.context.now.functions.now) c.args.context.now.plan.now P L (rw c.deref.ensures S)) c.in_err-over.ensures m depth t T e L N W))
+    pass_beside (context_machine g.R.Holds.answers c.args.context.now) _ _ _ c.from_residual.ensures.0 (failed (waits_alike (context_machine g.R.Holds.answers c.args.context.now) (Waits (context_machine g.R.Holds.answers c.args.context.now)) {k = c.args.node.now.value} (λ P L S. c.in-Ok.ensures (context_machine g.R.Holds.answers c.args.context.now) P L (rw c.deref.ensures S)) c.in_err-over.ensures m depth t T e L N W))
 
-pub step_watching_copy-returns-in_default-new : goal.step_watching_copy-returns-in_default-new
-step_watching_copy-returns-in_default-new g t c =
-    late_waiting (g.R.Holds.answers c.args.context.now.functions.now) c.args.context.now.plan.now (Waits (g.R.Holds.answers c.args.context.now.functions.now) c.args.context.now.plan.now) (waits_alike (g.R.Holds.answers c.args.context.now.functions.now) c.args.context.now.plan.now (Waits (g.R.Holds.answers c.args.context.now.functions.now) c.args.context.now.plan.now) {k = c.args.node.now.value} (λ P L S. c.in-Ok.ensures (g.R.Holds.answers c.args.context.now.functions.now) c.args.context.now.plan.now P L (rw c.deref.ensures S)) c.in_ok-over.ensures) c.stop-in_default-new.ensures.entered c.stop-in_default-new.ensures.height c.stop-in_default-new.ensures.fault
+pub step_watching_copy-returns-in-Err-new : goal.step_watching_copy-returns-in-Err-new
+step_watching_copy-returns-in-Err-new g t c =
+    late_waiting (context_machine g.R.Holds.answers c.args.context.now) (Waits (context_machine g.R.Holds.answers c.args.context.now)) (waits_alike (context_machine g.R.Holds.answers c.args.context.now) (Waits (context_machine g.R.Holds.answers c.args.context.now)) {k = c.args.node.now.value} (λ P L S. c.in-Ok.ensures (context_machine g.R.Holds.answers c.args.context.now) P L (rw c.deref.ensures S)) c.in_ok-over.ensures) c.stop-in-Err-new.ensures.entered c.stop-in-Err-new.ensures.height c.stop-in-Err-new.ensures.fault
 
 pub step_watching_copy-returns : goal.step_watching_copy-returns
 step_watching_copy-returns g t c =
-    rw c.in-Ok-new.ensures.ok (waits_alike (g.R.Holds.answers c.args.context.now.functions.now) c.args.context.now.plan.now (Waits (g.R.Holds.answers c.args.context.now.functions.now) c.args.context.now.plan.now) {k = c.args.node.now.value} (λ P L S. c.in-Ok.ensures (g.R.Holds.answers c.args.context.now.functions.now) c.args.context.now.plan.now P L (rw c.deref.ensures S)) c.in_ok-over.ensures)
+    rw c.in-Ok-new.ensures.ok (waits_alike (context_machine g.R.Holds.answers c.args.context.now) (Waits (context_machine g.R.Holds.answers c.args.context.now)) {k = c.args.node.now.value} (λ P L S. c.in-Ok.ensures (context_machine g.R.Holds.answers c.args.context.now) P L (rw c.deref.ensures S)) c.in_ok-over.ensures)
 
 pub step_observing-returns-in-Some : goal.step_observing-returns-in-Some
 step_observing-returns-in-Some g t c = λ m depth t T e L N W. c.step_continuing.ensures m depth t T e L N (rw c.in-Some.ensures.value W)
@@ -150,426 +151,408 @@ step_observing-returns-in-Some g t c = λ m depth t T e L N W. c.step_continuing
 pub step_observing-returns-in-None : goal.step_observing-returns-in-None
 step_observing-returns-in-None g t c = c.step_observing_copy.ensures
 
-pub step_observing_copy-returns-in_default : goal.step_observing_copy-returns-in_default
-step_observing_copy-returns-in_default g t c = λ m depth t T e L N W. early_memory (g.R.Holds.answers c.args.context.now.functions.now) c.args.context.now.plan.now t c.stop.ensures.entered c.stop.ensures.height c.stop.ensures.fault
+pub step_observing_copy-returns-in-Err : goal.step_observing_copy-returns-in-Err
+step_observing_copy-returns-in-Err g t c = λ m depth t T e L N W. early_memory (context_machine g.R.Holds.answers c.args.context.now) t c.stop.ensures.entered c.stop.ensures.height c.stop.ensures.fault
 
 pub step_observing_copy-returns-in_err-over : goal.step_observing_copy-returns-in_err-over
 step_observing_copy-returns-in_err-over g t c = λ m depth t T e L N W.
-    pass_beside (g.R.Holds.answers c.args.context.now.functions.now) c.args.context.now.plan.now _ _ _ c.from_residual.ensures.0 (failed (waits_alike (g.R.Holds.answers c.args.context.now.functions.now) c.args.context.now.plan.now (WaitsContinuation (g.R.Holds.answers c.args.context.now.functions.now) c.args.context.now.plan.now) {k = c.args.node.now.value} (λ P L S. c.in-Ok.ensures (g.R.Holds.answers c.args.context.now.functions.now) c.args.context.now.plan.now P L (rw c.deref.ensures S)) c.in_err-over.ensures m depth t T e L N W))
+    pass_beside (context_machine g.R.Holds.answers c.args.context.now) _ _ _ c.from_residual.ensures.0 (failed (waits_alike (context_machine g.R.Holds.answers c.args.context.now) (WaitsContinuation (context_machine g.R.Holds.answers c.args.context.now)) {k = c.args.node.now.value} (λ P L S. c.in-Ok.ensures (context_machine g.R.Holds.answers c.args.context.now) P L (rw c.deref.ensures S)) c.in_err-over.ensures m depth t T e L N W))
 
-pub step_observing_copy-returns-in_default-new : goal.step_observing_copy-returns-in_default-new
-step_observing_copy-returns-in_default-new g t c =
-    late_waiting (g.R.Holds.answers c.args.context.now.functions.now) c.args.context.now.plan.now (WaitsContinuation (g.R.Holds.answers c.args.context.now.functions.now) c.args.context.now.plan.now) (waits_alike (g.R.Holds.answers c.args.context.now.functions.now) c.args.context.now.plan.now (WaitsContinuation (g.R.Holds.answers c.args.context.now.functions.now) c.args.context.now.plan.now) {k = c.args.node.now.value} (λ P L S. c.in-Ok.ensures (g.R.Holds.answers c.args.context.now.functions.now) c.args.context.now.plan.now P L (rw c.deref.ensures S)) c.in_ok-over.ensures) c.stop-in_default-new.ensures.entered c.stop-in_default-new.ensures.height c.stop-in_default-new.ensures.fault
+pub step_observing_copy-returns-in-Err-new : goal.step_observing_copy-returns-in-Err-new
+step_observing_copy-returns-in-Err-new g t c =
+    late_waiting (context_machine g.R.Holds.answers c.args.context.now) (WaitsContinuation (context_machine g.R.Holds.answers c.args.context.now)) (waits_alike (context_machine g.R.Holds.answers c.args.context.now) (WaitsContinuation (context_machine g.R.Holds.answers c.args.context.now)) {k = c.args.node.now.value} (λ P L S. c.in-Ok.ensures (context_machine g.R.Holds.answers c.args.context.now) P L (rw c.deref.ensures S)) c.in_ok-over.ensures) c.stop-in-Err-new.ensures.entered c.stop-in-Err-new.ensures.height c.stop-in-Err-new.ensures.fault
 
 pub step_observing_copy-returns : goal.step_observing_copy-returns
 step_observing_copy-returns g t c =
-    rw c.in-Ok-new.ensures.ok (waits_alike (g.R.Holds.answers c.args.context.now.functions.now) c.args.context.now.plan.now (WaitsContinuation (g.R.Holds.answers c.args.context.now.functions.now) c.args.context.now.plan.now) {k = c.args.node.now.value} (λ P L S. c.in-Ok.ensures (g.R.Holds.answers c.args.context.now.functions.now) c.args.context.now.plan.now P L (rw c.deref.ensures S)) c.in_ok-over.ensures)
+    rw c.in-Ok-new.ensures.ok (waits_alike (context_machine g.R.Holds.answers c.args.context.now) (WaitsContinuation (context_machine g.R.Holds.answers c.args.context.now)) {k = c.args.node.now.value} (λ P L S. c.in-Ok.ensures (context_machine g.R.Holds.answers c.args.context.now) P L (rw c.deref.ensures S)) c.in_ok-over.ensures)
 
 -- ## step_other
 
-pub step_other-returns-in_err-inside-in-Switch : goal.step_other-returns-in_err-inside-in-Switch
-step_other-returns-in_err-inside-in-Switch g t c = λ P L A. pass_exit _ _ c.from_residual.ensures.0 (tick_fails (g.R.Holds.answers c.args.context.now.functions.now) c.args.context.now.plan.now P _ c.in_err-inside-in-Switch.ensures.ticked)
+pub step_other-returns-in_err-inside : goal.step_other-returns-in_err-inside
+step_other-returns-in_err-inside g t c = λ P L A. pass_exit _ _ c.from_residual.ensures.0 (tick_fails (context_machine g.R.Holds.answers c.args.context.now) P _ c.in_err-inside.ensures.ticked)
 
-pub step_other-returns-in_ok-inside-in-Switch : goal.step_other-returns-in_ok-inside-in-Switch
-step_other-returns-in_ok-inside-in-Switch g t c =
-    counted_steps (g.R.Holds.answers c.args.context.now.functions.now) c.args.context.now.plan.now c.args.state.now _ _ (ticked_by c.in_ok-inside-in-Switch.ensures.ticked) (rw c.in-Switch.is (switch_is (g.R.Holds.answers c.args.context.now.functions.now) c.args.context.now.plan.now c.in-Switch.field-0 c.in-Switch.field-1.value)) c.step_counted.ensures
-
-pub step_other-returns-in_err-inside-in-Continuation : goal.step_other-returns-in_err-inside-in-Continuation
-step_other-returns-in_err-inside-in-Continuation g t c = λ P L A. pass_exit _ _ c.from_residual-in_err-inside-in-Continuation.ensures.0 (tick_fails (g.R.Holds.answers c.args.context.now.functions.now) c.args.context.now.plan.now P _ c.in_err-inside-in-Continuation.ensures.ticked)
-
-pub step_other-returns-in_ok-inside-in-Continuation : goal.step_other-returns-in_ok-inside-in-Continuation
-step_other-returns-in_ok-inside-in-Continuation g t c =
-    counted_steps (g.R.Holds.answers c.args.context.now.functions.now) c.args.context.now.plan.now c.args.state.now _ _ (ticked_by c.in_ok-inside-in-Continuation.ensures.ticked) (rw c.in-Continuation.is (continuing_is (g.R.Holds.answers c.args.context.now.functions.now) c.args.context.now.plan.now c.in-Continuation.field-0 c.in-Continuation.field-1.value)) c.step_counted-in-Continuation.ensures
+pub step_other-returns-then-has_lived : goal.step_other-returns-then-has_lived
+step_other-returns-then-has_lived g t c =
+    counted_steps (context_machine g.R.Holds.answers c.args.context.now) c.args.state.now _ _ (ticked_by c.in_ok-inside.ensures.ticked) (awake_is (context_machine g.R.Holds.answers c.args.context.now) c.args.state.now (sym c.has_lived.ensures ∙ c.if-has_lived.true)) c.step_counted.ensures
 
 -- ## step_unborn
 
 pub step_unborn-returns-in_err-inside : goal.step_unborn-returns-in_err-inside
-step_unborn-returns-in_err-inside g t c = λ P L A. pass_exit _ _ c.from_residual.ensures.0 (tick_fails (g.R.Holds.answers c.args.context.now.functions.now) c.args.context.now.plan.now P _ c.in_err-inside.ensures.ticked)
+step_unborn-returns-in_err-inside g t c = λ P L A. pass_exit _ _ c.from_residual.ensures.0 (tick_fails (context_machine g.R.Holds.answers c.args.context.now) P _ c.in_err-inside.ensures.ticked)
 
 pub step_unborn-returns-in-Primitive : goal.step_unborn-returns-in-Primitive
 step_unborn-returns-in-Primitive g t c = λ P L A.
-    first_counted (g.R.Holds.answers c.args.context.now.functions.now) c.args.context.now.plan.now c.in-Unborn.process.term c.in-Unborn.process.names c.args.context.now.dt c.args.value.now (ticked_by c.in_ok-inside.ensures.ticked) _ (rw c.replace-names.ensures.value at (c.first_primitive.ensures _ (rw c.in-Primitive.is at c.node.ensures.builds))) P L (rw c.in-Unborn.is at A)
+    first_counted (context_machine g.R.Holds.answers c.args.context.now) c.in-Unborn.process.term c.in-Unborn.process.names c.args.context.now.dt c.args.value.now (ticked_by c.in_ok-inside.ensures.ticked) _ (rw c.replace-names.ensures.value at (c.first_primitive.ensures _ (rw c.in-Primitive.is at c.node.ensures.builds))) P L (rw c.in-Unborn.is at A)
 
 pub step_unborn-returns-in-Ok-Itself : goal.step_unborn-returns-in-Ok-Itself
 step_unborn-returns-in-Ok-Itself g t c = λ P L A.
-    begun_steps (g.R.Holds.answers c.args.context.now.functions.now) c.args.context.now.plan.now c.in-Unborn.process.term c.in-Unborn.process.names c.args.context.now.dt c.args.value.now (ticked_by c.in_ok-inside.ensures.ticked) c.begin.new.state _ (rw (c.replace-names.ensures.value, c.in-Ok-Itself.field-0-is) at c.in-Ok-Itself.ensures.begins) c.step_counted.ensures P L (rw c.in-Unborn.is at A)
+    begun_steps (context_machine g.R.Holds.answers c.args.context.now) c.in-Unborn.process.term c.in-Unborn.process.names c.args.context.now.dt c.args.value.now (ticked_by c.in_ok-inside.ensures.ticked) c.begin.new.state _ (rw (c.replace-names.ensures.value, c.in-Ok-Itself.field-0-is) at c.in-Ok-Itself.ensures.begins) c.step_counted.ensures P L (rw c.in-Unborn.is at A)
 
 pub step_unborn-returns-in-Ok-Referred : goal.step_unborn-returns-in-Ok-Referred
 step_unborn-returns-in-Ok-Referred g t c = λ P L A.
-    begun_runs (g.R.Holds.answers c.args.context.now.functions.now) c.args.context.now.plan.now c.in-Unborn.process.term c.in-Unborn.process.names c.args.context.now.dt c.args.value.now (ticked_by c.in_ok-inside.ensures.ticked) c.begin.new.state _ (rw (c.replace-names.ensures.value, c.in-Ok-Referred.field-0-is) at c.in-Ok-Referred.ensures.begins) c.step_state.ensures P L (rw c.in-Unborn.is at A)
+    begun_runs (context_machine g.R.Holds.answers c.args.context.now) c.in-Unborn.process.term c.in-Unborn.process.names c.args.context.now.dt c.args.value.now (ticked_by c.in_ok-inside.ensures.ticked) c.begin.new.state _ (rw (c.replace-names.ensures.value, c.in-Ok-Referred.field-0-is) at c.in-Ok-Referred.ensures.begins) c.step_state.ensures P L (rw c.in-Unborn.is at A)
 
 pub step_unborn-returns-in-Err : goal.step_unborn-returns-in-Err
 step_unborn-returns-in-Err g t c = λ P L A.
-    begun_fails (g.R.Holds.answers c.args.context.now.functions.now) c.args.context.now.plan.now c.in-Unborn.process.term c.in-Unborn.process.names c.args.context.now.dt c.args.value.now (ticked_by c.in_ok-inside.ensures.ticked) c.stop.ensures.entered c.stop.ensures.height c.begin.new.state c.in-Err.fault _ c.stop.ensures.fault (rw c.replace-names.ensures.value at c.in-Err.ensures.begins) P L (rw c.in-Unborn.is at A)
+    begun_fails (context_machine g.R.Holds.answers c.args.context.now) c.in-Unborn.process.term c.in-Unborn.process.names c.args.context.now.dt c.args.value.now (ticked_by c.in_ok-inside.ensures.ticked) c.stop.ensures.entered c.stop.ensures.height c.begin.new.state c.in-Err.fault _ c.stop.ensures.fault (rw c.replace-names.ensures.value at c.in-Err.ensures.begins) P L (rw c.in-Unborn.is at A)
 
 -- ## step_switch
 
 pub step_switch-returns-in_err-step_recurring-in-Recurring : goal.step_switch-returns-in_err-step_recurring-in-Recurring
 step_switch-returns-in_err-step_recurring-in-Recurring g t c = λ m depth t T e L N W.
-    pass_beside (g.R.Holds.answers c.args.context.now.functions.now) c.args.context.now.plan.now _ _ _ c.from_residual.ensures.0 (failed (c.in_err-step_recurring-in-Recurring.ensures m depth t T e L N W))
+    pass_beside (context_machine g.R.Holds.answers c.args.context.now) _ _ _ c.from_residual.ensures.0 (failed (c.in_err-step_recurring-in-Recurring.ensures m depth t T e L N W))
 
 -- ## step_basic
 
-pub step_basic-returns-in_default : goal.step_basic-returns-in_default
-step_basic-returns-in_default g t c = λ m depth t T e L N W. early_memory (g.R.Holds.answers c.args.context.now.functions.now) c.args.context.now.plan.now t c.stop.ensures.entered c.stop.ensures.height c.stop.ensures.fault
+pub step_basic-returns-in-Err : goal.step_basic-returns-in-Err
+step_basic-returns-in-Err g t c = λ m depth t T e L N W. early_memory (context_machine g.R.Holds.answers c.args.context.now) t c.stop.ensures.entered c.stop.ensures.height c.stop.ensures.fault
 
 pub step_basic-returns-in_err-step_state : goal.step_basic-returns-in_err-step_state
 step_basic-returns-in_err-step_state g t c = λ m depth t T e L N W.
-    pass_beside (g.R.Holds.answers c.args.context.now.functions.now) c.args.context.now.plan.now _ _ _ c.from_residual.ensures.0 (source_fails (g.R.Holds.answers c.args.context.now.functions.now) c.args.context.now.plan.now c.args.names.now c.args.switch.now (observation_of c.args.switch.now.form) c.requires.form (step c.args.context.now.dt c.args.value.now) c.args.meter.now c.step_state.new.meter c.args.inside
+    pass_beside (context_machine g.R.Holds.answers c.args.context.now) _ _ _ c.from_residual.ensures.0 (source_fails (context_machine g.R.Holds.answers c.args.context.now) c.args.names.now c.args.switch.now (observation_of c.args.switch.now.form) c.requires.form (step c.args.context.now.dt c.args.value.now) c.args.meter.now c.step_state.new.meter c.args.inside
     _ c.in_err-step_state.ensures m depth t T e L N W)
 
-pub step_basic-returns-in_default-value_and_payload : goal.step_basic-returns-in_default-value_and_payload
-step_basic-returns-in_default-value_and_payload g t c = λ m depth t T e L N W.
-    memory_exit c.stop-in_default-value_and_payload.ensures.fault (switch_memory (g.R.Holds.answers c.args.context.now.functions.now) c.args.context.now.plan.now c.args.names.now c.args.switch.now (observation_of c.args.switch.now.form) c.requires.form (step c.args.context.now.dt c.args.value.now) c.args.meter.now c.step_state.new.meter c.args.inside
-    c.step_state.new.state c.step_state.new.value c.in_ok-step_state.ensures _ c.stop-in_default-value_and_payload.ensures.entered c.stop-in_default-value_and_payload.ensures.height m depth t T e L N W)
+pub step_basic-returns-in-Err-value_and_payload : goal.step_basic-returns-in-Err-value_and_payload
+step_basic-returns-in-Err-value_and_payload g t c = λ m depth t T e L N W.
+    memory_exit c.stop-in-Err-value_and_payload.ensures.fault (switch_memory (context_machine g.R.Holds.answers c.args.context.now) c.args.names.now c.args.switch.now (observation_of c.args.switch.now.form) c.requires.form (step c.args.context.now.dt c.args.value.now) c.args.meter.now c.step_state.new.meter c.args.inside
+    c.step_state.new.state c.step_state.new.value c.in_ok-step_state.ensures _ c.stop-in-Err-value_and_payload.ensures.entered c.stop-in-Err-value_and_payload.ensures.height m depth t T e L N W)
 
 pub step_basic-returns-in-None : goal.step_basic-returns-in-None
 step_basic-returns-in-None g t c =
     let y = c.step_state.new.value in
-    switch_waits_on (g.R.Holds.answers c.args.context.now.functions.now) c.args.context.now.plan.now c.args.names.now c.args.switch.now (observation_of c.args.switch.now.form) c.requires.form (step c.args.context.now.dt c.args.value.now) c.args.meter.now c.step_state.new.meter c.args.inside
-    c.step_state.new.state y c.in_ok-step_state.ensures (none_occurs _ c.in-Ok-value_and_payload.occurring (second_of y) c.in-Ok-value_and_payload.ensures.1 c.in-None.is)
-    c.in-Ok-value_and_payload.old c.in-Ok-value_and_payload.ensures.0 _ refl
+    switch_waits_on (context_machine g.R.Holds.answers c.args.context.now) c.args.names.now c.args.switch.now (observation_of c.args.switch.now.form) c.requires.form (step c.args.context.now.dt c.args.value.now) c.args.meter.now c.step_state.new.meter c.args.inside
+    c.step_state.new.state y c.in_ok-step_state.ensures (none_occurs _ c.in-Ok-value_and_payload.value.1 (second_of y) c.in-Ok-value_and_payload.ensures.1 c.in-None.is)
+    c.in-Ok-value_and_payload.value.0 c.in-Ok-value_and_payload.ensures.0 _ refl
 
-pub step_basic-returns-in_default-begin : goal.step_basic-returns-in_default-begin
-step_basic-returns-in_default-begin g t c = λ m depth t T e L N W.
-    memory_exit c.stop-in_default-begin.ensures.fault (switch_memory (g.R.Holds.answers c.args.context.now.functions.now) c.args.context.now.plan.now c.args.names.now c.args.switch.now (observation_of c.args.switch.now.form) c.requires.form (step c.args.context.now.dt c.args.value.now) c.args.meter.now c.step_state.new.meter c.args.inside
-    c.step_state.new.state c.step_state.new.value c.in_ok-step_state.ensures _ c.stop-in_default-begin.ensures.entered c.stop-in_default-begin.ensures.height m depth t T e L N W)
+pub step_basic-returns-in-Err-begin : goal.step_basic-returns-in-Err-begin
+step_basic-returns-in-Err-begin g t c = λ m depth t T e L N W.
+    memory_exit c.stop-in-Err-begin.ensures.fault (switch_memory (context_machine g.R.Holds.answers c.args.context.now) c.args.names.now c.args.switch.now (observation_of c.args.switch.now.form) c.requires.form (step c.args.context.now.dt c.args.value.now) c.args.meter.now c.step_state.new.meter c.args.inside
+    c.step_state.new.state c.step_state.new.value c.in_ok-step_state.ensures _ c.stop-in-Err-begin.ensures.entered c.stop-in-Err-begin.ensures.height m depth t T e L N W)
 
 pub step_basic-returns-in_err-body-in-Some : goal.step_basic-returns-in_err-body-in-Some
 step_basic-returns-in_err-body-in-Some g t c = λ m depth t T e L N W.
     let y = c.step_state.new.value in
-    pass_beside (g.R.Holds.answers c.args.context.now.functions.now) c.args.context.now.plan.now _ _ _ c.from_residual-in_err-body-in-Some.ensures.0 (body_fails (g.R.Holds.answers c.args.context.now.functions.now) c.args.context.now.plan.now c.args.names.now c.args.switch.now (observation_of c.args.switch.now.form) c.requires.form (step c.args.context.now.dt c.args.value.now) c.args.meter.now c.step_state.new.meter c.args.inside
-    c.step_state.new.state y c.in_ok-step_state.ensures c.in-Some.payload.value (some_occurs _ c.in-Ok-value_and_payload.occurring c.in-Some.payload (second_of y) c.in-Ok-value_and_payload.ensures.1 c.in-Some.is)
-    c.in-Ok-begin.body (c.in-Ok-begin.ensures (g.R.Holds.answers c.args.context.now.functions.now)) c.step_begun.new.meter _ (rw c.in-Ok.ensures at c.in_err-body-in-Some.ensures) m depth t T e L N W)
+    pass_beside (context_machine g.R.Holds.answers c.args.context.now) _ _ _ c.from_residual-in_err-body-in-Some.ensures.0 (body_fails (context_machine g.R.Holds.answers c.args.context.now) c.args.names.now c.args.switch.now (observation_of c.args.switch.now.form) c.requires.form (step c.args.context.now.dt c.args.value.now) c.args.meter.now c.step_state.new.meter c.args.inside
+    c.step_state.new.state y c.in_ok-step_state.ensures c.in-Some.payload.value (some_occurs _ c.in-Ok-value_and_payload.value.1 c.in-Some.payload (second_of y) c.in-Ok-value_and_payload.ensures.1 c.in-Some.is)
+    c.in-Ok-begin.value (c.in-Ok-begin.ensures (g.R.Holds.answers c.args.context.now.functions.now)) c.step_begun.new.meter _ (rw c.in-Ok.ensures at c.in_err-body-in-Some.ensures) m depth t T e L N W)
 
 pub step_basic-returns-in_ok-body-in-Some : goal.step_basic-returns-in_ok-body-in-Some
 step_basic-returns-in_ok-body-in-Some g t c =
     let y = c.step_state.new.value in
-    body_takes_over (g.R.Holds.answers c.args.context.now.functions.now) c.args.context.now.plan.now c.args.names.now c.args.switch.now (observation_of c.args.switch.now.form) c.requires.form (step c.args.context.now.dt c.args.value.now) c.args.meter.now c.step_state.new.meter c.args.inside
-    c.step_state.new.state y c.in_ok-step_state.ensures c.in-Some.payload.value (some_occurs _ c.in-Ok-value_and_payload.occurring c.in-Some.payload (second_of y) c.in-Ok-value_and_payload.ensures.1 c.in-Some.is)
-    c.in-Ok-begin.body (c.in-Ok-begin.ensures (g.R.Holds.answers c.args.context.now.functions.now)) c.step_begun.new.meter
+    body_takes_over (context_machine g.R.Holds.answers c.args.context.now) c.args.names.now c.args.switch.now (observation_of c.args.switch.now.form) c.requires.form (step c.args.context.now.dt c.args.value.now) c.args.meter.now c.step_state.new.meter c.args.inside
+    c.step_state.new.state y c.in_ok-step_state.ensures c.in-Some.payload.value (some_occurs _ c.in-Ok-value_and_payload.value.1 c.in-Some.payload (second_of y) c.in-Ok-value_and_payload.ensures.1 c.in-Some.is)
+    c.in-Ok-begin.value (c.in-Ok-begin.ensures (g.R.Holds.answers c.args.context.now.functions.now)) c.step_begun.new.meter
     c.in_ok-body-in-Some.body c.in_ok-body-in-Some.output _ (rw c.shown_by.ensures at c.show.ensures ∙ ap (λ d. switched_value (observation_of c.args.switch.now.form) d c.in_ok-body-in-Some.output) c.in-Ok-value_and_payload.ensures.0) _
     (rw c.in-Ok.ensures at c.in_ok-body-in-Some.ensures)
 
 -- ## step_recurring
 
-pub step_recurring-returns-in_default : goal.step_recurring-returns-in_default
-step_recurring-returns-in_default g t c = λ m depth t T e L N W. early_memory (g.R.Holds.answers c.args.context.now.functions.now) c.args.context.now.plan.now t c.stop.ensures.entered c.stop.ensures.height c.stop.ensures.fault
+pub step_recurring-returns-in-Err : goal.step_recurring-returns-in-Err
+step_recurring-returns-in-Err g t c = λ m depth t T e L N W. early_memory (context_machine g.R.Holds.answers c.args.context.now) t c.stop.ensures.entered c.stop.ensures.height c.stop.ensures.fault
 
 pub step_recurring-returns-in-None : goal.step_recurring-returns-in-None
 step_recurring-returns-in-None g t c =
-    runs_alone (g.R.Holds.answers c.args.context.now.functions.now) c.args.context.now.plan.now c.args.names.now c.args.switch.now (observation_of c.args.switch.now.form) c.requires.form c.args.context.now.dt c.args.value.now c.in-Ok.input c.in-Ok.ensures.0 c.args.meter.now c.step_state.new.meter c.args.inside
-    c.step_state.result c.step_state.new.state c.step_state.new.value (meter_fault c.step_state.new.meter) (none_occurs _ c.in-Ok.occurring (second_of c.args.value.now) c.in-Ok.ensures.1 c.in-None.is)
+    runs_alone (context_machine g.R.Holds.answers c.args.context.now) c.args.names.now c.args.switch.now (observation_of c.args.switch.now.form) c.requires.form c.args.context.now.dt c.args.value.now c.in-Ok.value.0 c.in-Ok.ensures.0 c.args.meter.now c.step_state.new.meter c.args.inside
+    c.step_state.result c.step_state.new.state c.step_state.new.value (meter_fault c.step_state.new.meter) (none_occurs _ c.in-Ok.value.1 (second_of c.args.value.now) c.in-Ok.ensures.1 c.in-None.is)
     _ refl c.step_state.ensures
 
-pub step_recurring-returns-in_default-clone_in : goal.step_recurring-returns-in_default-clone_in
-step_recurring-returns-in_default-clone_in g t c = λ m depth t T e L N W. early_memory (g.R.Holds.answers c.args.context.now.functions.now) c.args.context.now.plan.now t c.stop-in_default-clone_in.ensures.entered c.stop-in_default-clone_in.ensures.height c.stop-in_default-clone_in.ensures.fault
+pub step_recurring-returns-in-Err-clone_in : goal.step_recurring-returns-in-Err-clone_in
+step_recurring-returns-in-Err-clone_in g t c = λ m depth t T e L N W. early_memory (context_machine g.R.Holds.answers c.args.context.now) t c.stop-in-Err-clone_in.ensures.entered c.stop-in-Err-clone_in.ensures.height c.stop-in-Err-clone_in.ensures.fault
 
 pub step_recurring-returns-in_err-step_state-in-Some : goal.step_recurring-returns-in_err-step_state-in-Some
 step_recurring-returns-in_err-step_state-in-Some g t c = λ m depth t T e L N W.
-    pass_exit _ _ c.from_residual.ensures.0 (run_fails (g.R.Holds.answers c.args.context.now.functions.now) c.args.context.now.plan.now c.args.names.now c.args.switch.now (observation_of c.args.switch.now.form) c.requires.form c.args.context.now.dt c.args.value.now c.in-Ok.input c.in-Ok.ensures.0 c.args.meter.now c.step_state-in-Some.new.meter c.args.inside
+    pass_exit _ _ c.from_residual.ensures.0 (run_fails (context_machine g.R.Holds.answers c.args.context.now) c.args.names.now c.args.switch.now (observation_of c.args.switch.now.form) c.requires.form c.args.context.now.dt c.args.value.now c.in-Ok.value.0 c.in-Ok.ensures.0 c.args.meter.now c.step_state-in-Some.new.meter c.args.inside
     _ c.in_err-step_state-in-Some.ensures m depth t T e L N W)
 
-pub step_recurring-returns-in_default-begin : goal.step_recurring-returns-in_default-begin
-step_recurring-returns-in_default-begin g t c = λ m depth t T e L N W.
-    memory_exit c.stop-in_default-begin.ensures.fault (run_memory (g.R.Holds.answers c.args.context.now.functions.now) c.args.context.now.plan.now c.args.names.now c.args.switch.now (observation_of c.args.switch.now.form) c.requires.form c.args.context.now.dt c.args.value.now c.in-Ok.input c.in-Ok.ensures.0 c.args.meter.now c.step_state-in-Some.new.meter c.args.inside
-    c.step_state-in-Some.new.state c.step_state-in-Some.new.value c.in_ok-step_state-in-Some.ensures _ c.stop-in_default-begin.ensures.entered c.stop-in_default-begin.ensures.height m depth t T e L N W)
+pub step_recurring-returns-in-Err-begin : goal.step_recurring-returns-in-Err-begin
+step_recurring-returns-in-Err-begin g t c = λ m depth t T e L N W.
+    memory_exit c.stop-in-Err-begin.ensures.fault (run_memory (context_machine g.R.Holds.answers c.args.context.now) c.args.names.now c.args.switch.now (observation_of c.args.switch.now.form) c.requires.form c.args.context.now.dt c.args.value.now c.in-Ok.value.0 c.in-Ok.ensures.0 c.args.meter.now c.step_state-in-Some.new.meter c.args.inside
+    c.step_state-in-Some.new.state c.step_state-in-Some.new.value c.in_ok-step_state-in-Some.ensures _ c.stop-in-Err-begin.ensures.entered c.stop-in-Err-begin.ensures.height m depth t T e L N W)
 
 pub step_recurring-returns-in_err-body-in-Some : goal.step_recurring-returns-in_err-body-in-Some
 step_recurring-returns-in_err-body-in-Some g t c = λ m depth t T e L N W.
-    pass_exit _ _ c.from_residual-in_err-body-in-Some.ensures.0 (new_fails (g.R.Holds.answers c.args.context.now.functions.now) c.args.context.now.plan.now c.args.names.now c.args.switch.now (observation_of c.args.switch.now.form) c.requires.form c.args.context.now.dt c.args.value.now c.in-Ok.input c.in-Ok.ensures.0 c.args.meter.now c.step_state-in-Some.new.meter c.args.inside
-    c.step_state-in-Some.new.state c.step_state-in-Some.new.value c.in_ok-step_state-in-Some.ensures c.in-Some.payload.value (some_occurs _ c.in-Ok.occurring c.in-Some.payload (second_of c.args.value.now) c.in-Ok.ensures.1 c.in-Some.is)
-    c.in-Ok-begin.body c.in-Ok-clone_in.begun c.in-Ok-clone_in.ensures (c.in-Ok-begin.ensures (g.R.Holds.answers c.args.context.now.functions.now)) c.step_begun.new.meter _ c.in_err-body-in-Some.ensures m depth t T e L N W)
+    pass_exit _ _ c.from_residual-in_err-body-in-Some.ensures.0 (new_fails (context_machine g.R.Holds.answers c.args.context.now) c.args.names.now c.args.switch.now (observation_of c.args.switch.now.form) c.requires.form c.args.context.now.dt c.args.value.now c.in-Ok.value.0 c.in-Ok.ensures.0 c.args.meter.now c.step_state-in-Some.new.meter c.args.inside
+    c.step_state-in-Some.new.state c.step_state-in-Some.new.value c.in_ok-step_state-in-Some.ensures c.in-Some.payload.value (some_occurs _ c.in-Ok.value.1 c.in-Some.payload (second_of c.args.value.now) c.in-Ok.ensures.1 c.in-Some.is)
+    c.in-Ok-begin.value c.in-Ok-clone_in.value c.in-Ok-clone_in.ensures (c.in-Ok-begin.ensures (g.R.Holds.answers c.args.context.now.functions.now)) c.step_begun.new.meter _ c.in_err-body-in-Some.ensures m depth t T e L N W)
 
 pub step_recurring-returns-in_ok-body-in-Some : goal.step_recurring-returns-in_ok-body-in-Some
 step_recurring-returns-in_ok-body-in-Some g t c =
-    new_runs (g.R.Holds.answers c.args.context.now.functions.now) c.args.context.now.plan.now c.args.names.now c.args.switch.now (observation_of c.args.switch.now.form) c.requires.form c.args.context.now.dt c.args.value.now c.in-Ok.input c.in-Ok.ensures.0 c.args.meter.now c.step_state-in-Some.new.meter c.args.inside
-    c.step_state-in-Some.new.state c.step_state-in-Some.new.value c.in_ok-step_state-in-Some.ensures c.in-Some.payload.value (some_occurs _ c.in-Ok.occurring c.in-Some.payload (second_of c.args.value.now) c.in-Ok.ensures.1 c.in-Some.is)
-    c.in-Ok-begin.body c.in-Ok-clone_in.begun c.in-Ok-clone_in.ensures (c.in-Ok-begin.ensures (g.R.Holds.answers c.args.context.now.functions.now)) c.step_begun.new.meter
+    new_runs (context_machine g.R.Holds.answers c.args.context.now) c.args.names.now c.args.switch.now (observation_of c.args.switch.now.form) c.requires.form c.args.context.now.dt c.args.value.now c.in-Ok.value.0 c.in-Ok.ensures.0 c.args.meter.now c.step_state-in-Some.new.meter c.args.inside
+    c.step_state-in-Some.new.state c.step_state-in-Some.new.value c.in_ok-step_state-in-Some.ensures c.in-Some.payload.value (some_occurs _ c.in-Ok.value.1 c.in-Some.payload (second_of c.args.value.now) c.in-Ok.ensures.1 c.in-Some.is)
+    c.in-Ok-begin.value c.in-Ok-clone_in.value c.in-Ok-clone_in.ensures (c.in-Ok-begin.ensures (g.R.Holds.answers c.args.context.now.functions.now)) c.step_begun.new.meter
     c.in_ok-body-in-Some.body c.in_ok-body-in-Some.output _ (rw c.shown_by.ensures at c.show.ensures) _ (ap (λ (a : State). record { form = c.args.switch.now.form; running = a; pattern = c.args.switch.now.pattern; body = c.args.switch.now.body }) c.take_over.ensures) c.in_ok-body-in-Some.ensures
 
 -- ## step_pipeline
 
 pub step_pipeline-loop-stage-init : goal.step_pipeline-loop-stage-init
 step_pipeline-loop-stage-init g t c =
-    let φ = g.R.Holds.answers c.args.context.now.functions.now in
-    let p = c.args.context.now.plan.now in
+    let μ = context_machine g.R.Holds.answers c.args.context.now in
     record {
-      goes_on = continues_first φ p c.deref_mut-stage-items.result.now c.args.context.now.dt c.args.value.now c.args.meter.now c.args.inside;
+      goes_on = continues_first μ c.deref_mut-stage-items.result.now c.args.context.now.dt c.args.value.now c.args.meter.now c.args.inside;
     }
 
 pub step_pipeline-returns-in_err-step_state : goal.step_pipeline-returns-in_err-step_state
 step_pipeline-returns-in_err-step_state g t c = λ m depth t P L R.
-    let φ = g.R.Holds.answers c.args.context.now.functions.now in
-    let p = c.args.context.now.plan.now in
+    let μ = context_machine g.R.Holds.answers c.args.context.now in
     let l = c.loop-stage in
     let f = meter_fault c.step_state.new.meter in
-    let failed = continues_fails φ p _ c.args.context.now.dt c.args.value.now c.args.meter.now l.stage-items l.stage-index l.value l.meter c.args.inside c.stage-item.result (omega (arith, c.loop-stage-test.true, l.auto.stage-items)) l.invariant.goes_on
+    let failed = continues_fails μ _ c.args.context.now.dt c.args.value.now c.args.meter.now l.stage-items l.stage-index l.value l.meter c.args.inside c.stage-item.result (omega (arith, c.loop-stage-test.true, l.auto.stage-items)) l.invariant.goes_on
     f c.step_state.new.meter c.in_err-step_state.ensures in
-    pass_exit _ _ c.from_residual.ensures.0 (pipeline_fails φ p c.args.stages.now c.args.context.now.dt c.args.value.now c.args.meter.now c.step_state.new.meter c.args.inside f
-    (subst (λ bs. StagesStep φ p bs c.args.context.now.dt c.args.value.now (Err f) c.args.meter.now c.step_state.new.meter c.args.inside) c.deref_mut-stage-items.ensures.value failed) m depth t P L R)
+    pass_exit _ _ c.from_residual.ensures.0 (pipeline_fails μ c.args.stages.now c.args.context.now.dt c.args.value.now c.args.meter.now c.step_state.new.meter c.args.inside f
+    (subst (λ bs. StagesStep μ bs c.args.context.now.dt c.args.value.now (Err f) c.args.meter.now c.step_state.new.meter c.args.inside) c.deref_mut-stage-items.ensures.value failed) m depth t P L R)
 
 pub step_pipeline-loop-stage-preserved : goal.step_pipeline-loop-stage-preserved
 step_pipeline-loop-stage-preserved g t c =
-    let φ = g.R.Holds.answers c.args.context.now.functions.now in
-    let p = c.args.context.now.plan.now in
+    let μ = context_machine g.R.Holds.answers c.args.context.now in
     let l = c.loop-stage in
     record {
-      goes_on = continues_next φ p _ c.args.context.now.dt c.args.value.now c.args.meter.now l.stage-items l.stage-index l.value l.meter c.args.inside c.stage-item.result (omega (arith, c.loop-stage-test.true, l.auto.stage-items)) l.invariant.goes_on
+      goes_on = continues_next μ _ c.args.context.now.dt c.args.value.now c.args.meter.now l.stage-items l.stage-index l.value l.meter c.args.inside c.stage-item.result (omega (arith, c.loop-stage-test.true, l.auto.stage-items)) l.invariant.goes_on
           c.step_state.new.state c.step_state.new.value c.step_state.new.meter c.in_ok-step_state.ensures;
     }
 
 pub step_pipeline-returns : goal.step_pipeline-returns
 step_pipeline-returns g t c =
-    let φ = g.R.Holds.answers c.args.context.now.functions.now in
-    let p = c.args.context.now.plan.now in
+    let μ = context_machine g.R.Holds.answers c.args.context.now in
     let l = c.loop-stage in
     let last : l.stage-index ≡ length l.stage-items = omega (arith, l.auto.stage-items, l.auto.stage-index-end, c.loop-stage-test.false) in
     let whole : (with_items c.args.stages.now l.stage-items).items ≡ l.stage-items = with_items_is c.args.stages.now l.stage-items (omega (arith, l.auto.stage-items, ap length c.deref_mut-stage-items.ensures.value)) in
-    let all = continues_last φ p _ c.args.context.now.dt c.args.value.now c.args.meter.now l.stage-items l.stage-index l.value l.meter c.args.inside last l.invariant.goes_on in
-    pipeline_steps φ p c.args.stages.now c.args.context.now.dt c.args.value.now c.args.meter.now l.meter c.args.inside (with_items c.args.stages.now l.stage-items) l.value
-    (rw whole (subst (λ bs. StagesStep φ p bs c.args.context.now.dt c.args.value.now (Ok (l.stage-items, l.value)) c.args.meter.now l.meter c.args.inside) c.deref_mut-stage-items.ensures.value all))
+    let all = continues_last μ _ c.args.context.now.dt c.args.value.now c.args.meter.now l.stage-items l.stage-index l.value l.meter c.args.inside last l.invariant.goes_on in
+    pipeline_steps μ c.args.stages.now c.args.context.now.dt c.args.value.now c.args.meter.now l.meter c.args.inside (with_items c.args.stages.now l.stage-items) l.value
+    (rw whole (subst (λ bs. StagesStep μ bs c.args.context.now.dt c.args.value.now (Ok (l.stage-items, l.value)) c.args.meter.now l.meter c.args.inside) c.deref_mut-stage-items.ensures.value all))
 
 -- ## step_sequence
 
 pub step_sequence-returns-in_err-step_state : goal.step_sequence-returns-in_err-step_state
 step_sequence-returns-in_err-step_state g t c = λ m depth t P L R.
-    pass_exit _ _ c.from_residual.ensures.0 (join_left_fails (g.R.Holds.answers c.args.context.now.functions.now) c.args.context.now.plan.now InSequence c.args.left.now c.args.right.now c.args.meter.now c.step_state.new.meter c.args.inside c.args.context.now.dt c.args.value.now c.args.value.now refl
+    pass_exit _ _ c.from_residual.ensures.0 (join_left_fails (context_machine g.R.Holds.answers c.args.context.now) InSequence c.args.left.now c.args.right.now c.args.meter.now c.step_state.new.meter c.args.inside c.args.context.now.dt c.args.value.now c.args.value.now refl
     _ c.in_err-step_state.ensures m depth t P L R)
 
 pub step_sequence-returns : goal.step_sequence-returns
 step_sequence-returns g t c =
-    join_last (g.R.Holds.answers c.args.context.now.functions.now) c.args.context.now.plan.now InSequence c.args.left.now c.args.right.now c.args.meter.now c.step_state.new.meter c.args.inside c.args.context.now.dt c.args.value.now c.args.value.now refl
+    join_last (context_machine g.R.Holds.answers c.args.context.now) InSequence c.args.left.now c.args.right.now c.args.meter.now c.step_state.new.meter c.args.inside c.args.context.now.dt c.args.value.now c.args.value.now refl
     c.step_state.new.state c.step_state.new.value c.step_state.new.value refl c.in_ok-step_state.ensures
     c.step_state-2.new.meter c.step_state-2.new.state c.step_state-2.new.value c.step_state-2.new.value c.step_state-2.result _ refl c.step_state-2.ensures
 
 -- ## step_parallel
 
-pub step_parallel-returns-in_default : goal.step_parallel-returns-in_default
-step_parallel-returns-in_default g t c = λ m depth t P L R. early_memory (g.R.Holds.answers c.args.context.now.functions.now) c.args.context.now.plan.now t c.stop.ensures.entered c.stop.ensures.height c.stop.ensures.fault
+pub step_parallel-returns-in-Err : goal.step_parallel-returns-in-Err
+step_parallel-returns-in-Err g t c = λ m depth t P L R. early_memory (context_machine g.R.Holds.answers c.args.context.now) t c.stop.ensures.entered c.stop.ensures.height c.stop.ensures.fault
 
-pub step_parallel-returns-in_default-make_mut : goal.step_parallel-returns-in_default-make_mut
-step_parallel-returns-in_default-make_mut g t c = λ m depth t P L R. early_memory (g.R.Holds.answers c.args.context.now.functions.now) c.args.context.now.plan.now t c.stop-in_default-make_mut.ensures.entered c.stop-in_default-make_mut.ensures.height c.stop-in_default-make_mut.ensures.fault
+pub step_parallel-returns-in-Err-make_mut : goal.step_parallel-returns-in-Err-make_mut
+step_parallel-returns-in-Err-make_mut g t c = λ m depth t P L R. early_memory (context_machine g.R.Holds.answers c.args.context.now) t c.stop-in-Err-make_mut.ensures.entered c.stop-in-Err-make_mut.ensures.height c.stop-in-Err-make_mut.ensures.fault
 
 pub step_parallel-returns-in_err-step_state : goal.step_parallel-returns-in_err-step_state
 step_parallel-returns-in_err-step_state g t c = λ m depth t P L R.
-    pass_exit _ _ c.from_residual.ensures.0 (join_left_fails (g.R.Holds.answers c.args.context.now.functions.now) c.args.context.now.plan.now InParallel c.args.left.now c.args.right.now c.args.meter.now c.step_state.new.meter c.args.inside c.args.context.now.dt c.args.value.now _ (ap (λ (p : Pair). p.first) (own_halves c.in-Ok-make_mut.ensures.value) ∙ c.in-Ok.ensures.first ∙ ap first_of c.replace-input.ensures.value)
+    pass_exit _ _ c.from_residual.ensures.0 (join_left_fails (context_machine g.R.Holds.answers c.args.context.now) InParallel c.args.left.now c.args.right.now c.args.meter.now c.step_state.new.meter c.args.inside c.args.context.now.dt c.args.value.now _ (ap (λ (p : Pair). p.first) (own_halves c.in-Ok-make_mut.ensures.value) ∙ c.in-Ok.ensures.first ∙ ap first_of c.replace-input.ensures.value)
     _ c.in_err-step_state.ensures m depth t P L R)
 
 pub step_parallel-returns-in_err-step_state-2 : goal.step_parallel-returns-in_err-step_state-2
 step_parallel-returns-in_err-step_state-2 g t c = λ m depth t P L R.
-    pass_exit _ _ c.from_residual-in_err-step_state-2.ensures.0 (join_right_fails (g.R.Holds.answers c.args.context.now.functions.now) c.args.context.now.plan.now InParallel c.args.left.now c.args.right.now c.args.meter.now c.step_state.new.meter c.args.inside c.args.context.now.dt c.args.value.now _ (ap (λ (p : Pair). p.first) (own_halves c.in-Ok-make_mut.ensures.value) ∙ c.in-Ok.ensures.first ∙ ap first_of c.replace-input.ensures.value)
+    pass_exit _ _ c.from_residual-in_err-step_state-2.ensures.0 (join_right_fails (context_machine g.R.Holds.answers c.args.context.now) InParallel c.args.left.now c.args.right.now c.args.meter.now c.step_state.new.meter c.args.inside c.args.context.now.dt c.args.value.now _ (ap (λ (p : Pair). p.first) (own_halves c.in-Ok-make_mut.ensures.value) ∙ c.in-Ok.ensures.first ∙ ap first_of c.replace-input.ensures.value)
     c.step_state.new.state c.step_state.new.value _ (ap (λ (p : Pair). p.second) (own_halves c.in-Ok-make_mut.ensures.value) ∙ c.in-Ok.ensures.second ∙ ap second_of c.replace-input.ensures.value) c.in_ok-step_state.ensures
     c.step_state-2.new.meter _ c.in_err-step_state-2.ensures m depth t P L R)
 
 pub step_parallel-returns : goal.step_parallel-returns
 step_parallel-returns g t c =
-    join_steps (g.R.Holds.answers c.args.context.now.functions.now) c.args.context.now.plan.now InParallel c.args.left.now c.args.right.now c.args.meter.now c.step_state.new.meter c.args.inside c.args.context.now.dt c.args.value.now _ (ap (λ (p : Pair). p.first) (own_halves c.in-Ok-make_mut.ensures.value) ∙ c.in-Ok.ensures.first ∙ ap first_of c.replace-input.ensures.value)
+    join_steps (context_machine g.R.Holds.answers c.args.context.now) InParallel c.args.left.now c.args.right.now c.args.meter.now c.step_state.new.meter c.args.inside c.args.context.now.dt c.args.value.now _ (ap (λ (p : Pair). p.first) (own_halves c.in-Ok-make_mut.ensures.value) ∙ c.in-Ok.ensures.first ∙ ap first_of c.replace-input.ensures.value)
     c.step_state.new.state c.step_state.new.value _ (ap (λ (p : Pair). p.second) (own_halves c.in-Ok-make_mut.ensures.value) ∙ c.in-Ok.ensures.second ∙ ap second_of c.replace-input.ensures.value) c.in_ok-step_state.ensures
     c.step_state-2.new.meter c.step_state-2.new.state c.step_state-2.new.value c.of_pair.result (c.of_pair.ensures ∙ ap (λ (q : Pair). pair q.first q.second) (c.make_mut.follows.holds _ (there_is c.in-Ok-make_mut.is))) c.in_ok-step_state-2.ensures
 
 -- ## step_fan
 
-pub step_fan-returns-in_default : goal.step_fan-returns-in_default
-step_fan-returns-in_default g t c = λ m depth t P L R. early_memory (g.R.Holds.answers c.args.context.now.functions.now) c.args.context.now.plan.now t c.stop.ensures.entered c.stop.ensures.height c.stop.ensures.fault
+pub step_fan-returns-in-Err : goal.step_fan-returns-in-Err
+step_fan-returns-in-Err g t c = λ m depth t P L R. early_memory (context_machine g.R.Holds.answers c.args.context.now) t c.stop.ensures.entered c.stop.ensures.height c.stop.ensures.fault
 
 pub step_fan-returns-in_err-step_state : goal.step_fan-returns-in_err-step_state
 step_fan-returns-in_err-step_state g t c = λ m depth t P L R.
-    pass_exit _ _ c.from_residual.ensures.0 (join_left_fails (g.R.Holds.answers c.args.context.now.functions.now) c.args.context.now.plan.now FannedOut c.args.left.now c.args.right.now c.args.meter.now c.step_state.new.meter c.args.inside c.args.context.now.dt c.args.value.now c.in-Ok.first c.in-Ok.ensures
+    pass_exit _ _ c.from_residual.ensures.0 (join_left_fails (context_machine g.R.Holds.answers c.args.context.now) FannedOut c.args.left.now c.args.right.now c.args.meter.now c.step_state.new.meter c.args.inside c.args.context.now.dt c.args.value.now c.in-Ok.value c.in-Ok.ensures
     _ c.in_err-step_state.ensures m depth t P L R)
 
 pub step_fan-returns-in_err-step_state-2 : goal.step_fan-returns-in_err-step_state-2
 step_fan-returns-in_err-step_state-2 g t c = λ m depth t P L R.
-    pass_exit _ _ c.from_residual-in_err-step_state-2.ensures.0 (join_right_fails (g.R.Holds.answers c.args.context.now.functions.now) c.args.context.now.plan.now FannedOut c.args.left.now c.args.right.now c.args.meter.now c.step_state.new.meter c.args.inside c.args.context.now.dt c.args.value.now c.in-Ok.first c.in-Ok.ensures
+    pass_exit _ _ c.from_residual-in_err-step_state-2.ensures.0 (join_right_fails (context_machine g.R.Holds.answers c.args.context.now) FannedOut c.args.left.now c.args.right.now c.args.meter.now c.step_state.new.meter c.args.inside c.args.context.now.dt c.args.value.now c.in-Ok.value c.in-Ok.ensures
     c.step_state.new.state c.step_state.new.value c.args.value.now refl c.in_ok-step_state.ensures
     c.step_state-2.new.meter _ c.in_err-step_state-2.ensures m depth t P L R)
 
-pub step_fan-returns-in_default-pair : goal.step_fan-returns-in_default-pair
-step_fan-returns-in_default-pair g t c =
-    late_memory (g.R.Holds.answers c.args.context.now.functions.now) c.args.context.now.plan.now (join_steps (g.R.Holds.answers c.args.context.now.functions.now) c.args.context.now.plan.now FannedOut c.args.left.now c.args.right.now c.args.meter.now c.step_state.new.meter c.args.inside c.args.context.now.dt c.args.value.now c.in-Ok.first c.in-Ok.ensures
+pub step_fan-returns-in-Err-pair : goal.step_fan-returns-in-Err-pair
+step_fan-returns-in-Err-pair g t c =
+    late_memory (context_machine g.R.Holds.answers c.args.context.now) (join_steps (context_machine g.R.Holds.answers c.args.context.now) FannedOut c.args.left.now c.args.right.now c.args.meter.now c.step_state.new.meter c.args.inside c.args.context.now.dt c.args.value.now c.in-Ok.value c.in-Ok.ensures
     c.step_state.new.state c.step_state.new.value c.args.value.now refl c.in_ok-step_state.ensures
     c.step_state-2.new.meter c.step_state-2.new.state c.step_state-2.new.value _ refl c.in_ok-step_state-2.ensures)
-    c.stop-in_default-pair.ensures.entered c.stop-in_default-pair.ensures.height c.stop-in_default-pair.ensures.fault
+    c.stop-in-Err-pair.ensures.entered c.stop-in-Err-pair.ensures.height c.stop-in-Err-pair.ensures.fault
 
 pub step_fan-returns : goal.step_fan-returns
 step_fan-returns g t c =
-    join_steps (g.R.Holds.answers c.args.context.now.functions.now) c.args.context.now.plan.now FannedOut c.args.left.now c.args.right.now c.args.meter.now c.step_state.new.meter c.args.inside c.args.context.now.dt c.args.value.now c.in-Ok.first c.in-Ok.ensures
+    join_steps (context_machine g.R.Holds.answers c.args.context.now) FannedOut c.args.left.now c.args.right.now c.args.meter.now c.step_state.new.meter c.args.inside c.args.context.now.dt c.args.value.now c.in-Ok.value c.in-Ok.ensures
     c.step_state.new.state c.step_state.new.value c.args.value.now refl c.in_ok-step_state.ensures
-    c.step_state-2.new.meter c.step_state-2.new.state c.step_state-2.new.value c.in-Ok-pair.both (rw c.replace-second.ensures.value at c.in-Ok-pair.ensures) c.in_ok-step_state-2.ensures
+    c.step_state-2.new.meter c.step_state-2.new.state c.step_state-2.new.value c.in-Ok-pair.value (rw c.replace-second.ensures.value at c.in-Ok-pair.ensures) c.in_ok-step_state-2.ensures
 
 -- ## step_first
 
-pub step_first-returns-in_default : goal.step_first-returns-in_default
-step_first-returns-in_default g t c = λ m depth t P L R. early_memory (g.R.Holds.answers c.args.context.now.functions.now) c.args.context.now.plan.now t c.stop.ensures.entered c.stop.ensures.height c.stop.ensures.fault
+pub step_first-returns-in-Err : goal.step_first-returns-in-Err
+step_first-returns-in-Err g t c = λ m depth t P L R. early_memory (context_machine g.R.Holds.answers c.args.context.now) t c.stop.ensures.entered c.stop.ensures.height c.stop.ensures.fault
 
-pub step_first-returns-in_default-make_mut : goal.step_first-returns-in_default-make_mut
-step_first-returns-in_default-make_mut g t c = λ m depth t P L R. early_memory (g.R.Holds.answers c.args.context.now.functions.now) c.args.context.now.plan.now t c.stop-in_default-make_mut.ensures.entered c.stop-in_default-make_mut.ensures.height c.stop-in_default-make_mut.ensures.fault
+pub step_first-returns-in-Err-make_mut : goal.step_first-returns-in-Err-make_mut
+step_first-returns-in-Err-make_mut g t c = λ m depth t P L R. early_memory (context_machine g.R.Holds.answers c.args.context.now) t c.stop-in-Err-make_mut.ensures.entered c.stop-in-Err-make_mut.ensures.height c.stop-in-Err-make_mut.ensures.fault
 
 pub step_first-returns-in_err-step_state : goal.step_first-returns-in_err-step_state
 step_first-returns-in_err-step_state g t c = λ m depth t P L R.
-    pass_exit _ _ c.from_residual.ensures.0 (wrap_fails (g.R.Holds.answers c.args.context.now.functions.now) c.args.context.now.plan.now First c.args.part.now c.args.meter.now c.step_state.new.meter c.args.inside c.args.context.now.dt c.args.value.now _ (ap (λ (p : Pair). p.first) (own_halves c.in-Ok-make_mut.ensures.value) ∙ c.in-Ok.ensures.first ∙ ap first_of c.replace-input.ensures.value)
+    pass_exit _ _ c.from_residual.ensures.0 (wrap_fails (context_machine g.R.Holds.answers c.args.context.now) First c.args.part.now c.args.meter.now c.step_state.new.meter c.args.inside c.args.context.now.dt c.args.value.now _ (ap (λ (p : Pair). p.first) (own_halves c.in-Ok-make_mut.ensures.value) ∙ c.in-Ok.ensures.first ∙ ap first_of c.replace-input.ensures.value)
     _ c.in_err-step_state.ensures m depth t P L R)
 
 pub step_first-returns : goal.step_first-returns
 step_first-returns g t c =
-    wrap_steps (g.R.Holds.answers c.args.context.now.functions.now) c.args.context.now.plan.now First c.args.part.now c.args.meter.now c.step_state.new.meter c.args.inside c.args.context.now.dt c.args.value.now _ (ap (λ (p : Pair). p.first) (own_halves c.in-Ok-make_mut.ensures.value) ∙ c.in-Ok.ensures.first ∙ ap first_of c.replace-input.ensures.value)
+    wrap_steps (context_machine g.R.Holds.answers c.args.context.now) First c.args.part.now c.args.meter.now c.step_state.new.meter c.args.inside c.args.context.now.dt c.args.value.now _ (ap (λ (p : Pair). p.first) (own_halves c.in-Ok-make_mut.ensures.value) ∙ c.in-Ok.ensures.first ∙ ap first_of c.replace-input.ensures.value)
     c.step_state.new.state First c.step_state.new.value c.of_pair.result refl (ap answer (rw (ap (λ (p : Pair). p.second) (own_halves c.in-Ok-make_mut.ensures.value) ∙ c.in-Ok.ensures.second ∙ ap second_of c.replace-input.ensures.value) at (c.of_pair.ensures ∙ ap (λ (q : Pair). pair q.first q.second) (c.make_mut.follows.holds _ (there_is c.in-Ok-make_mut.is))))) c.in_ok-step_state.ensures
 
 -- ## step_second
 
-pub step_second-returns-in_default : goal.step_second-returns-in_default
-step_second-returns-in_default g t c = λ m depth t P L R. early_memory (g.R.Holds.answers c.args.context.now.functions.now) c.args.context.now.plan.now t c.stop.ensures.entered c.stop.ensures.height c.stop.ensures.fault
+pub step_second-returns-in-Err : goal.step_second-returns-in-Err
+step_second-returns-in-Err g t c = λ m depth t P L R. early_memory (context_machine g.R.Holds.answers c.args.context.now) t c.stop.ensures.entered c.stop.ensures.height c.stop.ensures.fault
 
-pub step_second-returns-in_default-make_mut : goal.step_second-returns-in_default-make_mut
-step_second-returns-in_default-make_mut g t c = λ m depth t P L R. early_memory (g.R.Holds.answers c.args.context.now.functions.now) c.args.context.now.plan.now t c.stop-in_default-make_mut.ensures.entered c.stop-in_default-make_mut.ensures.height c.stop-in_default-make_mut.ensures.fault
+pub step_second-returns-in-Err-make_mut : goal.step_second-returns-in-Err-make_mut
+step_second-returns-in-Err-make_mut g t c = λ m depth t P L R. early_memory (context_machine g.R.Holds.answers c.args.context.now) t c.stop-in-Err-make_mut.ensures.entered c.stop-in-Err-make_mut.ensures.height c.stop-in-Err-make_mut.ensures.fault
 
 pub step_second-returns-in_err-step_state : goal.step_second-returns-in_err-step_state
 step_second-returns-in_err-step_state g t c = λ m depth t P L R.
-    pass_exit _ _ c.from_residual.ensures.0 (wrap_fails (g.R.Holds.answers c.args.context.now.functions.now) c.args.context.now.plan.now Second c.args.part.now c.args.meter.now c.step_state.new.meter c.args.inside c.args.context.now.dt c.args.value.now _ (ap (λ (p : Pair). p.second) (own_halves c.in-Ok-make_mut.ensures.value) ∙ c.in-Ok.ensures.second ∙ ap second_of c.replace-input.ensures.value)
+    pass_exit _ _ c.from_residual.ensures.0 (wrap_fails (context_machine g.R.Holds.answers c.args.context.now) Second c.args.part.now c.args.meter.now c.step_state.new.meter c.args.inside c.args.context.now.dt c.args.value.now _ (ap (λ (p : Pair). p.second) (own_halves c.in-Ok-make_mut.ensures.value) ∙ c.in-Ok.ensures.second ∙ ap second_of c.replace-input.ensures.value)
     _ c.in_err-step_state.ensures m depth t P L R)
 
 pub step_second-returns : goal.step_second-returns
 step_second-returns g t c =
-    wrap_steps (g.R.Holds.answers c.args.context.now.functions.now) c.args.context.now.plan.now Second c.args.part.now c.args.meter.now c.step_state.new.meter c.args.inside c.args.context.now.dt c.args.value.now _ (ap (λ (p : Pair). p.second) (own_halves c.in-Ok-make_mut.ensures.value) ∙ c.in-Ok.ensures.second ∙ ap second_of c.replace-input.ensures.value)
+    wrap_steps (context_machine g.R.Holds.answers c.args.context.now) Second c.args.part.now c.args.meter.now c.step_state.new.meter c.args.inside c.args.context.now.dt c.args.value.now _ (ap (λ (p : Pair). p.second) (own_halves c.in-Ok-make_mut.ensures.value) ∙ c.in-Ok.ensures.second ∙ ap second_of c.replace-input.ensures.value)
     c.step_state.new.state Second c.step_state.new.value c.of_pair.result refl (ap answer (rw (ap (λ (p : Pair). p.first) (own_halves c.in-Ok-make_mut.ensures.value) ∙ c.in-Ok.ensures.first ∙ ap first_of c.replace-input.ensures.value) at (c.of_pair.ensures ∙ ap (λ (q : Pair). pair q.first q.second) (c.make_mut.follows.holds _ (there_is c.in-Ok-make_mut.is))))) c.in_ok-step_state.ensures
 
 -- ## step_loop
 
-pub step_loop-returns-in_default : goal.step_loop-returns-in_default
-step_loop-returns-in_default g t c = λ m depth t P L R. early_memory (g.R.Holds.answers c.args.context.now.functions.now) c.args.context.now.plan.now t c.stop.ensures.entered c.stop.ensures.height c.stop.ensures.fault
+pub step_loop-returns-in-Err : goal.step_loop-returns-in-Err
+step_loop-returns-in-Err g t c = λ m depth t P L R. early_memory (context_machine g.R.Holds.answers c.args.context.now) t c.stop.ensures.entered c.stop.ensures.height c.stop.ensures.fault
 
 pub step_loop-returns-in_err-step_state : goal.step_loop-returns-in_err-step_state
 step_loop-returns-in_err-step_state g t c = λ m depth t P L R.
-    pass_exit _ _ c.from_residual.ensures.0 (wrap_fails (g.R.Holds.answers c.args.context.now.functions.now) c.args.context.now.plan.now (Loop c.args.feedback.now) c.args.part.now c.args.meter.now c.step_state.new.meter c.args.inside c.args.context.now.dt c.args.value.now c.in-Ok.both c.in-Ok.ensures.both
+    pass_exit _ _ c.from_residual.ensures.0 (wrap_fails (context_machine g.R.Holds.answers c.args.context.now) (Loop c.args.feedback.now) c.args.part.now c.args.meter.now c.step_state.new.meter c.args.inside c.args.context.now.dt c.args.value.now c.in-Ok.value c.in-Ok.ensures.both
     _ c.in_err-step_state.ensures m depth t P L R)
 
-pub step_loop-returns-in-Err : goal.step_loop-returns-in-Err
-step_loop-returns-in-Err g t c =
-    late_memory (g.R.Holds.answers c.args.context.now.functions.now) c.args.context.now.plan.now (wrap_steps (g.R.Holds.answers c.args.context.now.functions.now) c.args.context.now.plan.now (Loop c.args.feedback.now) c.args.part.now c.args.meter.now c.step_state.new.meter c.args.inside c.args.context.now.dt c.args.value.now c.in-Ok.both c.in-Ok.ensures.both
+pub step_loop-returns-in-Err-keep : goal.step_loop-returns-in-Err-keep
+step_loop-returns-in-Err-keep g t c =
+    late_memory (context_machine g.R.Holds.answers c.args.context.now) (wrap_steps (context_machine g.R.Holds.answers c.args.context.now) (Loop c.args.feedback.now) c.args.part.now c.args.meter.now c.step_state.new.meter c.args.inside c.args.context.now.dt c.args.value.now c.in-Ok.value c.in-Ok.ensures.both
     c.step_state.new.state _ c.step_state.new.value _ refl refl c.in_ok-step_state.ensures)
-    c.stop-in-Err.ensures.entered c.stop-in-Err.ensures.height c.stop-in-Err.ensures.fault
+    c.stop-in-Err-keep.ensures.entered c.stop-in-Err-keep.ensures.height c.stop-in-Err-keep.ensures.fault
 
-pub step_loop-returns-in-Ok-keep : goal.step_loop-returns-in-Ok-keep
-step_loop-returns-in-Ok-keep g t c =
-    wrap_steps (g.R.Holds.answers c.args.context.now.functions.now) c.args.context.now.plan.now (Loop c.args.feedback.now) c.args.part.now c.args.meter.now c.step_state.new.meter c.args.inside c.args.context.now.dt c.args.value.now c.in-Ok.both c.in-Ok.ensures.both
+pub step_loop-returns : goal.step_loop-returns
+step_loop-returns g t c =
+    wrap_steps (context_machine g.R.Holds.answers c.args.context.now) (Loop c.args.feedback.now) c.args.part.now c.args.meter.now c.step_state.new.meter c.args.inside c.args.context.now.dt c.args.value.now c.in-Ok.value c.in-Ok.ensures.both
     c.step_state.new.state (Loop c.keep.new.self) c.step_state.new.value c.keep.new.value (ap Loop c.in-Ok-keep.ensures.next) (ap answer c.in-Ok-keep.ensures.output) c.in_ok-step_state.ensures
 
 -- ## step_initialized
 
 pub step_initialized-returns-in_err-step_state : goal.step_initialized-returns-in_err-step_state
 step_initialized-returns-in_err-step_state g t c = λ m depth t P L R.
-    pass_exit _ _ c.from_residual.ensures.0 (wrap_fails (g.R.Holds.answers c.args.context.now.functions.now) c.args.context.now.plan.now (Initialized c.args.first.now) c.args.part.now c.args.meter.now c.step_state.new.meter c.args.inside c.args.context.now.dt c.args.value.now _ refl
+    pass_exit _ _ c.from_residual.ensures.0 (wrap_fails (context_machine g.R.Holds.answers c.args.context.now) (Initialized c.args.first.now) c.args.part.now c.args.meter.now c.step_state.new.meter c.args.inside c.args.context.now.dt c.args.value.now _ refl
     _ c.in_err-step_state.ensures m depth t P L R)
 
 pub step_initialized-returns : goal.step_initialized-returns
 step_initialized-returns g t c =
-    wrap_steps (g.R.Holds.answers c.args.context.now.functions.now) c.args.context.now.plan.now (Initialized c.args.first.now) c.args.part.now c.args.meter.now c.step_state.new.meter c.args.inside c.args.context.now.dt c.args.value.now _ refl
+    wrap_steps (context_machine g.R.Holds.answers c.args.context.now) (Initialized c.args.first.now) c.args.part.now c.args.meter.now c.step_state.new.meter c.args.inside c.args.context.now.dt c.args.value.now _ refl
     c.step_state.new.state (Initialized c.put_first.new.first) c.step_state.new.value c.put_first.new.value (ap Initialized c.put_first.ensures.first) (ap answer c.put_first.ensures.value) c.in_ok-step_state.ensures
 
 -- ## step_replaced
 
 pub step_replaced-returns : goal.step_replaced-returns
 step_replaced-returns g t c =
-    wrap_last (g.R.Holds.answers c.args.context.now.functions.now) c.args.context.now.plan.now (Replaced c.args.initial.now) c.args.part.now c.args.meter.now c.step_state.new.meter c.args.inside c.args.context.now.dt c.args.value.now c.put_first.new.value c.put_first.ensures.value
+    wrap_last (context_machine g.R.Holds.answers c.args.context.now) (Replaced c.args.initial.now) c.args.part.now c.args.meter.now c.step_state.new.meter c.args.inside c.args.context.now.dt c.args.value.now c.put_first.new.value c.put_first.ensures.value
     c.step_state.new.state (Replaced c.put_first.new.first) c.step_state.new.value c.step_state.new.value c.step_state.result _ (ap Replaced c.put_first.ensures.first) refl c.step_state.ensures
 
 -- ## step_followed
 
 pub step_followed-returns-in_err-step_state : goal.step_followed-returns-in_err-step_state
 step_followed-returns-in_err-step_state g t c = λ m depth t P L R.
-    pass_exit _ _ c.from_residual.ensures.0 (wrap_fails (g.R.Holds.answers c.args.context.now.functions.now) c.args.context.now.plan.now (Followed c.args.last.now) c.args.part.now c.args.meter.now c.step_state.new.meter c.args.inside c.args.context.now.dt c.args.value.now _ refl
+    pass_exit _ _ c.from_residual.ensures.0 (wrap_fails (context_machine g.R.Holds.answers c.args.context.now) (Followed c.args.last.now) c.args.part.now c.args.meter.now c.step_state.new.meter c.args.inside c.args.context.now.dt c.args.value.now _ refl
     _ c.in_err-step_state.ensures m depth t P L R)
 
 pub step_followed-returns-in-Ok : goal.step_followed-returns-in-Ok
 step_followed-returns-in-Ok g t c =
-    wrap_steps (g.R.Holds.answers c.args.context.now.functions.now) c.args.context.now.plan.now (Followed c.args.last.now) c.args.part.now c.args.meter.now c.step_state.new.meter c.args.inside c.args.context.now.dt c.args.value.now _ refl
+    wrap_steps (context_machine g.R.Holds.answers c.args.context.now) (Followed c.args.last.now) c.args.part.now c.args.meter.now c.step_state.new.meter c.args.inside c.args.context.now.dt c.args.value.now _ refl
     c.step_state.new.state (Followed c.put_last.new.last) c.step_state.new.value c.put_last.new.value (ap Followed c.in-Ok.ensures.last) (sym (ap worth_given c.in-Ok.ensures.value)) c.in_ok-step_state.ensures
 
 pub step_followed-returns-in-Err : goal.step_followed-returns-in-Err
 step_followed-returns-in-Err g t c =
-    wrap_faults (g.R.Holds.answers c.args.context.now.functions.now) c.args.context.now.plan.now (Followed c.args.last.now) c.args.part.now c.args.meter.now c.step_state.new.meter c.args.inside c.args.context.now.dt c.args.value.now _ refl
+    wrap_faults (context_machine g.R.Holds.answers c.args.context.now) (Followed c.args.last.now) c.args.part.now c.args.meter.now c.step_state.new.meter c.args.inside c.args.context.now.dt c.args.value.now _ refl
     c.step_state.new.state c.step_state.new.value c.in-Err.fault (sym (ap worth_given c.in-Err.ensures.fault)) c.in_ok-step_state.ensures c.stop.ensures.entered c.stop.ensures.height c.stop.ensures.fault
 
 -- ## A switch that keeps its source, and a frozen state
 
-pub step_frozen-returns-in_default-wake : goal.step_frozen-returns-in_default-wake
-step_frozen-returns-in_default-wake g t c = first_memory (g.R.Holds.answers c.args.context.now.functions.now) c.args.context.now.plan.now c.stop.ensures.entered c.stop.ensures.height c.stop.ensures.fault
+pub step_frozen-returns-in-Err : goal.step_frozen-returns-in-Err
+step_frozen-returns-in-Err g t c = first_memory (context_machine g.R.Holds.answers c.args.context.now) c.stop.ensures.entered c.stop.ensures.height c.stop.ensures.fault
 
 pub step_frozen-returns : goal.step_frozen-returns
 step_frozen-returns g t c = λ P L A.
     let r = left_or c.step_state.result (c.step_state.new.state, c.step_state.new.value) (meter_fault c.step_state.new.meter) in
-    frozen_steps (g.R.Holds.answers c.args.context.now.functions.now) c.args.context.now.plan.now _ c.in-Frozen.frozen.value.wait c.in-Frozen.frozen.value.names c.in-Frozen.frozen.value.node c.in-Ok.awake c.args.context.now.dt c.args.value.now r c.args.meter.now c.step_state.new.meter c.args.depth
-    (subst (λ (f : Frozen). (P : Process) (L : Life) → Stands (g.R.Holds.answers c.args.context.now.functions.now) c.args.context.now.plan.now (frozen_state f.names f.node) P L → Stands (g.R.Holds.answers c.args.context.now.functions.now) c.args.context.now.plan.now c.in-Ok.awake P L)
-    c.deref-2.ensures (c.in-Ok.ensures.stands (g.R.Holds.answers c.args.context.now.functions.now) c.args.context.now.plan.now))
-    (subst (λ (f : Frozen). StateSteps (g.R.Holds.answers c.args.context.now.functions.now) c.args.context.now.plan.now c.in-Ok.awake (step f.wait c.args.value.now) r c.args.meter.now c.step_state.new.meter c.args.depth)
+    frozen_steps (context_machine g.R.Holds.answers c.args.context.now) _ c.in-Frozen.frozen.value.wait c.in-Frozen.frozen.value.names c.in-Frozen.frozen.value.node c.in-Ok.value c.args.context.now.dt c.args.value.now r c.args.meter.now c.step_state.new.meter c.args.depth
+    (subst (λ (f : Frozen). (P : Process) (L : Life) → Stands (context_machine g.R.Holds.answers c.args.context.now) (frozen_state f.names f.node) P L → Stands (context_machine g.R.Holds.answers c.args.context.now) c.in-Ok.value P L)
+    c.deref-2.ensures (c.in-Ok.ensures.stands (context_machine g.R.Holds.answers c.args.context.now)))
+    (subst (λ (f : Frozen). StateSteps (context_machine g.R.Holds.answers c.args.context.now) c.in-Ok.value (step f.wait c.args.value.now) r c.args.meter.now c.step_state.new.meter c.args.depth)
     c.deref.ensures c.step_state.ensures) P L (rw c.in-Frozen.is at A)
 
-pub step_continuing-returns-in_default : goal.step_continuing-returns-in_default
-step_continuing-returns-in_default g t c = λ m depth t T e L N W. early_memory (g.R.Holds.answers c.args.context.now.functions.now) c.args.context.now.plan.now t c.stop.ensures.entered c.stop.ensures.height c.stop.ensures.fault
+pub step_continuing-returns-in-Err : goal.step_continuing-returns-in-Err
+step_continuing-returns-in-Err g t c = λ m depth t T e L N W. early_memory (context_machine g.R.Holds.answers c.args.context.now) t c.stop.ensures.entered c.stop.ensures.height c.stop.ensures.fault
 
-pub step_continuing-returns-in_default-copies : goal.step_continuing-returns-in_default-copies
-step_continuing-returns-in_default-copies g t c = λ m depth t T e L N W. early_memory (g.R.Holds.answers c.args.context.now.functions.now) c.args.context.now.plan.now t c.stop-in_default-copies.ensures.entered c.stop-in_default-copies.ensures.height c.stop-in_default-copies.ensures.fault
+pub step_continuing-returns-in-Err-copies : goal.step_continuing-returns-in-Err-copies
+step_continuing-returns-in-Err-copies g t c = λ m depth t T e L N W. early_memory (context_machine g.R.Holds.answers c.args.context.now) t c.stop-in-Err-copies.ensures.entered c.stop-in-Err-copies.ensures.height c.stop-in-Err-copies.ensures.fault
 
 pub step_continuing-returns-in_err-step_state : goal.step_continuing-returns-in_err-step_state
 step_continuing-returns-in_err-step_state g t c = λ m depth t T e L N W.
-    pass_beside (g.R.Holds.answers c.args.context.now.functions.now) c.args.context.now.plan.now _ _ _ c.from_residual.ensures.0 (kept_fails (g.R.Holds.answers c.args.context.now.functions.now) c.args.context.now.plan.now c.args.names.now c.args.continuing.now c.args.context.now.dt c.args.value.now c.args.meter.now c.step_state.new.meter c.args.inside
-    _ (runs_alike (g.R.Holds.answers c.args.context.now.functions.now) c.args.context.now.plan.now (c.in-Ok.ensures.runs_on (g.R.Holds.answers c.args.context.now.functions.now) c.args.context.now.plan.now) c.in_err-step_state.ensures) m depth t T e L N W)
+    pass_beside (context_machine g.R.Holds.answers c.args.context.now) _ _ _ c.from_residual.ensures.0 (kept_fails (context_machine g.R.Holds.answers c.args.context.now) c.args.names.now c.args.continuing.now c.args.context.now.dt c.args.value.now c.args.meter.now c.step_state.new.meter c.args.inside
+    _ (runs_alike (context_machine g.R.Holds.answers c.args.context.now) (c.in-Ok.ensures.runs_on (context_machine g.R.Holds.answers c.args.context.now)) c.in_err-step_state.ensures) m depth t T e L N W)
 
-pub step_continuing-returns-in_default-beside : goal.step_continuing-returns-in_default-beside
-step_continuing-returns-in_default-beside g t c = λ m depth t T e L N W.
-    memory_exit c.stop-in_default-beside.ensures.fault (kept_memory (g.R.Holds.answers c.args.context.now.functions.now) c.args.context.now.plan.now c.args.names.now c.args.continuing.now c.args.context.now.dt c.args.value.now c.args.meter.now c.step_state.new.meter c.args.inside
-    c.step_state.new.state c.step_state.new.value (runs_alike (g.R.Holds.answers c.args.context.now.functions.now) c.args.context.now.plan.now (c.in-Ok.ensures.runs_on (g.R.Holds.answers c.args.context.now.functions.now) c.args.context.now.plan.now) c.in_ok-step_state.ensures) _ c.stop-in_default-beside.ensures.entered c.stop-in_default-beside.ensures.height m depth t T e L N W)
+pub step_continuing-returns-in-Err-beside : goal.step_continuing-returns-in-Err-beside
+step_continuing-returns-in-Err-beside g t c = λ m depth t T e L N W.
+    memory_exit c.stop-in-Err-beside.ensures.fault (kept_memory (context_machine g.R.Holds.answers c.args.context.now) c.args.names.now c.args.continuing.now c.args.context.now.dt c.args.value.now c.args.meter.now c.step_state.new.meter c.args.inside
+    c.step_state.new.state c.step_state.new.value (runs_alike (context_machine g.R.Holds.answers c.args.context.now) (c.in-Ok.ensures.runs_on (context_machine g.R.Holds.answers c.args.context.now)) c.in_ok-step_state.ensures) _ c.stop-in-Err-beside.ensures.entered c.stop-in-Err-beside.ensures.height m depth t T e L N W)
 
 pub step_continuing-returns-in_err-step_state-2 : goal.step_continuing-returns-in_err-step_state-2
 step_continuing-returns-in_err-step_state-2 g t c = λ m depth t T e L N W.
-    pass_beside (g.R.Holds.answers c.args.context.now.functions.now) c.args.context.now.plan.now _ _ _ c.from_residual-in_err-step_state-2.ensures.0 (observer_fails (g.R.Holds.answers c.args.context.now.functions.now) c.args.context.now.plan.now c.args.names.now c.args.continuing.now c.args.context.now.dt c.args.value.now c.args.meter.now c.step_state.new.meter c.args.inside
-    c.step_state.new.state c.step_state.new.value (runs_alike (g.R.Holds.answers c.args.context.now.functions.now) c.args.context.now.plan.now (c.in-Ok.ensures.runs_on (g.R.Holds.answers c.args.context.now.functions.now) c.args.context.now.plan.now) c.in_ok-step_state.ensures) c.in-Ok-beside.seen (rw c.in-Ok-copies.ensures.0 at c.in-Ok-beside.ensures) c.step_state-2.new.meter
+    pass_beside (context_machine g.R.Holds.answers c.args.context.now) _ _ _ c.from_residual-in_err-step_state-2.ensures.0 (observer_fails (context_machine g.R.Holds.answers c.args.context.now) c.args.names.now c.args.continuing.now c.args.context.now.dt c.args.value.now c.args.meter.now c.step_state.new.meter c.args.inside
+    c.step_state.new.state c.step_state.new.value (runs_alike (context_machine g.R.Holds.answers c.args.context.now) (c.in-Ok.ensures.runs_on (context_machine g.R.Holds.answers c.args.context.now)) c.in_ok-step_state.ensures) c.in-Ok-beside.value (rw c.in-Ok-copies.ensures.0 at c.in-Ok-beside.ensures) c.step_state-2.new.meter
     _ c.in_err-step_state-2.ensures m depth t T e L N W)
 
 pub step_continuing-returns-in-None : goal.step_continuing-returns-in-None
 step_continuing-returns-in-None g t c =
-    keeps_on (g.R.Holds.answers c.args.context.now.functions.now) c.args.context.now.plan.now c.args.names.now c.args.continuing.now c.args.context.now.dt c.args.value.now c.args.meter.now c.step_state.new.meter c.args.inside
-    c.step_state.new.state c.step_state.new.value (runs_alike (g.R.Holds.answers c.args.context.now.functions.now) c.args.context.now.plan.now (c.in-Ok.ensures.runs_on (g.R.Holds.answers c.args.context.now.functions.now) c.args.context.now.plan.now) c.in_ok-step_state.ensures) c.in-Ok-beside.seen (rw c.in-Ok-copies.ensures.0 at c.in-Ok-beside.ensures) c.step_state-2.new.meter
+    keeps_on (context_machine g.R.Holds.answers c.args.context.now) c.args.names.now c.args.continuing.now c.args.context.now.dt c.args.value.now c.args.meter.now c.step_state.new.meter c.args.inside
+    c.step_state.new.state c.step_state.new.value (runs_alike (context_machine g.R.Holds.answers c.args.context.now) (c.in-Ok.ensures.runs_on (context_machine g.R.Holds.answers c.args.context.now)) c.in_ok-step_state.ensures) c.in-Ok-beside.value (rw c.in-Ok-copies.ensures.0 at c.in-Ok-beside.ensures) c.step_state-2.new.meter
     c.step_state-2.new.state c.step_state-2.new.value c.in_ok-step_state-2.ensures (none_occurs _ c.payload_of.result c.step_state-2.new.value c.payload_of.ensures c.in-None.is) _ _ refl
 
-pub step_continuing-returns-in_default-begin : goal.step_continuing-returns-in_default-begin
-step_continuing-returns-in_default-begin g t c = λ m depth t T e L N W.
-    memory_exit c.stop-in_default-begin.ensures.fault (observer_memory (g.R.Holds.answers c.args.context.now.functions.now) c.args.context.now.plan.now c.args.names.now c.args.continuing.now c.args.context.now.dt c.args.value.now c.args.meter.now c.step_state.new.meter c.args.inside
-    c.step_state.new.state c.step_state.new.value (runs_alike (g.R.Holds.answers c.args.context.now.functions.now) c.args.context.now.plan.now (c.in-Ok.ensures.runs_on (g.R.Holds.answers c.args.context.now.functions.now) c.args.context.now.plan.now) c.in_ok-step_state.ensures) c.in-Ok-beside.seen (rw c.in-Ok-copies.ensures.0 at c.in-Ok-beside.ensures) c.step_state-2.new.meter
-    c.step_state-2.new.state c.step_state-2.new.value c.in_ok-step_state-2.ensures _ c.stop-in_default-begin.ensures.entered c.stop-in_default-begin.ensures.height m depth t T e L N W)
+pub step_continuing-returns-in-Err-begin : goal.step_continuing-returns-in-Err-begin
+step_continuing-returns-in-Err-begin g t c = λ m depth t T e L N W.
+    memory_exit c.stop-in-Err-begin.ensures.fault (observer_memory (context_machine g.R.Holds.answers c.args.context.now) c.args.names.now c.args.continuing.now c.args.context.now.dt c.args.value.now c.args.meter.now c.step_state.new.meter c.args.inside
+    c.step_state.new.state c.step_state.new.value (runs_alike (context_machine g.R.Holds.answers c.args.context.now) (c.in-Ok.ensures.runs_on (context_machine g.R.Holds.answers c.args.context.now)) c.in_ok-step_state.ensures) c.in-Ok-beside.value (rw c.in-Ok-copies.ensures.0 at c.in-Ok-beside.ensures) c.step_state-2.new.meter
+    c.step_state-2.new.state c.step_state-2.new.value c.in_ok-step_state-2.ensures _ c.stop-in-Err-begin.ensures.entered c.stop-in-Err-begin.ensures.height m depth t T e L N W)
 
 pub step_continuing-returns-in_err-successor-in-Some : goal.step_continuing-returns-in_err-successor-in-Some
 step_continuing-returns-in_err-successor-in-Some g t c = λ m depth t T e L N W.
-    pass_beside (g.R.Holds.answers c.args.context.now.functions.now) c.args.context.now.plan.now _ _ _ c.from_residual-in_err-successor-in-Some.ensures.0 (kept_body_fails (g.R.Holds.answers c.args.context.now.functions.now) c.args.context.now.plan.now c.args.names.now c.args.continuing.now c.args.context.now.dt c.args.value.now c.args.meter.now c.step_state.new.meter c.args.inside
-    c.step_state.new.state c.step_state.new.value (runs_alike (g.R.Holds.answers c.args.context.now.functions.now) c.args.context.now.plan.now (c.in-Ok.ensures.runs_on (g.R.Holds.answers c.args.context.now.functions.now) c.args.context.now.plan.now) c.in_ok-step_state.ensures) c.in-Ok-beside.seen (rw c.in-Ok-copies.ensures.0 at c.in-Ok-beside.ensures) c.step_state-2.new.meter
+    pass_beside (context_machine g.R.Holds.answers c.args.context.now) _ _ _ c.from_residual-in_err-successor-in-Some.ensures.0 (kept_body_fails (context_machine g.R.Holds.answers c.args.context.now) c.args.names.now c.args.continuing.now c.args.context.now.dt c.args.value.now c.args.meter.now c.step_state.new.meter c.args.inside
+    c.step_state.new.state c.step_state.new.value (runs_alike (context_machine g.R.Holds.answers c.args.context.now) (c.in-Ok.ensures.runs_on (context_machine g.R.Holds.answers c.args.context.now)) c.in_ok-step_state.ensures) c.in-Ok-beside.value (rw c.in-Ok-copies.ensures.0 at c.in-Ok-beside.ensures) c.step_state-2.new.meter
     c.step_state-2.new.state c.step_state-2.new.value c.in_ok-step_state-2.ensures c.in-Some.payload.value (some_occurs _ c.payload_of.result c.in-Some.payload c.step_state-2.new.value c.payload_of.ensures c.in-Some.is)
-    c.in-Ok-begin.successor (rw c.in-Ok.ensures.held at (c.in-Ok-begin.ensures (g.R.Holds.answers c.args.context.now.functions.now))) c.in-Ok-copies.output c.in-Ok-copies.ensures.1 c.step_begun.new.meter _ c.in_err-successor-in-Some.ensures m depth t T e L N W)
+    c.in-Ok-begin.value (rw c.in-Ok.ensures.held at (c.in-Ok-begin.ensures (g.R.Holds.answers c.args.context.now.functions.now))) c.in-Ok-copies.value.1 c.in-Ok-copies.ensures.1 c.step_begun.new.meter _ c.in_err-successor-in-Some.ensures m depth t T e L N W)
 
 pub step_continuing-returns-in_ok-successor-in-Some : goal.step_continuing-returns-in_ok-successor-in-Some
 step_continuing-returns-in_ok-successor-in-Some g t c =
-    continuation_takes_over (g.R.Holds.answers c.args.context.now.functions.now) c.args.context.now.plan.now c.args.names.now c.args.continuing.now c.args.context.now.dt c.args.value.now c.args.meter.now c.step_state.new.meter c.args.inside
-    c.step_state.new.state c.step_state.new.value (runs_alike (g.R.Holds.answers c.args.context.now.functions.now) c.args.context.now.plan.now (c.in-Ok.ensures.runs_on (g.R.Holds.answers c.args.context.now.functions.now) c.args.context.now.plan.now) c.in_ok-step_state.ensures) c.in-Ok-beside.seen (rw c.in-Ok-copies.ensures.0 at c.in-Ok-beside.ensures) c.step_state-2.new.meter
+    continuation_takes_over (context_machine g.R.Holds.answers c.args.context.now) c.args.names.now c.args.continuing.now c.args.context.now.dt c.args.value.now c.args.meter.now c.step_state.new.meter c.args.inside
+    c.step_state.new.state c.step_state.new.value (runs_alike (context_machine g.R.Holds.answers c.args.context.now) (c.in-Ok.ensures.runs_on (context_machine g.R.Holds.answers c.args.context.now)) c.in_ok-step_state.ensures) c.in-Ok-beside.value (rw c.in-Ok-copies.ensures.0 at c.in-Ok-beside.ensures) c.step_state-2.new.meter
     c.step_state-2.new.state c.step_state-2.new.value c.in_ok-step_state-2.ensures c.in-Some.payload.value (some_occurs _ c.payload_of.result c.in-Some.payload c.step_state-2.new.value c.payload_of.ensures c.in-Some.is)
-    c.in-Ok-begin.successor (rw c.in-Ok.ensures.held at (c.in-Ok-begin.ensures (g.R.Holds.answers c.args.context.now.functions.now))) c.in-Ok-copies.output c.in-Ok-copies.ensures.1 c.step_begun.new.meter
+    c.in-Ok-begin.value (rw c.in-Ok.ensures.held at (c.in-Ok-begin.ensures (g.R.Holds.answers c.args.context.now.functions.now))) c.in-Ok-copies.value.1 c.in-Ok-copies.ensures.1 c.step_begun.new.meter
     c.in_ok-successor-in-Some.successor c.in_ok-successor-in-Some.output _ c.show.ensures _ c.in_ok-successor-in-Some.ensures
 
 -- ## Members that wait
 
-pub step_other-returns-in_err-inside-in-Gathering : goal.step_other-returns-in_err-inside-in-Gathering
-step_other-returns-in_err-inside-in-Gathering g t c = λ P L A. pass_exit _ _ c.from_residual-in_err-inside-in-Gathering.ensures.0 (tick_fails (g.R.Holds.answers c.args.context.now.functions.now) c.args.context.now.plan.now P _ c.in_err-inside-in-Gathering.ensures.ticked)
-
-pub step_other-returns-in_ok-inside-in-Gathering : goal.step_other-returns-in_ok-inside-in-Gathering
-step_other-returns-in_ok-inside-in-Gathering g t c =
-    counted_steps (g.R.Holds.answers c.args.context.now.functions.now) c.args.context.now.plan.now c.args.state.now _ _ (ticked_by c.in_ok-inside-in-Gathering.ensures.ticked) (rw c.in-Gathering.is (gathering_is (g.R.Holds.answers c.args.context.now.functions.now) c.args.context.now.plan.now c.in-Gathering.field-0 c.in-Gathering.field-1.value)) c.step_counted-in-Gathering.ensures
-
 pub step_counted-returns-in_err-released-in-Gathering : goal.step_counted-returns-in_err-released-in-Gathering
 step_counted-returns-in_err-released-in-Gathering g t c = λ m depth t P L A.
-    pass_exit _ _ c.from_residual-in_err-released-in-Gathering.ensures.0 (failed (gathering_fails (g.R.Holds.answers c.args.context.now.functions.now) c.args.context.now.plan.now _ c.in-Gathering.names c.in-Gathering.node.value c.in-Gathering.node.value (λ P L S. S)
+    pass_exit _ _ c.from_residual-in_err-released-in-Gathering.ensures.0 (failed (gathering_fails (context_machine g.R.Holds.answers c.args.context.now) _ c.in-Gathering.names c.in-Gathering.node.value c.in-Gathering.node.value (λ P L S. S)
     (step c.args.context.now.dt c.args.value.now) c.args.meter.now c.step_gathering.new.meter c.args.inside _ c.in_err-released-in-Gathering.ensures m depth t P L (rw c.in-Gathering.is at A)))
 
 pub step_counted-returns-in_ok-released-in-Gathering : goal.step_counted-returns-in_ok-released-in-Gathering
 step_counted-returns-in_ok-released-in-Gathering g t c = λ m depth t P L A.
-    gathering_turns (g.R.Holds.answers c.args.context.now.functions.now) c.args.context.now.plan.now _ c.in-Gathering.names c.in-Gathering.node.value c.in-Gathering.node.value (λ P L S. S) (step c.args.context.now.dt c.args.value.now) c.args.meter.now c.step_gathering.new.meter c.args.inside
+    gathering_turns (context_machine g.R.Holds.answers c.args.context.now) _ c.in-Gathering.names c.in-Gathering.node.value c.in-Gathering.node.value (λ P L S. S) (step c.args.context.now.dt c.args.value.now) c.args.meter.now c.step_gathering.new.meter c.args.inside
     _ c.in_ok-released-in-Gathering.released c.step_gathering.new.node.value c.step_gathering.new.value _ c.take_over-in-Gathering.ensures c.in_ok-released-in-Gathering.ensures m depth t P L (rw c.in-Gathering.is at A)
 
 pub step_gathering-returns-in-Some : goal.step_gathering-returns-in-Some
@@ -578,203 +561,191 @@ step_gathering-returns-in-Some g t c = λ m depth t T e L N W. c.step_members_wa
 pub step_gathering-returns-in-None : goal.step_gathering-returns-in-None
 step_gathering-returns-in-None g t c = c.step_gathering_copy.ensures
 
-pub step_gathering_copy-returns-in_default : goal.step_gathering_copy-returns-in_default
-step_gathering_copy-returns-in_default g t c = λ m depth t T e L N W. early_memory (g.R.Holds.answers c.args.context.now.functions.now) c.args.context.now.plan.now t c.stop.ensures.entered c.stop.ensures.height c.stop.ensures.fault
+pub step_gathering_copy-returns-in-Err : goal.step_gathering_copy-returns-in-Err
+step_gathering_copy-returns-in-Err g t c = λ m depth t T e L N W. early_memory (context_machine g.R.Holds.answers c.args.context.now) t c.stop.ensures.entered c.stop.ensures.height c.stop.ensures.fault
 
 pub step_gathering_copy-returns-in_err-over : goal.step_gathering_copy-returns-in_err-over
 step_gathering_copy-returns-in_err-over g t c = λ m depth t T e L N W.
-    pass_beside (g.R.Holds.answers c.args.context.now.functions.now) c.args.context.now.plan.now _ _ _ c.from_residual.ensures.0 (failed (waits_alike (g.R.Holds.answers c.args.context.now.functions.now) c.args.context.now.plan.now (WaitsGathered (g.R.Holds.answers c.args.context.now.functions.now) c.args.context.now.plan.now) {k = c.args.node.now.value} (λ P L S. c.in-Ok.ensures (g.R.Holds.answers c.args.context.now.functions.now) c.args.context.now.plan.now P L (rw c.deref.ensures S)) c.in_err-over.ensures m depth t T e L N W))
+    pass_beside (context_machine g.R.Holds.answers c.args.context.now) _ _ _ c.from_residual.ensures.0 (failed (waits_alike (context_machine g.R.Holds.answers c.args.context.now) (WaitsGathered (context_machine g.R.Holds.answers c.args.context.now)) {k = c.args.node.now.value} (λ P L S. c.in-Ok.ensures (context_machine g.R.Holds.answers c.args.context.now) P L (rw c.deref.ensures S)) c.in_err-over.ensures m depth t T e L N W))
 
-pub step_gathering_copy-returns-in_default-new : goal.step_gathering_copy-returns-in_default-new
-step_gathering_copy-returns-in_default-new g t c =
-    late_waiting (g.R.Holds.answers c.args.context.now.functions.now) c.args.context.now.plan.now (WaitsGathered (g.R.Holds.answers c.args.context.now.functions.now) c.args.context.now.plan.now) (waits_alike (g.R.Holds.answers c.args.context.now.functions.now) c.args.context.now.plan.now (WaitsGathered (g.R.Holds.answers c.args.context.now.functions.now) c.args.context.now.plan.now) {k = c.args.node.now.value} (λ P L S. c.in-Ok.ensures (g.R.Holds.answers c.args.context.now.functions.now) c.args.context.now.plan.now P L (rw c.deref.ensures S)) c.in_ok-over.ensures) c.stop-in_default-new.ensures.entered c.stop-in_default-new.ensures.height c.stop-in_default-new.ensures.fault
+pub step_gathering_copy-returns-in-Err-new : goal.step_gathering_copy-returns-in-Err-new
+step_gathering_copy-returns-in-Err-new g t c =
+    late_waiting (context_machine g.R.Holds.answers c.args.context.now) (WaitsGathered (context_machine g.R.Holds.answers c.args.context.now)) (waits_alike (context_machine g.R.Holds.answers c.args.context.now) (WaitsGathered (context_machine g.R.Holds.answers c.args.context.now)) {k = c.args.node.now.value} (λ P L S. c.in-Ok.ensures (context_machine g.R.Holds.answers c.args.context.now) P L (rw c.deref.ensures S)) c.in_ok-over.ensures) c.stop-in-Err-new.ensures.entered c.stop-in-Err-new.ensures.height c.stop-in-Err-new.ensures.fault
 
 pub step_gathering_copy-returns : goal.step_gathering_copy-returns
 step_gathering_copy-returns g t c =
-    rw c.in-Ok-new.ensures.ok (waits_alike (g.R.Holds.answers c.args.context.now.functions.now) c.args.context.now.plan.now (WaitsGathered (g.R.Holds.answers c.args.context.now.functions.now) c.args.context.now.plan.now) {k = c.args.node.now.value} (λ P L S. c.in-Ok.ensures (g.R.Holds.answers c.args.context.now.functions.now) c.args.context.now.plan.now P L (rw c.deref.ensures S)) c.in_ok-over.ensures)
+    rw c.in-Ok-new.ensures.ok (waits_alike (context_machine g.R.Holds.answers c.args.context.now) (WaitsGathered (context_machine g.R.Holds.answers c.args.context.now)) {k = c.args.node.now.value} (λ P L S. c.in-Ok.ensures (context_machine g.R.Holds.answers c.args.context.now) P L (rw c.deref.ensures S)) c.in_ok-over.ensures)
 
 -- ## step_edited
 
 pub step_edited-returns-in_err-step_editing : goal.step_edited-returns-in_err-step_editing
 step_edited-returns-in_err-step_editing g t c = λ m depth t T e L N W.
-    pass_beside (g.R.Holds.answers c.args.context.now.functions.now) c.args.context.now.plan.now _ _ _ c.from_residual.ensures.0 (failed (c.in_err-step_editing.ensures m depth t T e L N W))
+    pass_beside (context_machine g.R.Holds.answers c.args.context.now) _ _ _ c.from_residual.ensures.0 (failed (c.in_err-step_editing.ensures m depth t T e L N W))
 
 -- ## step_releasing
 
-pub step_releasing-returns-in_default : goal.step_releasing-returns-in_default
-step_releasing-returns-in_default g t c = λ m depth t T e L N W. early_memory (g.R.Holds.answers c.args.context.now.functions.now) c.args.context.now.plan.now t c.stop.ensures.entered c.stop.ensures.height c.stop.ensures.fault
+pub step_releasing-returns-in-Err : goal.step_releasing-returns-in-Err
+step_releasing-returns-in-Err g t c = λ m depth t T e L N W. early_memory (context_machine g.R.Holds.answers c.args.context.now) t c.stop.ensures.entered c.stop.ensures.height c.stop.ensures.fault
 
-pub step_releasing-returns-in_default-copies : goal.step_releasing-returns-in_default-copies
-step_releasing-returns-in_default-copies g t c = λ m depth t T e L N W. early_memory (g.R.Holds.answers c.args.context.now.functions.now) c.args.context.now.plan.now t c.stop-in_default-copies.ensures.entered c.stop-in_default-copies.ensures.height c.stop-in_default-copies.ensures.fault
+pub step_releasing-returns-in-Err-copies : goal.step_releasing-returns-in-Err-copies
+step_releasing-returns-in-Err-copies g t c = λ m depth t T e L N W. early_memory (context_machine g.R.Holds.answers c.args.context.now) t c.stop-in-Err-copies.ensures.entered c.stop-in-Err-copies.ensures.height c.stop-in-Err-copies.ensures.fault
 
 pub step_releasing-returns-in_err-step_members : goal.step_releasing-returns-in_err-step_members
 step_releasing-returns-in_err-step_members g t c = λ m depth t T e L N W.
-    pass_beside (g.R.Holds.answers c.args.context.now.functions.now) c.args.context.now.plan.now _ _ _ c.from_residual.ensures.0 (members_stop (g.R.Holds.answers c.args.context.now.functions.now) c.args.context.now.plan.now c.args.names.now c.args.releasing.now c.args.context.now.dt c.args.value.now c.args.meter.now c.step_members.new.meter c.args.inside
-    _ (run_alike (g.R.Holds.answers c.args.context.now.functions.now) c.args.context.now.plan.now c.args.releasing.now.members c.hold_back_members.new.members (c.in-Ok.ensures.runs_on (g.R.Holds.answers c.args.context.now.functions.now) c.args.context.now.plan.now) c.in_err-step_members.ensures) m depth t T e L N W)
+    pass_beside (context_machine g.R.Holds.answers c.args.context.now) _ _ _ c.from_residual.ensures.0 (members_stop (context_machine g.R.Holds.answers c.args.context.now) c.args.names.now c.args.releasing.now c.args.context.now.dt c.args.value.now c.args.meter.now c.step_members.new.meter c.args.inside
+    _ (run_alike (context_machine g.R.Holds.answers c.args.context.now) c.args.releasing.now.members c.hold_back_members.new.members (c.in-Ok.ensures.runs_on (context_machine g.R.Holds.answers c.args.context.now)) c.in_err-step_members.ensures) m depth t T e L N W)
 
-pub step_releasing-returns-in_default-beside : goal.step_releasing-returns-in_default-beside
-step_releasing-returns-in_default-beside g t c = λ m depth t T e L N W.
-    memory_exit c.stop-in_default-beside.ensures.fault (members_memory (g.R.Holds.answers c.args.context.now.functions.now) c.args.context.now.plan.now c.args.names.now c.args.releasing.now c.args.context.now.dt c.args.value.now c.args.meter.now c.step_members.new.meter c.args.inside
-    c.step_members.new.members c.step_members.new.value (run_alike (g.R.Holds.answers c.args.context.now.functions.now) c.args.context.now.plan.now c.args.releasing.now.members c.hold_back_members.new.members (c.in-Ok.ensures.runs_on (g.R.Holds.answers c.args.context.now.functions.now) c.args.context.now.plan.now) c.in_ok-step_members.ensures) _ c.stop-in_default-beside.ensures.entered c.stop-in_default-beside.ensures.height m depth t T e L N W)
+pub step_releasing-returns-in-Err-beside : goal.step_releasing-returns-in-Err-beside
+step_releasing-returns-in-Err-beside g t c = λ m depth t T e L N W.
+    memory_exit c.stop-in-Err-beside.ensures.fault (members_memory (context_machine g.R.Holds.answers c.args.context.now) c.args.names.now c.args.releasing.now c.args.context.now.dt c.args.value.now c.args.meter.now c.step_members.new.meter c.args.inside
+    c.step_members.new.members c.step_members.new.value (run_alike (context_machine g.R.Holds.answers c.args.context.now) c.args.releasing.now.members c.hold_back_members.new.members (c.in-Ok.ensures.runs_on (context_machine g.R.Holds.answers c.args.context.now)) c.in_ok-step_members.ensures) _ c.stop-in-Err-beside.ensures.entered c.stop-in-Err-beside.ensures.height m depth t T e L N W)
 
 pub step_releasing-returns-in_err-step_state : goal.step_releasing-returns-in_err-step_state
 step_releasing-returns-in_err-step_state g t c = λ m depth t T e L N W.
-    pass_beside (g.R.Holds.answers c.args.context.now.functions.now) c.args.context.now.plan.now _ _ _ c.from_residual-in_err-step_state.ensures.0 (sight_fails (g.R.Holds.answers c.args.context.now.functions.now) c.args.context.now.plan.now c.args.names.now c.args.releasing.now c.args.context.now.dt c.args.value.now c.args.meter.now c.step_members.new.meter c.args.inside
-    c.step_members.new.members c.step_members.new.value (run_alike (g.R.Holds.answers c.args.context.now.functions.now) c.args.context.now.plan.now c.args.releasing.now.members c.hold_back_members.new.members (c.in-Ok.ensures.runs_on (g.R.Holds.answers c.args.context.now.functions.now) c.args.context.now.plan.now) c.in_ok-step_members.ensures) c.in-Ok-beside.seen (rw c.in-Ok-copies.ensures.0 at c.in-Ok-beside.ensures) c.step_state.new.meter
+    pass_beside (context_machine g.R.Holds.answers c.args.context.now) _ _ _ c.from_residual-in_err-step_state.ensures.0 (sight_fails (context_machine g.R.Holds.answers c.args.context.now) c.args.names.now c.args.releasing.now c.args.context.now.dt c.args.value.now c.args.meter.now c.step_members.new.meter c.args.inside
+    c.step_members.new.members c.step_members.new.value (run_alike (context_machine g.R.Holds.answers c.args.context.now) c.args.releasing.now.members c.hold_back_members.new.members (c.in-Ok.ensures.runs_on (context_machine g.R.Holds.answers c.args.context.now)) c.in_ok-step_members.ensures) c.in-Ok-beside.value (rw c.in-Ok-copies.ensures.0 at c.in-Ok-beside.ensures) c.step_state.new.meter
     _ c.in_err-step_state.ensures m depth t T e L N W)
 
 pub step_releasing-returns-in-None : goal.step_releasing-returns-in-None
 step_releasing-returns-in-None g t c =
-    members_go_on (g.R.Holds.answers c.args.context.now.functions.now) c.args.context.now.plan.now c.args.names.now c.args.releasing.now c.args.context.now.dt c.args.value.now c.args.meter.now c.step_members.new.meter c.args.inside
-    c.step_members.new.members c.step_members.new.value (run_alike (g.R.Holds.answers c.args.context.now.functions.now) c.args.context.now.plan.now c.args.releasing.now.members c.hold_back_members.new.members (c.in-Ok.ensures.runs_on (g.R.Holds.answers c.args.context.now.functions.now) c.args.context.now.plan.now) c.in_ok-step_members.ensures) c.in-Ok-beside.seen (rw c.in-Ok-copies.ensures.0 at c.in-Ok-beside.ensures) c.step_state.new.meter
+    members_go_on (context_machine g.R.Holds.answers c.args.context.now) c.args.names.now c.args.releasing.now c.args.context.now.dt c.args.value.now c.args.meter.now c.step_members.new.meter c.args.inside
+    c.step_members.new.members c.step_members.new.value (run_alike (context_machine g.R.Holds.answers c.args.context.now) c.args.releasing.now.members c.hold_back_members.new.members (c.in-Ok.ensures.runs_on (context_machine g.R.Holds.answers c.args.context.now)) c.in_ok-step_members.ensures) c.in-Ok-beside.value (rw c.in-Ok-copies.ensures.0 at c.in-Ok-beside.ensures) c.step_state.new.meter
     c.step_state.new.state c.step_state.new.value c.in_ok-step_state.ensures (none_occurs _ c.payload_of.result c.step_state.new.value c.payload_of.ensures c.in-None.is) _ _ refl
 
-pub step_releasing-returns-in_default-begin : goal.step_releasing-returns-in_default-begin
-step_releasing-returns-in_default-begin g t c = λ m depth t T e L N W.
-    memory_exit c.stop-in_default-begin.ensures.fault (sight_memory (g.R.Holds.answers c.args.context.now.functions.now) c.args.context.now.plan.now c.args.names.now c.args.releasing.now c.args.context.now.dt c.args.value.now c.args.meter.now c.step_members.new.meter c.args.inside
-    c.step_members.new.members c.step_members.new.value (run_alike (g.R.Holds.answers c.args.context.now.functions.now) c.args.context.now.plan.now c.args.releasing.now.members c.hold_back_members.new.members (c.in-Ok.ensures.runs_on (g.R.Holds.answers c.args.context.now.functions.now) c.args.context.now.plan.now) c.in_ok-step_members.ensures) c.in-Ok-beside.seen (rw c.in-Ok-copies.ensures.0 at c.in-Ok-beside.ensures) c.step_state.new.meter
-    c.step_state.new.state c.step_state.new.value c.in_ok-step_state.ensures _ c.stop-in_default-begin.ensures.entered c.stop-in_default-begin.ensures.height m depth t T e L N W)
+pub step_releasing-returns-in-Err-begin : goal.step_releasing-returns-in-Err-begin
+step_releasing-returns-in-Err-begin g t c = λ m depth t T e L N W.
+    memory_exit c.stop-in-Err-begin.ensures.fault (sight_memory (context_machine g.R.Holds.answers c.args.context.now) c.args.names.now c.args.releasing.now c.args.context.now.dt c.args.value.now c.args.meter.now c.step_members.new.meter c.args.inside
+    c.step_members.new.members c.step_members.new.value (run_alike (context_machine g.R.Holds.answers c.args.context.now) c.args.releasing.now.members c.hold_back_members.new.members (c.in-Ok.ensures.runs_on (context_machine g.R.Holds.answers c.args.context.now)) c.in_ok-step_members.ensures) c.in-Ok-beside.value (rw c.in-Ok-copies.ensures.0 at c.in-Ok-beside.ensures) c.step_state.new.meter
+    c.step_state.new.state c.step_state.new.value c.in_ok-step_state.ensures _ c.stop-in-Err-begin.ensures.entered c.stop-in-Err-begin.ensures.height m depth t T e L N W)
 
 pub step_releasing-returns-in_err-successor-in-Some : goal.step_releasing-returns-in_err-successor-in-Some
 step_releasing-returns-in_err-successor-in-Some g t c = λ m depth t T e L N W.
-    pass_beside (g.R.Holds.answers c.args.context.now.functions.now) c.args.context.now.plan.now _ _ _ c.from_residual-in_err-successor-in-Some.ensures.0 (released_body_fails (g.R.Holds.answers c.args.context.now.functions.now) c.args.context.now.plan.now c.args.names.now c.args.releasing.now c.args.context.now.dt c.args.value.now c.args.meter.now c.step_members.new.meter c.args.inside
-    c.step_members.new.members c.step_members.new.value (run_alike (g.R.Holds.answers c.args.context.now.functions.now) c.args.context.now.plan.now c.args.releasing.now.members c.hold_back_members.new.members (c.in-Ok.ensures.runs_on (g.R.Holds.answers c.args.context.now.functions.now) c.args.context.now.plan.now) c.in_ok-step_members.ensures) c.in-Ok-beside.seen (rw c.in-Ok-copies.ensures.0 at c.in-Ok-beside.ensures) c.step_state.new.meter
+    pass_beside (context_machine g.R.Holds.answers c.args.context.now) _ _ _ c.from_residual-in_err-successor-in-Some.ensures.0 (released_body_fails (context_machine g.R.Holds.answers c.args.context.now) c.args.names.now c.args.releasing.now c.args.context.now.dt c.args.value.now c.args.meter.now c.step_members.new.meter c.args.inside
+    c.step_members.new.members c.step_members.new.value (run_alike (context_machine g.R.Holds.answers c.args.context.now) c.args.releasing.now.members c.hold_back_members.new.members (c.in-Ok.ensures.runs_on (context_machine g.R.Holds.answers c.args.context.now)) c.in_ok-step_members.ensures) c.in-Ok-beside.value (rw c.in-Ok-copies.ensures.0 at c.in-Ok-beside.ensures) c.step_state.new.meter
     c.step_state.new.state c.step_state.new.value c.in_ok-step_state.ensures c.in-Some.payload.value (some_occurs _ c.payload_of.result c.in-Some.payload c.step_state.new.value c.payload_of.ensures c.in-Some.is)
-    c.in-Ok-begin.successor (rw c.in-Ok.ensures.held at (c.in-Ok-begin.ensures (g.R.Holds.answers c.args.context.now.functions.now)))
-    c.in-Ok-copies.output c.in-Ok-copies.ensures.1 c.step_begun.new.meter _ c.in_err-successor-in-Some.ensures m depth t T e L N W)
+    c.in-Ok-begin.value (rw c.in-Ok.ensures.held at (c.in-Ok-begin.ensures (g.R.Holds.answers c.args.context.now.functions.now)))
+    c.in-Ok-copies.value.1 c.in-Ok-copies.ensures.1 c.step_begun.new.meter _ c.in_err-successor-in-Some.ensures m depth t T e L N W)
 
 pub step_releasing-returns-in_ok-successor-in-Some : goal.step_releasing-returns-in_ok-successor-in-Some
 step_releasing-returns-in_ok-successor-in-Some g t c =
-    released_body_takes_over (g.R.Holds.answers c.args.context.now.functions.now) c.args.context.now.plan.now c.args.names.now c.args.releasing.now c.args.context.now.dt c.args.value.now c.args.meter.now c.step_members.new.meter c.args.inside
-    c.step_members.new.members c.step_members.new.value (run_alike (g.R.Holds.answers c.args.context.now.functions.now) c.args.context.now.plan.now c.args.releasing.now.members c.hold_back_members.new.members (c.in-Ok.ensures.runs_on (g.R.Holds.answers c.args.context.now.functions.now) c.args.context.now.plan.now) c.in_ok-step_members.ensures) c.in-Ok-beside.seen (rw c.in-Ok-copies.ensures.0 at c.in-Ok-beside.ensures) c.step_state.new.meter
+    released_body_takes_over (context_machine g.R.Holds.answers c.args.context.now) c.args.names.now c.args.releasing.now c.args.context.now.dt c.args.value.now c.args.meter.now c.step_members.new.meter c.args.inside
+    c.step_members.new.members c.step_members.new.value (run_alike (context_machine g.R.Holds.answers c.args.context.now) c.args.releasing.now.members c.hold_back_members.new.members (c.in-Ok.ensures.runs_on (context_machine g.R.Holds.answers c.args.context.now)) c.in_ok-step_members.ensures) c.in-Ok-beside.value (rw c.in-Ok-copies.ensures.0 at c.in-Ok-beside.ensures) c.step_state.new.meter
     c.step_state.new.state c.step_state.new.value c.in_ok-step_state.ensures c.in-Some.payload.value (some_occurs _ c.payload_of.result c.in-Some.payload c.step_state.new.value c.payload_of.ensures c.in-Some.is)
-    c.in-Ok-begin.successor (rw c.in-Ok.ensures.held at (c.in-Ok-begin.ensures (g.R.Holds.answers c.args.context.now.functions.now)))
-    c.in-Ok-copies.output c.in-Ok-copies.ensures.1 c.step_begun.new.meter
+    c.in-Ok-begin.value (rw c.in-Ok.ensures.held at (c.in-Ok-begin.ensures (g.R.Holds.answers c.args.context.now.functions.now)))
+    c.in-Ok-copies.value.1 c.in-Ok-copies.ensures.1 c.step_begun.new.meter
     c.in_ok-successor-in-Some.successor c.in_ok-successor-in-Some.output _ c.show.ensures _ c.in_ok-successor-in-Some.ensures
 
 -- ## step_editing
 
-pub step_editing-returns-in_default : goal.step_editing-returns-in_default
-step_editing-returns-in_default g t c = λ m depth t T e L N W. early_memory (g.R.Holds.answers c.args.context.now.functions.now) c.args.context.now.plan.now t c.stop.ensures.entered c.stop.ensures.height c.stop.ensures.fault
+pub step_editing-returns-in-Err : goal.step_editing-returns-in-Err
+step_editing-returns-in-Err g t c = λ m depth t T e L N W. early_memory (context_machine g.R.Holds.answers c.args.context.now) t c.stop.ensures.entered c.stop.ensures.height c.stop.ensures.fault
 
-pub step_editing-returns-in_default-inside : goal.step_editing-returns-in_default-inside
-step_editing-returns-in_default-inside g t c = λ m depth t T e L N W. early_memory (g.R.Holds.answers c.args.context.now.functions.now) c.args.context.now.plan.now t c.stop-in_default-inside.ensures.entered c.stop-in_default-inside.ensures.height c.stop-in_default-inside.ensures.fault
+pub step_editing-returns-in-Err-inside : goal.step_editing-returns-in-Err-inside
+step_editing-returns-in-Err-inside g t c = λ m depth t T e L N W. early_memory (context_machine g.R.Holds.answers c.args.context.now) t c.stop-in-Err-inside.ensures.entered c.stop-in-Err-inside.ensures.height c.stop-in-Err-inside.ensures.fault
 
 pub step_editing-returns-in-None : goal.step_editing-returns-in-None
 step_editing-returns-in-None g t c =
-    members_alone (g.R.Holds.answers c.args.context.now.functions.now) c.args.context.now.plan.now c.args.names.now c.args.editing.now c.args.context.now.dt c.args.value.now c.in-Ok.input c.in-Ok.ensures.0 c.args.meter.now c.step_members.new.meter c.args.inside
-    c.step_members.result c.step_members.new.members c.step_members.new.value (meter_fault c.step_members.new.meter) (none_occurs _ c.in-Ok.occurring (second_of c.args.value.now) c.in-Ok.ensures.1 c.in-None.is)
+    members_alone (context_machine g.R.Holds.answers c.args.context.now) c.args.names.now c.args.editing.now c.args.context.now.dt c.args.value.now c.in-Ok.value.0 c.in-Ok.ensures.0 c.args.meter.now c.step_members.new.meter c.args.inside
+    c.step_members.result c.step_members.new.members c.step_members.new.value (meter_fault c.step_members.new.meter) (none_occurs _ c.in-Ok.value.1 (second_of c.args.value.now) c.in-Ok.ensures.1 c.in-None.is)
     _ refl c.step_members.ensures
 
 pub step_editing-returns-in-Ok-Some : goal.step_editing-returns-in-Ok-Some
 step_editing-returns-in-Ok-Some g t c =
-    let φ = g.R.Holds.answers c.args.context.now.functions.now in
-    let p = c.args.context.now.plan.now in
+    let μ = context_machine g.R.Holds.answers c.args.context.now in
     let k = c.args.editing.now in
     let d = c.args.context.now.dt in
     let v = c.in-Some.payload.value in
     let made = rw c.deref.ensures at (rw c.in-Ok-Some.field-0-is at c.in-Ok-Some.ensures) in
-    edit_answers φ p c.args.names.now k d c.args.value.now c.in-Ok.input c.in-Ok.ensures.0 v (some_occurs _ c.in-Ok.occurring c.in-Some.payload (second_of c.args.value.now) c.in-Ok.ensures.1 c.in-Some.is) (Ok (drafted k.members d c.in-Ok-Some.draft)) c.args.inside
-    c.step_draft.result c.step_draft.new.members c.step_draft.new.value (meter_fault c.step_draft.new.meter) (λ e qs K N G coded. made (each_frozen qs K d) v e (c.in-Ok-inside.ensures φ e qs K N G) coded (gathers_frozen φ p k.members d qs K G)) _ refl c.step_draft.ensures
+    edit_answers μ c.args.names.now k d c.args.value.now c.in-Ok.value.0 c.in-Ok.ensures.0 v (some_occurs _ c.in-Ok.value.1 c.in-Some.payload (second_of c.args.value.now) c.in-Ok.ensures.1 c.in-Some.is) (Ok (drafted k.members d c.in-Ok-Some.draft)) c.args.inside
+    c.step_draft.result c.step_draft.new.members c.step_draft.new.value (meter_fault c.step_draft.new.meter) (λ e qs K N G coded. made (each_frozen qs K d) v e (c.in-Ok-inside.ensures μ.answers e qs K N G) coded (gathers_frozen μ k.members d qs K G)) _ refl c.step_draft.ensures
 
 pub step_editing-returns-in-Err-Memory : goal.step_editing-returns-in-Err-Memory
-step_editing-returns-in-Err-Memory g t c = λ m depth t T e L N W. early_memory (g.R.Holds.answers c.args.context.now.functions.now) c.args.context.now.plan.now t c.stop-in-Err-Memory.ensures.entered c.stop-in-Err-Memory.ensures.height c.stop-in-Err-Memory.ensures.fault
+step_editing-returns-in-Err-Memory g t c = λ m depth t T e L N W. early_memory (context_machine g.R.Holds.answers c.args.context.now) t c.stop-in-Err-Memory.ensures.entered c.stop-in-Err-Memory.ensures.height c.stop-in-Err-Memory.ensures.fault
 
 pub step_editing-returns-after-draft_of : goal.step_editing-returns-after-draft_of
 step_editing-returns-after-draft_of g t c =
-    let φ = g.R.Holds.answers c.args.context.now.functions.now in
-    let p = c.args.context.now.plan.now in
+    let μ = context_machine g.R.Holds.answers c.args.context.now in
     let k = c.args.editing.now in
     let d = c.args.context.now.dt in
     let v = c.in-Some.payload.value in
-    edit_answers φ p c.args.names.now k d c.args.value.now c.in-Ok.input c.in-Ok.ensures.0 v (some_occurs _ c.in-Ok.occurring c.in-Some.payload (second_of c.args.value.now) c.in-Ok.ensures.1 c.in-Some.is) (held_as_made c.collect-made.result) c.args.inside
-    c.step_exchange.result c.step_exchange.new.members c.step_exchange.new.value (meter_fault c.step_exchange.new.meter) (λ e qs K N G coded. as_made φ p c.collect-made.result ((rw c.deref-in-Some.ensures at c.collect-made.ensures) _ (c.in-Ok-inside.ensures φ e qs K N G) coded)) _ refl c.step_exchange.ensures
+    edit_answers μ c.args.names.now k d c.args.value.now c.in-Ok.value.0 c.in-Ok.ensures.0 v (some_occurs _ c.in-Ok.value.1 c.in-Some.payload (second_of c.args.value.now) c.in-Ok.ensures.1 c.in-Some.is) (held_as_made c.collect-made.result) c.args.inside
+    c.step_exchange.result c.step_exchange.new.members c.step_exchange.new.value (meter_fault c.step_exchange.new.meter) (λ e qs K N G coded. as_made μ c.collect-made.result ((rw c.deref-in-Some.ensures at c.collect-made.ensures) _ (c.in-Ok-inside.ensures μ.answers e qs K N G) coded)) _ refl c.step_exchange.ensures
 
 -- ## step_exchange
 
-pub step_exchange-returns-in_default : goal.step_exchange-returns-in_default
-step_exchange-returns-in_default g t c = edit_stopped c.stop.ensures.fault (no_memory_before c.stop.ensures.entered c.stop.ensures.height)
+pub step_exchange-returns-in-Err : goal.step_exchange-returns-in-Err
+step_exchange-returns-in-Err g t c = edit_stopped c.stop.ensures.fault (no_memory_before c.stop.ensures.entered c.stop.ensures.height)
 
 pub step_exchange-returns-in_err-step_members : goal.step_exchange-returns-in_err-step_members
 step_exchange-returns-in_err-step_members g t c =
-    let φ = g.R.Holds.answers c.args.context.now.functions.now in
-    let p = c.args.context.now.plan.now in
-    pass_edit _ _ c.from_residual.ensures.0 (old_fails (held_fails φ p c.args.members.now c.in_err-step_members.ensures))
+    let μ = context_machine g.R.Holds.answers c.args.context.now in
+    pass_edit _ _ c.from_residual.ensures.0 (old_fails (held_fails μ c.args.members.now c.in_err-step_members.ensures))
 
-pub step_exchange-returns-in-Err : goal.step_exchange-returns-in-Err
-step_exchange-returns-in-Err g t c =
-    let φ = g.R.Holds.answers c.args.context.now.functions.now in
-    let p = c.args.context.now.plan.now in
-    edit_stopped c.stop-in-Err.ensures.fault (made_fails (as_held φ p c.args.members.now c.step_members.new.members c.in_ok-step_members.ensures) (ap held_as_made c.in-Err.is) c.stop-in-Err.ensures.entered c.stop-in-Err.ensures.height)
+pub step_exchange-returns-in-Err-made : goal.step_exchange-returns-in-Err-made
+step_exchange-returns-in-Err-made g t c =
+    let μ = context_machine g.R.Holds.answers c.args.context.now in
+    edit_stopped c.stop-in-Err-made.ensures.fault (made_fails (as_held μ c.args.members.now c.step_members.new.members c.in_ok-step_members.ensures) (ap held_as_made c.in-Err-made.is) c.stop-in-Err-made.ensures.entered c.stop-in-Err-made.ensures.height)
 
 pub step_exchange-returns-in_err-step_members-in-Ok-made : goal.step_exchange-returns-in_err-step_members-in-Ok-made
 step_exchange-returns-in_err-step_members-in-Ok-made g t c =
-    let φ = g.R.Holds.answers c.args.context.now.functions.now in
-    let p = c.args.context.now.plan.now in
-    pass_edit _ _ c.from_residual-in_err-step_members-in-Ok-made.ensures.0 (Edits.new_fails (as_held φ p c.args.members.now c.step_members.new.members c.in_ok-step_members.ensures) (ap held_as_made c.in-Ok-made.is) (λ low ms L G. held_fails φ p c.in-Ok-made.fresh (rw c.in-Ok.ensures at c.in_err-step_members-in-Ok-made.ensures)))
+    let μ = context_machine g.R.Holds.answers c.args.context.now in
+    pass_edit _ _ c.from_residual-in_err-step_members-in-Ok-made.ensures.0 (Edits.new_fails (as_held μ c.args.members.now c.step_members.new.members c.in_ok-step_members.ensures) (ap held_as_made c.in-Ok-made.is) (λ low ms L G. held_fails μ c.in-Ok-made.fresh (rw c.in-Ok.ensures at c.in_err-step_members-in-Ok-made.ensures)))
 
 pub step_exchange-returns-in_ok-step_members-in-Ok-made : goal.step_exchange-returns-in_ok-step_members-in-Ok-made
 step_exchange-returns-in_ok-step_members-in-Ok-made g t c =
-    let φ = g.R.Holds.answers c.args.context.now.functions.now in
-    let p = c.args.context.now.plan.now in
-    new_run (as_held φ p c.args.members.now c.step_members.new.members c.in_ok-step_members.ensures) (ap held_as_made c.in-Ok-made.is) (λ low ms L G. as_held φ p c.in-Ok-made.fresh c.step_members-in-Ok-made.new.members (rw c.in-Ok.ensures at c.in_ok-step_members-in-Ok-made.ensures)) c.show.ensures
+    let μ = context_machine g.R.Holds.answers c.args.context.now in
+    new_run (as_held μ c.args.members.now c.step_members.new.members c.in_ok-step_members.ensures) (ap held_as_made c.in-Ok-made.is) (λ low ms L G. as_held μ c.in-Ok-made.fresh c.step_members-in-Ok-made.new.members (rw c.in-Ok.ensures at c.in_ok-step_members-in-Ok-made.ensures)) c.show.ensures
 
 -- ## step_noted
 
-pub step_noted-returns-in_default : goal.step_noted-returns-in_default
-step_noted-returns-in_default g t c =
-    let φ = g.R.Holds.answers c.args.context.now.functions.now in
-    let p = c.args.context.now.plan.now in
-    notes_stopped φ p c.args.wait c.args.context.now.dt c.args.value.now c.args.inside refl c.stop.ensures.fault (no_memory_noted c.stop.ensures.entered c.stop.ensures.height)
+pub step_noted-returns-in-Err : goal.step_noted-returns-in-Err
+step_noted-returns-in-Err g t c =
+    let μ = context_machine g.R.Holds.answers c.args.context.now in
+    notes_stopped μ c.args.wait c.args.context.now.dt c.args.value.now c.args.inside refl c.stop.ensures.fault (no_memory_noted c.stop.ensures.entered c.stop.ensures.height)
 
-pub step_noted-returns-in_default-with_capacity : goal.step_noted-returns-in_default-with_capacity
-step_noted-returns-in_default-with_capacity g t c =
-    let φ = g.R.Holds.answers c.args.context.now.functions.now in
-    let p = c.args.context.now.plan.now in
-    notes_stopped φ p c.args.wait c.args.context.now.dt c.args.value.now c.args.inside refl c.stop-in_default-with_capacity.ensures.fault (no_memory_noted c.stop-in_default-with_capacity.ensures.entered c.stop-in_default-with_capacity.ensures.height)
+pub step_noted-returns-in-Err-with_capacity : goal.step_noted-returns-in-Err-with_capacity
+step_noted-returns-in-Err-with_capacity g t c =
+    let μ = context_machine g.R.Holds.answers c.args.context.now in
+    notes_stopped μ c.args.wait c.args.context.now.dt c.args.value.now c.args.inside refl c.stop-in-Err-with_capacity.ensures.fault (no_memory_noted c.stop-in-Err-with_capacity.ensures.entered c.stop-in-Err-with_capacity.ensures.height)
 
 pub step_noted-loop-ran-init : goal.step_noted-loop-ran-init
 step_noted-loop-ran-init g t c =
-    let φ = g.R.Holds.answers c.args.context.now.functions.now in
-    let p = c.args.context.now.plan.now in
+    let μ = context_machine g.R.Holds.answers c.args.context.now in
     let d = c.args.context.now.dt in
     let x = c.args.value.now in
     let m = c.args.meter.now in
     let bs = c.deref_mut-ran-items.result.now in
     record {
-      goes_on = subst (λ (gs : List Turn). NotesOn φ p c.args.wait d x c.args.inside m bs [] c.in-Ok.outputs.items gs bs m) (sym c.in-Ok-with_capacity.ensures.items) (subst (λ (ys : List Data). NotesOn φ p c.args.wait d x c.args.inside m bs [] ys [] bs m) (sym c.in-Ok.ensures.items) (notes_first φ p c.args.wait d x c.args.inside m bs));
+      goes_on = subst (λ (gs : List Turn). NotesOn μ c.args.wait d x c.args.inside m bs [] c.in-Ok.value.items gs bs m) (sym c.in-Ok-with_capacity.ensures.items) (subst (λ (ys : List Data). NotesOn μ c.args.wait d x c.args.inside m bs [] ys [] bs m) (sym c.in-Ok.ensures.items) (notes_first μ c.args.wait d x c.args.inside m bs));
       as_many = c.in-Ok.ensures.len;
       room = omega (arith, c.in-Ok.ensures.capacity, c.room_for-room.ensures, c.len.ensures, ap length c.deref_mut-ran-items.ensures.value);
       as_many_turns = c.in-Ok-with_capacity.ensures.len;
       room_for_turns = omega (arith, c.in-Ok-with_capacity.ensures.capacity, c.room_for-room.ensures, c.len.ensures, ap length c.deref_mut-ran-items.ensures.value);
     }
 
-pub step_noted-returns-in_default-clone_in : goal.step_noted-returns-in_default-clone_in
-step_noted-returns-in_default-clone_in g t c =
-    let φ = g.R.Holds.answers c.args.context.now.functions.now in
-    let p = c.args.context.now.plan.now in
+pub step_noted-returns-in-Err-clone_in : goal.step_noted-returns-in-Err-clone_in
+step_noted-returns-in-Err-clone_in g t c =
+    let μ = context_machine g.R.Holds.answers c.args.context.now in
     let l = c.loop-ran in
     let all = c.deref_mut-ran-items.result.now in
-    notes_stopped φ p c.args.wait c.args.context.now.dt c.args.value.now c.args.inside c.deref_mut-ran-items.ensures.value c.stop-in_default-clone_in.ensures.fault
-    (notes_memory φ p c.args.wait c.args.context.now.dt c.args.value.now c.args.inside c.args.meter.now all (take l.ran-index l.ran-items) l.outputs.items l.turns.items (drop l.ran-index l.ran-items) l.meter c.stop-in_default-clone_in.new.self l.invariant.goes_on c.stop-in_default-clone_in.ensures.entered c.stop-in_default-clone_in.ensures.height)
+    notes_stopped μ c.args.wait c.args.context.now.dt c.args.value.now c.args.inside c.deref_mut-ran-items.ensures.value c.stop-in-Err-clone_in.ensures.fault
+    (notes_memory μ c.args.wait c.args.context.now.dt c.args.value.now c.args.inside c.args.meter.now all (take l.ran-index l.ran-items) l.outputs.items l.turns.items (drop l.ran-index l.ran-items) l.meter c.stop-in-Err-clone_in.new.self l.invariant.goes_on c.stop-in-Err-clone_in.ensures.entered c.stop-in-Err-clone_in.ensures.height)
 
 pub step_noted-returns-in_err-step_member : goal.step_noted-returns-in_err-step_member
 step_noted-returns-in_err-step_member g t c =
-    let φ = g.R.Holds.answers c.args.context.now.functions.now in
-    let p = c.args.context.now.plan.now in
+    let μ = context_machine g.R.Holds.answers c.args.context.now in
     let d = c.args.context.now.dt in
     let x = c.args.value.now in
     let m = c.args.meter.now in
     let l = c.loop-ran in
     let all = c.deref_mut-ran-items.result.now in
     let n = c.step_member.new.meter in
-    let failed = notes_fail φ p c.args.wait d x c.args.inside m all l.ran-items l.ran-index l.outputs.items l.turns.items l.meter c.ran-item.result (omega (arith, c.loop-ran-test.true, l.auto.ran-items)) l.invariant.goes_on (meter_fault n) n (rw c.in-Ok-clone_in.ensures at c.in_err-step_member.ensures) in
-    pass_notes _ _ c.from_residual.ensures.0 (subst (λ (bs : List State). HaveStepped φ p c.args.wait (step d x) c.args.inside m bs (Err (meter_fault n)) n) c.deref_mut-ran-items.ensures.value failed)
+    let failed = notes_fail μ c.args.wait d x c.args.inside m all l.ran-items l.ran-index l.outputs.items l.turns.items l.meter c.ran-item.result (omega (arith, c.loop-ran-test.true, l.auto.ran-items)) l.invariant.goes_on (meter_fault n) n (rw c.in-Ok-clone_in.ensures at c.in_err-step_member.ensures) in
+    pass_notes _ _ c.from_residual.ensures.0 (subst (λ (bs : List State). HaveStepped μ c.args.wait (step d x) c.args.inside m bs (Err (meter_fault n)) n) c.deref_mut-ran-items.ensures.value failed)
 
 pub step_noted-loop-ran-preserved : goal.step_noted-loop-ran-preserved
 step_noted-loop-ran-preserved g t c =
-    let φ = g.R.Holds.answers c.args.context.now.functions.now in
-    let p = c.args.context.now.plan.now in
+    let μ = context_machine g.R.Holds.answers c.args.context.now in
     let d = c.args.context.now.dt in
     let x = c.args.value.now in
     let m = c.args.meter.now in
@@ -791,10 +762,10 @@ step_noted-loop-ran-preserved g t c =
       first = c.since.ensures.first ∙ c.mark-mark.ensures.recorded;
       behind = c.since.ensures.behind;
     } in
-    let next = notes_next φ p c.args.wait d x c.args.inside m all l.ran-items l.ran-index l.outputs.items l.turns.items l.meter c.ran-item.result short l.invariant.goes_on b y n spent (rw c.in-Ok-clone_in.ensures at c.in_ok-step_member.ensures) between in
+    let next = notes_next μ c.args.wait d x c.args.inside m all l.ran-items l.ran-index l.outputs.items l.turns.items l.meter c.ran-item.result short l.invariant.goes_on b y n spent (rw c.in-Ok-clone_in.ensures at c.in_ok-step_member.ensures) between in
     record {
-      goes_on = subst (λ (gs : List Turn). NotesOn φ p c.args.wait d x c.args.inside m all (take (l.ran-index + 1) bs) c.push_reserved.new.self.items gs (drop (l.ran-index + 1) bs) n) (sym c.push_reserved-in-loop-ran.ensures.items)
-          (subst (λ (ys : List Data). NotesOn φ p c.args.wait d x c.args.inside m all (take (l.ran-index + 1) bs) ys (l.turns.items ++ Stays spent ∷ []) (drop (l.ran-index + 1) bs) n) (sym c.push_reserved.ensures.items) next);
+      goes_on = subst (λ (gs : List Turn). NotesOn μ c.args.wait d x c.args.inside m all (take (l.ran-index + 1) bs) c.push_reserved.new.self.items gs (drop (l.ran-index + 1) bs) n) (sym c.push_reserved-in-loop-ran.ensures.items)
+          (subst (λ (ys : List Data). NotesOn μ c.args.wait d x c.args.inside m all (take (l.ran-index + 1) bs) ys (l.turns.items ++ Stays spent ∷ []) (drop (l.ran-index + 1) bs) n) (sym c.push_reserved.ensures.items) next);
       as_many = c.push_reserved.ensures.len ∙ ap (λ k. k + 1) l.invariant.as_many;
       room = omega (arith, length-set l.ran-items l.ran-index b, l.invariant.room, c.push_reserved.ensures.capacity);
       as_many_turns = c.push_reserved-in-loop-ran.ensures.len ∙ ap (λ k. k + 1) l.invariant.as_many_turns;
@@ -813,8 +784,7 @@ step_noted-push_reserved-requires-in-loop-ran g t c =
 
 pub step_noted-returns : goal.step_noted-returns
 step_noted-returns g t c =
-    let φ = g.R.Holds.answers c.args.context.now.functions.now in
-    let p = c.args.context.now.plan.now in
+    let μ = context_machine g.R.Holds.answers c.args.context.now in
     let d = c.args.context.now.dt in
     let x = c.args.value.now in
     let m = c.args.meter.now in
@@ -822,57 +792,53 @@ step_noted-returns g t c =
     let last : l.ran-index ≡ length l.ran-items = omega (arith, l.auto.ran-items, l.auto.ran-index-end, c.loop-ran-test.false) in
     let w = with_items c.args.states.now l.ran-items in
     let whole : w.items ≡ l.ran-items = with_items_is c.args.states.now l.ran-items (omega (arith, l.auto.ran-items, ap length c.deref_mut-ran-items.ensures.value)) in
-    let all = notes_last φ p c.args.wait d x c.args.inside m c.deref_mut-ran-items.result.now l.ran-items l.ran-index l.outputs.items l.turns.items l.meter last l.invariant.goes_on in
-    rw whole (subst (λ (bs : List State). HaveStepped φ p c.args.wait (step d x) c.args.inside m bs (Ok (l.ran-items, (l.outputs.items, l.turns.items))) l.meter) c.deref_mut-ran-items.ensures.value all)
+    let all = notes_last μ c.args.wait d x c.args.inside m c.deref_mut-ran-items.result.now l.ran-items l.ran-index l.outputs.items l.turns.items l.meter last l.invariant.goes_on in
+    rw whole (subst (λ (bs : List State). HaveStepped μ c.args.wait (step d x) c.args.inside m bs (Ok (l.ran-items, (l.outputs.items, l.turns.items))) l.meter) c.deref_mut-ran-items.ensures.value all)
 
 -- ## step_again
 
 pub step_again-loop-at-init : goal.step_again-loop-at-init
 step_again-loop-at-init g t c =
-    let φ = g.R.Holds.answers c.args.context.now.functions.now in
-    let p = c.args.context.now.plan.now in
+    let μ = context_machine g.R.Holds.answers c.args.context.now in
     record {
-      goes_on = turns_first φ p c.args.turns.wait c.args.context.now.dt c.args.turns.inside c.args.meter.now c.args.states.now.items c.args.outputs.now.items c.args.turns.each.now;
+      goes_on = turns_first μ c.args.turns.wait c.args.context.now.dt c.args.turns.inside c.args.meter.now c.args.states.now.items c.args.outputs.now.items c.args.turns.each.now;
       states = c.requires.states;
       outputs = c.requires.outputs;
     }
 
 pub step_again-returns-in_err-repeat-in-Stays : goal.step_again-returns-in_err-repeat-in-Stays
 step_again-returns-in_err-repeat-in-Stays g t c =
-    let φ = g.R.Holds.answers c.args.context.now.functions.now in
-    let p = c.args.context.now.plan.now in
+    let μ = context_machine g.R.Holds.answers c.args.context.now in
     let l = c.loop-at in
     let n = c.repeat.new.self in
     let turn = turn_at c.args.turns.each.now l.at _ c.in-Stays.is c.loop-at-test.true in
-    pass_turns _ _ c.from_residual.ensures.0 (turns_stay_not φ p c.args.turns.wait c.args.context.now.dt c.args.turns.inside c.args.meter.now c.args.states.now.items c.args.outputs.now.items c.args.turns.each.now l.states.items l.outputs.items c.args.turns.each.now l.at l.meter l.invariant.goes_on
+    pass_turns _ _ c.from_residual.ensures.0 (turns_stay_not μ c.args.turns.wait c.args.context.now.dt c.args.turns.inside c.args.meter.now c.args.states.now.items c.args.outputs.now.items c.args.turns.each.now l.states.items l.outputs.items c.args.turns.each.now l.at l.meter l.invariant.goes_on
     c.in-Stays.spent n turn (omega (arith, c.loop-at-test.true, l.invariant.states)) (omega (arith, c.loop-at-test.true, l.invariant.outputs)) (meter_fault n) c.in_err-repeat-in-Stays.ensures)
 
 pub step_again-returns-in_err-step_waiting-in-Begins : goal.step_again-returns-in_err-step_waiting-in-Begins
 step_again-returns-in_err-step_waiting-in-Begins g t c =
-    let φ = g.R.Holds.answers c.args.context.now.functions.now in
-    let p = c.args.context.now.plan.now in
+    let μ = context_machine g.R.Holds.answers c.args.context.now in
     let l = c.loop-at in
     let n = c.step_waiting.new.meter in
     let turn = turn_at c.args.turns.each.now l.at _ c.in-Begins.is c.loop-at-test.true in
-    pass_turns _ _ c.from_residual-in_err-step_waiting-in-Begins.ensures.0 (turns_begin_not φ p c.args.turns.wait c.args.context.now.dt c.args.turns.inside c.args.meter.now c.args.states.now.items c.args.outputs.now.items c.args.turns.each.now l.states.items l.outputs.items c.args.turns.each.now l.at l.meter l.invariant.goes_on
+    pass_turns _ _ c.from_residual-in_err-step_waiting-in-Begins.ensures.0 (turns_begin_not μ c.args.turns.wait c.args.context.now.dt c.args.turns.inside c.args.meter.now c.args.states.now.items c.args.outputs.now.items c.args.turns.each.now l.states.items l.outputs.items c.args.turns.each.now l.at l.meter l.invariant.goes_on
     c.index_mut.result.now c.index_mut-output.result.now n turn (omega (arith, c.loop-at-test.true, l.invariant.states)) (omega (arith, c.loop-at-test.true, l.invariant.outputs)) c.index_mut.ensures.value c.index_mut-output.ensures.value (meter_fault n) c.in_err-step_waiting-in-Begins.ensures)
 
 pub step_again-loop-at-preserved : goal.step_again-loop-at-preserved
 step_again-loop-at-preserved g t c =
-    let φ = g.R.Holds.answers c.args.context.now.functions.now in
-    let p = c.args.context.now.plan.now in
+    let μ = context_machine g.R.Holds.answers c.args.context.now in
     let l = c.loop-at in
     let short : l.at < length c.args.turns.each.now = c.loop-at-test.true in
     let states : l.at < length l.states.items = omega (arith, short, l.invariant.states) in
     let outputs : l.at < length l.outputs.items = omega (arith, short, l.invariant.outputs) in
     elim c.match-each-at.branch [
       | step_again-in-Stays+in_ok-repeat-in-Stays w ↦ rw (w.states-is, w.outputs-is, w.meter-is) (record {
-        goes_on = turns_stay φ p c.args.turns.wait c.args.context.now.dt c.args.turns.inside c.args.meter.now c.args.states.now.items c.args.outputs.now.items c.args.turns.each.now l.states.items l.outputs.items c.args.turns.each.now l.at l.meter l.invariant.goes_on w.in-Stays.spent w.repeat.new.self (turn_at c.args.turns.each.now l.at _ w.in-Stays.is short) states outputs w.in_ok-repeat-in-Stays.ensures;
+        goes_on = turns_stay μ c.args.turns.wait c.args.context.now.dt c.args.turns.inside c.args.meter.now c.args.states.now.items c.args.outputs.now.items c.args.turns.each.now l.states.items l.outputs.items c.args.turns.each.now l.at l.meter l.invariant.goes_on w.in-Stays.spent w.repeat.new.self (turn_at c.args.turns.each.now l.at _ w.in-Stays.is short) states outputs w.in_ok-repeat-in-Stays.ensures;
         states = l.invariant.states;
         outputs = l.invariant.outputs;
       })
       | step_again-in-Begins+in_ok-step_waiting-in-Begins w ↦ rw (w.states-is, w.outputs-is, w.meter-is) (record {
-        goes_on = turns_begin φ p c.args.turns.wait c.args.context.now.dt c.args.turns.inside c.args.meter.now c.args.states.now.items c.args.outputs.now.items c.args.turns.each.now l.states.items l.outputs.items c.args.turns.each.now l.at l.meter l.invariant.goes_on w.index_mut.result.now w.index_mut-output.result.now w.step_waiting.new.meter (turn_at c.args.turns.each.now l.at _ w.in-Begins.is short) states outputs w.index_mut.ensures.value w.index_mut-output.ensures.value
+        goes_on = turns_begin μ c.args.turns.wait c.args.context.now.dt c.args.turns.inside c.args.meter.now c.args.states.now.items c.args.outputs.now.items c.args.turns.each.now l.states.items l.outputs.items c.args.turns.each.now l.at l.meter l.invariant.goes_on w.index_mut.result.now w.index_mut-output.result.now w.step_waiting.new.meter (turn_at c.args.turns.each.now l.at _ w.in-Begins.is short) states outputs w.index_mut.ensures.value w.index_mut-output.ensures.value
             w.step_waiting.new.state w.step_waiting.new.value w.in_ok-step_waiting-in-Begins.ensures;
         states = length-set l.states.items l.at w.step_waiting.new.state ∙ l.invariant.states;
         outputs = length-set l.outputs.items l.at w.step_waiting.new.value ∙ l.invariant.outputs;
@@ -881,71 +847,64 @@ step_again-loop-at-preserved g t c =
 
 pub step_again-returns : goal.step_again-returns
 step_again-returns g t c =
-    let φ = g.R.Holds.answers c.args.context.now.functions.now in
-    let p = c.args.context.now.plan.now in
+    let μ = context_machine g.R.Holds.answers c.args.context.now in
     let l = c.loop-at in
     let last : l.at ≡ length c.args.turns.each.now = omega (arith, l.auto.at-end, c.loop-at-test.false) in
-    turns_last φ p c.args.turns.wait c.args.context.now.dt c.args.turns.inside c.args.meter.now c.args.states.now.items c.args.outputs.now.items c.args.turns.each.now l.states.items l.outputs.items c.args.turns.each.now l.at l.meter l.invariant.goes_on
+    turns_last μ c.args.turns.wait c.args.context.now.dt c.args.turns.inside c.args.meter.now c.args.states.now.items c.args.outputs.now.items c.args.turns.each.now l.states.items l.outputs.items c.args.turns.each.now l.at l.meter l.invariant.goes_on
     (last ∙ sym l.invariant.states) (last ∙ sym l.invariant.outputs) last
 
 -- ## step_draft
 
 pub step_draft-returns-in-Some : goal.step_draft-returns-in-Some
 step_draft-returns-in-Some g t c =
-    let φ = g.R.Holds.answers c.args.context.now.functions.now in
-    let p = c.args.context.now.plan.now in
+    let μ = context_machine g.R.Holds.answers c.args.context.now in
     let v = c.args.members.now.states.value in
-    c.step_turns.ensures v.items (subst (λ (w : Vec State Global). AllFollow φ p v.items w.items) (sym c.in-Some.ensures.value) (list_follows φ p v v refl))
+    c.step_turns.ensures v.items (subst (λ (w : Vec State Global). AllFollow μ v.items w.items) (sym c.in-Some.ensures.value) (list_follows μ v v refl))
 
 pub step_draft-returns-in-None : goal.step_draft-returns-in-None
 step_draft-returns-in-None g t c = c.step_turns_copy.ensures
 
 -- ## step_turns_copy
 
-pub step_turns_copy-returns-in_default : goal.step_turns_copy-returns-in_default
-step_turns_copy-returns-in_default g t c = edit_stopped c.stop.ensures.fault (no_memory_before c.stop.ensures.entered c.stop.ensures.height)
+pub step_turns_copy-returns-in-Err : goal.step_turns_copy-returns-in-Err
+step_turns_copy-returns-in-Err g t c = edit_stopped c.stop.ensures.fault (no_memory_before c.stop.ensures.entered c.stop.ensures.height)
 
-pub step_turns_copy-returns-in_default-own_states : goal.step_turns_copy-returns-in_default-own_states
-step_turns_copy-returns-in_default-own_states g t c = edit_stopped c.stop-in_default-own_states.ensures.fault (no_memory_before c.stop-in_default-own_states.ensures.entered c.stop-in_default-own_states.ensures.height)
+pub step_turns_copy-returns-in-Err-own_states : goal.step_turns_copy-returns-in-Err-own_states
+step_turns_copy-returns-in-Err-own_states g t c = edit_stopped c.stop-in-Err-own_states.ensures.fault (no_memory_before c.stop-in-Err-own_states.ensures.entered c.stop-in-Err-own_states.ensures.height)
 
 pub step_turns_copy-returns-in_err-step_turns : goal.step_turns_copy-returns-in_err-step_turns
 step_turns_copy-returns-in_err-step_turns g t c =
-    let φ = g.R.Holds.answers c.args.context.now.functions.now in
-    let p = c.args.context.now.plan.now in
-    let own = subst (λ (v : Vec State Global). AllFollow φ p v.items c.in-Ok-own_states.own.items) c.in-Ok.ensures.cases (c.in-Ok-own_states.ensures φ p) in
+    let μ = context_machine g.R.Holds.answers c.args.context.now in
+    let own = subst (λ (v : Vec State Global). AllFollow μ v.items c.in-Ok-own_states.value.items) c.in-Ok.ensures.cases (c.in-Ok-own_states.ensures μ) in
     pass_edit _ _ c.from_residual.ensures.0 (c.in_err-step_turns.ensures _ own)
 
-pub step_turns_copy-returns-in_default-new : goal.step_turns_copy-returns-in_default-new
-step_turns_copy-returns-in_default-new g t c =
-    let φ = g.R.Holds.answers c.args.context.now.functions.now in
-    let p = c.args.context.now.plan.now in
-    let own = subst (λ (v : Vec State Global). AllFollow φ p v.items c.in-Ok-own_states.own.items) c.in-Ok.ensures.cases (c.in-Ok-own_states.ensures φ p) in
-    edit_late c.stop-in_default-new.ensures.fault c.stop-in_default-new.ensures.entered c.stop-in_default-new.ensures.height (c.in_ok-step_turns.ensures _ own)
+pub step_turns_copy-returns-in-Err-new : goal.step_turns_copy-returns-in-Err-new
+step_turns_copy-returns-in-Err-new g t c =
+    let μ = context_machine g.R.Holds.answers c.args.context.now in
+    let own = subst (λ (v : Vec State Global). AllFollow μ v.items c.in-Ok-own_states.value.items) c.in-Ok.ensures.cases (c.in-Ok-own_states.ensures μ) in
+    edit_late c.stop-in-Err-new.ensures.fault c.stop-in-Err-new.ensures.entered c.stop-in-Err-new.ensures.height (c.in_ok-step_turns.ensures _ own)
 
 pub step_turns_copy-returns : goal.step_turns_copy-returns
 step_turns_copy-returns g t c =
-    let φ = g.R.Holds.answers c.args.context.now.functions.now in
-    let p = c.args.context.now.plan.now in
-    let own = subst (λ (v : Vec State Global). AllFollow φ p v.items c.in-Ok-own_states.own.items) c.in-Ok.ensures.cases (c.in-Ok-own_states.ensures φ p) in
+    let μ = context_machine g.R.Holds.answers c.args.context.now in
+    let own = subst (λ (v : Vec State Global). AllFollow μ v.items c.in-Ok-own_states.value.items) c.in-Ok.ensures.cases (c.in-Ok-own_states.ensures μ) in
     rw c.in-Ok-new.ensures.ok (c.in_ok-step_turns.ensures _ own)
 
 -- ## step_turns
 
 pub step_turns-returns-in_err-noted : goal.step_turns-returns-in_err-noted
 step_turns-returns-in_err-noted g t c = λ rs own.
-    let φ = g.R.Holds.answers c.args.context.now.functions.now in
-    let p = c.args.context.now.plan.now in
+    let μ = context_machine g.R.Holds.answers c.args.context.now in
     let run = held_as c.args.keys.now rs c.args.edit.wait in
     let d = c.args.context.now.dt in
     let i = c.args.value.now in
     let m = c.args.meter.now in
     let n = c.step_noted.new.meter in
-    pass_edit _ _ c.from_residual.ensures.0 (old_fails (held_stop φ p run d i m n c.args.edit.inside _ (list_alike φ p own (stepped_fails φ p run.wait d i c.args.edit.inside c.in_err-noted.ensures))))
+    pass_edit _ _ c.from_residual.ensures.0 (old_fails (held_stop μ run d i m n c.args.edit.inside _ (list_alike μ own (stepped_fails μ run.wait d i c.args.edit.inside c.in_err-noted.ensures))))
 
-pub step_turns-returns-in_default : goal.step_turns-returns-in_default
-step_turns-returns-in_default g t c = λ rs own.
-    let φ = g.R.Holds.answers c.args.context.now.functions.now in
-    let p = c.args.context.now.plan.now in
+pub step_turns-returns-in-Err : goal.step_turns-returns-in-Err
+step_turns-returns-in-Err g t c = λ rs own.
+    let μ = context_machine g.R.Holds.answers c.args.context.now in
     let run = held_as c.args.keys.now rs c.args.edit.wait in
     let d = c.args.context.now.dt in
     let i = c.args.value.now in
@@ -955,13 +914,12 @@ step_turns-returns-in_default g t c = λ rs own.
     let ds = c.step_noted.new.states.items in
     let ys = c.in_ok-noted.noted.outputs.items in
     let gs = c.in_ok-noted.noted.turns.items in
-    let old = old_step φ p run bs own c.args.edit.draft d i c.args.edit.inside m n ds ys gs c.in_ok-noted.ensures in
+    let old = old_step μ run bs own c.args.edit.draft d i c.args.edit.inside m n ds ys gs c.in_ok-noted.ensures in
     edit_stopped c.stop.ensures.fault (no_memory_between old c.stop.ensures.entered c.stop.ensures.height)
 
-pub step_turns-returns-in_default-new : goal.step_turns-returns-in_default-new
-step_turns-returns-in_default-new g t c = λ rs own.
-    let φ = g.R.Holds.answers c.args.context.now.functions.now in
-    let p = c.args.context.now.plan.now in
+pub step_turns-returns-in-Err-new : goal.step_turns-returns-in-Err-new
+step_turns-returns-in-Err-new g t c = λ rs own.
+    let μ = context_machine g.R.Holds.answers c.args.context.now in
     let run = held_as c.args.keys.now rs c.args.edit.wait in
     let d = c.args.context.now.dt in
     let i = c.args.value.now in
@@ -971,13 +929,12 @@ step_turns-returns-in_default-new g t c = λ rs own.
     let ds = c.step_noted.new.states.items in
     let ys = c.in_ok-noted.noted.outputs.items in
     let gs = c.in_ok-noted.noted.turns.items in
-    let old = old_step φ p run bs own c.args.edit.draft d i c.args.edit.inside m n ds ys gs c.in_ok-noted.ensures in
-    edit_stopped c.stop-in_default-new.ensures.fault (no_memory_between old c.stop-in_default-new.ensures.entered c.stop-in_default-new.ensures.height)
+    let old = old_step μ run bs own c.args.edit.draft d i c.args.edit.inside m n ds ys gs c.in_ok-noted.ensures in
+    edit_stopped c.stop-in-Err-new.ensures.fault (no_memory_between old c.stop-in-Err-new.ensures.entered c.stop-in-Err-new.ensures.height)
 
-pub step_turns-returns-in_default-change_all : goal.step_turns-returns-in_default-change_all
-step_turns-returns-in_default-change_all g t c = λ rs own.
-    let φ = g.R.Holds.answers c.args.context.now.functions.now in
-    let p = c.args.context.now.plan.now in
+pub step_turns-returns-in-Err-change_all : goal.step_turns-returns-in-Err-change_all
+step_turns-returns-in-Err-change_all g t c = λ rs own.
+    let μ = context_machine g.R.Holds.answers c.args.context.now in
     let run = held_as c.args.keys.now rs c.args.edit.wait in
     let d = c.args.context.now.dt in
     let i = c.args.value.now in
@@ -987,13 +944,12 @@ step_turns-returns-in_default-change_all g t c = λ rs own.
     let ds = c.step_noted.new.states.items in
     let ys = c.in_ok-noted.noted.outputs.items in
     let gs = c.in_ok-noted.noted.turns.items in
-    let old = old_step φ p run bs own c.args.edit.draft d i c.args.edit.inside m n ds ys gs c.in_ok-noted.ensures in
-    edit_stopped c.stop-in_default-change_all.ensures.fault (no_memory_between old c.stop-in_default-change_all.ensures.entered c.stop-in_default-change_all.ensures.height)
+    let old = old_step μ run bs own c.args.edit.draft d i c.args.edit.inside m n ds ys gs c.in_ok-noted.ensures in
+    edit_stopped c.stop-in-Err-change_all.ensures.fault (no_memory_between old c.stop-in-Err-change_all.ensures.entered c.stop-in-Err-change_all.ensures.height)
 
 pub step_turns-step_again-requires : goal.step_turns-step_again-requires
 step_turns-step_again-requires g t c =
-    let φ = g.R.Holds.answers c.args.context.now.functions.now in
-    let p = c.args.context.now.plan.now in
+    let μ = context_machine g.R.Holds.answers c.args.context.now in
     let d = c.args.context.now.dt in
     let i = c.args.value.now in
     let m = c.args.meter.now in
@@ -1002,8 +958,8 @@ step_turns-step_again-requires g t c =
     let ds = c.step_noted.new.states.items in
     let ys = c.in_ok-noted.noted.outputs.items in
     let gs = c.in_ok-noted.noted.turns.items in
-    let os = c.in-Ok.outputs.items in
-    let long = notes_long φ p c.args.edit.wait d i c.args.edit.inside c.in_ok-noted.ensures in
+    let os = c.in-Ok.value.1.items in
+    let long = notes_long μ c.args.edit.wait d i c.args.edit.inside c.in_ok-noted.ensures in
     let cs = c.args.edit.draft.changes.items in
     let states : length c.change_all.new.states.items ≡ length c.deref.result.now = ap length c.in-Ok-change_all.ensures.states ∙ changed_long (λ a. a) (λ a. Begins) cs ds gs long.0 ∙ sym (ap length (c.deref.ensures.value ∙ c.in-Ok-change_all.ensures.turns)) in
     let outputs : length c.change_all.new.outputs.items ≡ length c.deref.result.now = ap length c.in-Ok-change_all.ensures.outputs ∙ changed_long (λ a. i) (λ a. Begins) cs os gs (c.in-Ok.ensures.long ∙ long.1) ∙ sym (ap length (c.deref.ensures.value ∙ c.in-Ok-change_all.ensures.turns)) in
@@ -1011,8 +967,7 @@ step_turns-step_again-requires g t c =
 
 pub step_turns-returns-in_err-step_again : goal.step_turns-returns-in_err-step_again
 step_turns-returns-in_err-step_again g t c = λ rs own.
-    let φ = g.R.Holds.answers c.args.context.now.functions.now in
-    let p = c.args.context.now.plan.now in
+    let μ = context_machine g.R.Holds.answers c.args.context.now in
     let run = held_as c.args.keys.now rs c.args.edit.wait in
     let d = c.args.context.now.dt in
     let i = c.args.value.now in
@@ -1022,39 +977,14 @@ step_turns-returns-in_err-step_again g t c = λ rs own.
     let ds = c.step_noted.new.states.items in
     let ys = c.in_ok-noted.noted.outputs.items in
     let gs = c.in_ok-noted.noted.turns.items in
-    let old = old_step φ p run bs own c.args.edit.draft d i c.args.edit.inside m n ds ys gs c.in_ok-noted.ensures in
-    let os = c.in-Ok.outputs.items in
-    let turned = not_turned_so φ p run bs c.args.edit.draft d i c.args.edit.inside m n ds ys os gs c.in_ok-noted.ensures c.in-Ok.ensures.long c.step_again.new.meter c.unwrap_or.ensures c.in-Ok-change_all.ensures.states c.in-Ok-change_all.ensures.outputs (c.deref.ensures.value ∙ c.in-Ok-change_all.ensures.turns) _ c.in_err-step_again.ensures in
-    pass_edit _ _ c.from_residual-in_err-step_again.ensures.0 (Edits.new_fails old refl (new_stop φ p run bs own c.args.edit.draft d i c.args.edit.inside m n ds ys gs c.in_ok-noted.ensures _ c.step_again.new.meter turned))
-
-pub step_turns-returns-in-Ok-table_after : goal.step_turns-returns-in-Ok-table_after
-step_turns-returns-in-Ok-table_after g t c = λ rs own.
-    let φ = g.R.Holds.answers c.args.context.now.functions.now in
-    let p = c.args.context.now.plan.now in
-    let run = held_as c.args.keys.now rs c.args.edit.wait in
-    let d = c.args.context.now.dt in
-    let i = c.args.value.now in
-    let m = c.args.meter.now in
-    let n = c.step_noted.new.meter in
-    let bs = c.args.states.now.items in
-    let ds = c.step_noted.new.states.items in
-    let ys = c.in_ok-noted.noted.outputs.items in
-    let gs = c.in_ok-noted.noted.turns.items in
-    let old = old_step φ p run bs own c.args.edit.draft d i c.args.edit.inside m n ds ys gs c.in_ok-noted.ensures in
-    let os = c.in-Ok.outputs.items in
-    let es = c.step_again.new.states.items in
-    let zs = c.step_again.new.outputs.items in
-    let turned = turned_so φ p run bs c.args.edit.draft d i c.args.edit.inside m n ds ys os gs c.in_ok-noted.ensures c.in-Ok.ensures.long c.step_again.new.meter c.unwrap_or.ensures c.in-Ok-change_all.ensures.states c.in-Ok-change_all.ensures.outputs (c.deref.ensures.value ∙ c.in-Ok-change_all.ensures.turns) es zs c.in_ok-step_again.ensures in
-    let cs = c.args.edit.draft.changes.items in
-    let ks = c.in-Ok-new.all.value in
-    let before = c.in-Ok.before in
-    new_run old refl (new_step φ p run bs own c.args.edit.draft d i c.args.edit.inside m n ds ys gs c.in_ok-noted.ensures es turned.vs ks c.step_again.new.meter c.in-Ok-new.ensures.ok turned.turned)
-    (shows_so c.args.edit.shown (table (keyed_rows run.keys ys)) c.in-Ok-table_after.rows before (λ zs. table (keyed_rows ks zs)) zs turned.vs c.in-Ok.ensures.shows (λ none. turned.same (ap (all_changed (λ a. i) cs) (c.in-Ok.ensures.same none))) c.in-Ok-table_after.ensures)
+    let old = old_step μ run bs own c.args.edit.draft d i c.args.edit.inside m n ds ys gs c.in_ok-noted.ensures in
+    let os = c.in-Ok.value.1.items in
+    let turned = not_turned_so μ run bs c.args.edit.draft d i c.args.edit.inside m n ds ys os gs c.in_ok-noted.ensures c.in-Ok.ensures.long c.step_again.new.meter c.unwrap_or.ensures c.in-Ok-change_all.ensures.states c.in-Ok-change_all.ensures.outputs (c.deref.ensures.value ∙ c.in-Ok-change_all.ensures.turns) _ c.in_err-step_again.ensures in
+    pass_edit _ _ c.from_residual-in_err-step_again.ensures.0 (Edits.new_fails old refl (new_stop μ run bs own c.args.edit.draft d i c.args.edit.inside m n ds ys gs c.in_ok-noted.ensures _ c.step_again.new.meter turned))
 
 pub step_turns-returns : goal.step_turns-returns
 step_turns-returns g t c = λ rs own.
-    let φ = g.R.Holds.answers c.args.context.now.functions.now in
-    let p = c.args.context.now.plan.now in
+    let μ = context_machine g.R.Holds.answers c.args.context.now in
     let run = held_as c.args.keys.now rs c.args.edit.wait in
     let d = c.args.context.now.dt in
     let i = c.args.value.now in
@@ -1064,127 +994,137 @@ step_turns-returns g t c = λ rs own.
     let ds = c.step_noted.new.states.items in
     let ys = c.in_ok-noted.noted.outputs.items in
     let gs = c.in_ok-noted.noted.turns.items in
-    let old = old_step φ p run bs own c.args.edit.draft d i c.args.edit.inside m n ds ys gs c.in_ok-noted.ensures in
-    let os = c.in-Ok.outputs.items in
+    let old = old_step μ run bs own c.args.edit.draft d i c.args.edit.inside m n ds ys gs c.in_ok-noted.ensures in
+    let os = c.in-Ok.value.1.items in
     let es = c.step_again.new.states.items in
     let zs = c.step_again.new.outputs.items in
-    let turned = turned_so φ p run bs c.args.edit.draft d i c.args.edit.inside m n ds ys os gs c.in_ok-noted.ensures c.in-Ok.ensures.long c.step_again.new.meter c.unwrap_or.ensures c.in-Ok-change_all.ensures.states c.in-Ok-change_all.ensures.outputs (c.deref.ensures.value ∙ c.in-Ok-change_all.ensures.turns) es zs c.in_ok-step_again.ensures in
-    edit_stopped c.stop-in-Err.ensures.fault (Edits.new_fails old refl (new_end φ p run bs own c.args.edit.draft d i c.args.edit.inside m n ds ys gs c.in_ok-noted.ensures es turned.vs c.step_again.new.meter c.stop-in-Err.new.self c.stop-in-Err.ensures.entered c.stop-in-Err.ensures.height turned.turned))
+    let turned = turned_so μ run bs c.args.edit.draft d i c.args.edit.inside m n ds ys os gs c.in_ok-noted.ensures c.in-Ok.ensures.long c.step_again.new.meter c.unwrap_or.ensures c.in-Ok-change_all.ensures.states c.in-Ok-change_all.ensures.outputs (c.deref.ensures.value ∙ c.in-Ok-change_all.ensures.turns) es zs c.in_ok-step_again.ensures in
+    let cs = c.args.edit.draft.changes.items in
+    let ks = c.in-Ok-new.value.value in
+    let before = c.in-Ok.value.0 in
+    new_run old refl (new_step μ run bs own c.args.edit.draft d i c.args.edit.inside m n ds ys gs c.in_ok-noted.ensures es turned.vs ks c.step_again.new.meter c.in-Ok-new.ensures.ok turned.turned)
+    (shows_so c.args.edit.shown (table (keyed_rows run.keys ys)) c.in-Ok-table_after.value before (λ zs. table (keyed_rows ks zs)) zs turned.vs c.in-Ok.ensures.shows (λ none. turned.same (ap (all_changed (λ a. i) cs) (c.in-Ok.ensures.same none))) c.in-Ok-table_after.ensures)
+
+pub step_turns-returns-in-Err-table_after : goal.step_turns-returns-in-Err-table_after
+step_turns-returns-in-Err-table_after g t c = λ rs own.
+    let μ = context_machine g.R.Holds.answers c.args.context.now in
+    let run = held_as c.args.keys.now rs c.args.edit.wait in
+    let d = c.args.context.now.dt in
+    let i = c.args.value.now in
+    let m = c.args.meter.now in
+    let n = c.step_noted.new.meter in
+    let bs = c.args.states.now.items in
+    let ds = c.step_noted.new.states.items in
+    let ys = c.in_ok-noted.noted.outputs.items in
+    let gs = c.in_ok-noted.noted.turns.items in
+    let old = old_step μ run bs own c.args.edit.draft d i c.args.edit.inside m n ds ys gs c.in_ok-noted.ensures in
+    let os = c.in-Ok.value.1.items in
+    let es = c.step_again.new.states.items in
+    let zs = c.step_again.new.outputs.items in
+    let turned = turned_so μ run bs c.args.edit.draft d i c.args.edit.inside m n ds ys os gs c.in_ok-noted.ensures c.in-Ok.ensures.long c.step_again.new.meter c.unwrap_or.ensures c.in-Ok-change_all.ensures.states c.in-Ok-change_all.ensures.outputs (c.deref.ensures.value ∙ c.in-Ok-change_all.ensures.turns) es zs c.in_ok-step_again.ensures in
+    edit_stopped c.stop-in-Err-table_after.ensures.fault (Edits.new_fails old refl (new_end μ run bs own c.args.edit.draft d i c.args.edit.inside m n ds ys gs c.in_ok-noted.ensures es turned.vs c.step_again.new.meter c.stop-in-Err-table_after.new.self c.stop-in-Err-table_after.ensures.entered c.stop-in-Err-table_after.ensures.height turned.turned))
 
 -- ## step_members
 
 pub step_members-returns-in_err-outputs : goal.step_members-returns-in_err-outputs
 step_members-returns-in_err-outputs g t c = λ low ms L G.
-    let φ = g.R.Holds.answers c.args.context.now.functions.now in
-    let p = c.args.context.now.plan.now in
+    let μ = context_machine g.R.Holds.answers c.args.context.now in
     let n = c.step_list.new.meter in
-    pass_exit _ _ c.from_residual.ensures.0 (members_fail φ p c.args.members.now c.args.context.now.dt c.args.value.now c.args.meter.now n c.args.inside (meter_fault n) c.in_err-outputs.ensures low ms L G)
+    pass_exit _ _ c.from_residual.ensures.0 (members_fail μ c.args.members.now c.args.context.now.dt c.args.value.now c.args.meter.now n c.args.inside (meter_fault n) c.in_err-outputs.ensures low ms L G)
 
-pub step_members-returns-in-Ok : goal.step_members-returns-in-Ok
-step_members-returns-in-Ok g t c =
-    let φ = g.R.Holds.answers c.args.context.now.functions.now in
-    let p = c.args.context.now.plan.now in
+pub step_members-returns : goal.step_members-returns
+step_members-returns g t c =
+    let μ = context_machine g.R.Holds.answers c.args.context.now in
     let ys = c.in_ok-outputs.outputs.items in
     let h : Gathered = record { keys = c.args.members.now.keys; states = c.step_list.new.list; wait = None } in
-    members_step φ p c.args.members.now h c.args.context.now.dt c.args.value.now c.args.meter.now c.step_list.new.meter c.args.inside ys c.in-Ok.rows
+    members_step μ c.args.members.now h c.args.context.now.dt c.args.value.now c.args.meter.now c.step_list.new.meter c.args.inside ys c.in-Ok.value
     c.in-Ok.ensures refl refl c.in_ok-outputs.ensures
 
 pub step_members-returns-in-Err : goal.step_members-returns-in-Err
 step_members-returns-in-Err g t c =
-    let φ = g.R.Holds.answers c.args.context.now.functions.now in
-    let p = c.args.context.now.plan.now in
-    members_end φ p c.args.members.now c.args.context.now.dt c.args.value.now c.args.meter.now c.step_list.new.meter c.stop.new.self c.args.inside _ c.in_ok-outputs.outputs.items
+    let μ = context_machine g.R.Holds.answers c.args.context.now in
+    members_end μ c.args.members.now c.args.context.now.dt c.args.value.now c.args.meter.now c.step_list.new.meter c.stop.new.self c.args.inside _ c.in_ok-outputs.outputs.items
     c.stop.ensures.fault c.stop.ensures.entered c.stop.ensures.height c.in_ok-outputs.ensures
 
 -- ## step_list
 
 pub step_list-returns-in-Some : goal.step_list-returns-in-Some
 step_list-returns-in-Some g t c =
-    let φ = g.R.Holds.answers c.args.context.now.functions.now in
-    let p = c.args.context.now.plan.now in
+    let μ = context_machine g.R.Holds.answers c.args.context.now in
     let v = c.args.list.now.value in
-    let own = subst (λ (v : Vec State Global). AllFollow φ p c.args.list.now.value.items v.items) (sym c.in-Some.ensures.value) (list_follows φ p v v refl) in
-    list_alike φ p own c.step_each.ensures
+    let own = subst (λ (v : Vec State Global). AllFollow μ c.args.list.now.value.items v.items) (sym c.in-Some.ensures.value) (list_follows μ v v refl) in
+    list_alike μ own c.step_each.ensures
 
 pub step_list-returns-in-None : goal.step_list-returns-in-None
 step_list-returns-in-None g t c = c.step_list_copy.ensures
 
-pub step_list_copy-returns-in_default : goal.step_list_copy-returns-in_default
-step_list_copy-returns-in_default g t c =
-    let φ = g.R.Holds.answers c.args.context.now.functions.now in
-    let p = c.args.context.now.plan.now in
+pub step_list_copy-returns-in-Err : goal.step_list_copy-returns-in-Err
+step_list_copy-returns-in-Err g t c =
+    let μ = context_machine g.R.Holds.answers c.args.context.now in
     let bs = c.args.list.now.value.items in
-    stopped_at φ p c.args.wait refl c.stop.ensures.fault (memory_now φ p c.args.wait bs c.args.context.now.dt c.args.value.now c.args.meter.now c.stop.new.self c.args.inside c.stop.ensures.entered c.stop.ensures.height)
+    stopped_at μ c.args.wait refl c.stop.ensures.fault (memory_now μ c.args.wait bs c.args.context.now.dt c.args.value.now c.args.meter.now c.stop.new.self c.args.inside c.stop.ensures.entered c.stop.ensures.height)
 
-pub step_list_copy-returns-in_default-own_states : goal.step_list_copy-returns-in_default-own_states
-step_list_copy-returns-in_default-own_states g t c =
-    let φ = g.R.Holds.answers c.args.context.now.functions.now in
-    let p = c.args.context.now.plan.now in
+pub step_list_copy-returns-in-Err-own_states : goal.step_list_copy-returns-in-Err-own_states
+step_list_copy-returns-in-Err-own_states g t c =
+    let μ = context_machine g.R.Holds.answers c.args.context.now in
     let bs = c.args.list.now.value.items in
-    stopped_at φ p c.args.wait refl c.stop-in_default-own_states.ensures.fault (memory_now φ p c.args.wait bs c.args.context.now.dt c.args.value.now c.args.meter.now c.stop-in_default-own_states.new.self c.args.inside c.stop-in_default-own_states.ensures.entered c.stop-in_default-own_states.ensures.height)
+    stopped_at μ c.args.wait refl c.stop-in-Err-own_states.ensures.fault (memory_now μ c.args.wait bs c.args.context.now.dt c.args.value.now c.args.meter.now c.stop-in-Err-own_states.new.self c.args.inside c.stop-in-Err-own_states.ensures.entered c.stop-in-Err-own_states.ensures.height)
 
 pub step_list_copy-returns-in_err-values : goal.step_list_copy-returns-in_err-values
 step_list_copy-returns-in_err-values g t c =
-    let φ = g.R.Holds.answers c.args.context.now.functions.now in
-    let p = c.args.context.now.plan.now in
-    pass_with _ _ c.from_residual.ensures.0 (list_alike φ p (subst (λ (v : Vec State Global). AllFollow φ p v.items c.in-Ok-own_states.own.items) c.in-Ok.ensures.cases (c.in-Ok-own_states.ensures φ p)) c.in_err-values.ensures)
+    let μ = context_machine g.R.Holds.answers c.args.context.now in
+    pass_with _ _ c.from_residual.ensures.0 (list_alike μ (subst (λ (v : Vec State Global). AllFollow μ v.items c.in-Ok-own_states.value.items) c.in-Ok.ensures.cases (c.in-Ok-own_states.ensures μ)) c.in_err-values.ensures)
 
-pub step_list_copy-returns-in_default-new : goal.step_list_copy-returns-in_default-new
-step_list_copy-returns-in_default-new g t c =
-    let φ = g.R.Holds.answers c.args.context.now.functions.now in
-    let p = c.args.context.now.plan.now in
-    late_list φ p (list_alike φ p (subst (λ (v : Vec State Global). AllFollow φ p v.items c.in-Ok-own_states.own.items) c.in-Ok.ensures.cases (c.in-Ok-own_states.ensures φ p)) c.in_ok-values.ensures) c.stop-in_default-new.ensures.entered c.stop-in_default-new.ensures.height c.stop-in_default-new.ensures.fault
+pub step_list_copy-returns-in-Err-new : goal.step_list_copy-returns-in-Err-new
+step_list_copy-returns-in-Err-new g t c =
+    let μ = context_machine g.R.Holds.answers c.args.context.now in
+    late_list μ (list_alike μ (subst (λ (v : Vec State Global). AllFollow μ v.items c.in-Ok-own_states.value.items) c.in-Ok.ensures.cases (c.in-Ok-own_states.ensures μ)) c.in_ok-values.ensures) c.stop-in-Err-new.ensures.entered c.stop-in-Err-new.ensures.height c.stop-in-Err-new.ensures.fault
 
 pub step_list_copy-returns : goal.step_list_copy-returns
 step_list_copy-returns g t c =
-    let φ = g.R.Holds.answers c.args.context.now.functions.now in
-    let p = c.args.context.now.plan.now in
-    rw c.in-Ok-new.ensures.ok (list_alike φ p (subst (λ (v : Vec State Global). AllFollow φ p v.items c.in-Ok-own_states.own.items) c.in-Ok.ensures.cases (c.in-Ok-own_states.ensures φ p)) c.in_ok-values.ensures)
+    let μ = context_machine g.R.Holds.answers c.args.context.now in
+    rw c.in-Ok-new.ensures.ok (list_alike μ (subst (λ (v : Vec State Global). AllFollow μ v.items c.in-Ok-own_states.value.items) c.in-Ok.ensures.cases (c.in-Ok-own_states.ensures μ)) c.in_ok-values.ensures)
 
 -- ## step_each
 
-pub step_each-returns-in_default : goal.step_each-returns-in_default
-step_each-returns-in_default g t c =
-    let φ = g.R.Holds.answers c.args.context.now.functions.now in
-    let p = c.args.context.now.plan.now in
-    stopped_at φ p c.args.wait refl c.stop.ensures.fault (memory_now φ p c.args.wait c.args.states.now.items c.args.context.now.dt c.args.value.now c.args.meter.now c.stop.new.self c.args.inside c.stop.ensures.entered c.stop.ensures.height)
+pub step_each-returns-in-Err : goal.step_each-returns-in-Err
+step_each-returns-in-Err g t c =
+    let μ = context_machine g.R.Holds.answers c.args.context.now in
+    stopped_at μ c.args.wait refl c.stop.ensures.fault (memory_now μ c.args.wait c.args.states.now.items c.args.context.now.dt c.args.value.now c.args.meter.now c.stop.new.self c.args.inside c.stop.ensures.entered c.stop.ensures.height)
 
 pub step_each-loop-state-init : goal.step_each-loop-state-init
 step_each-loop-state-init g t c =
-    let φ = g.R.Holds.answers c.args.context.now.functions.now in
-    let p = c.args.context.now.plan.now in
+    let μ = context_machine g.R.Holds.answers c.args.context.now in
     let d = c.args.context.now.dt in
     let x = c.args.value.now in
     let m = c.args.meter.now in
     let bs = c.deref_mut-state-items.result.now in
     record {
-      goes_on = subst (λ ys. Continues φ p c.args.wait bs d x m [] ys bs m c.args.inside) (sym c.in-Ok.ensures.items) (each_first φ p c.args.wait bs d x m c.args.inside);
+      goes_on = subst (λ ys. Continues μ c.args.wait bs d x m [] ys bs m c.args.inside) (sym c.in-Ok.ensures.items) (each_first μ c.args.wait bs d x m c.args.inside);
       as_many = c.in-Ok.ensures.len;
       room = omega (arith, c.in-Ok.ensures.capacity, c.len.ensures, ap length c.deref_mut-state-items.ensures.value);
     }
 
-pub step_each-returns-in_default-clone_in : goal.step_each-returns-in_default-clone_in
-step_each-returns-in_default-clone_in g t c =
-    let φ = g.R.Holds.answers c.args.context.now.functions.now in
-    let p = c.args.context.now.plan.now in
+pub step_each-returns-in-Err-clone_in : goal.step_each-returns-in-Err-clone_in
+step_each-returns-in-Err-clone_in g t c =
+    let μ = context_machine g.R.Holds.answers c.args.context.now in
     let l = c.loop-state in
-    let n = c.stop-in_default-clone_in.new.self in
-    stopped_at φ p c.args.wait c.deref_mut-state-items.ensures.value c.stop-in_default-clone_in.ensures.fault
-    (each_memory φ p c.args.wait c.deref_mut-state-items.result.now c.args.context.now.dt c.args.value.now c.args.meter.now (take l.state-index l.state-items) l.outputs.items (drop l.state-index l.state-items) l.meter n c.args.inside l.invariant.goes_on c.stop-in_default-clone_in.ensures.entered c.stop-in_default-clone_in.ensures.height)
+    let n = c.stop-in-Err-clone_in.new.self in
+    stopped_at μ c.args.wait c.deref_mut-state-items.ensures.value c.stop-in-Err-clone_in.ensures.fault
+    (each_memory μ c.args.wait c.deref_mut-state-items.result.now c.args.context.now.dt c.args.value.now c.args.meter.now (take l.state-index l.state-items) l.outputs.items (drop l.state-index l.state-items) l.meter n c.args.inside l.invariant.goes_on c.stop-in-Err-clone_in.ensures.entered c.stop-in-Err-clone_in.ensures.height)
 
 pub step_each-returns-in_err-step_member : goal.step_each-returns-in_err-step_member
 step_each-returns-in_err-step_member g t c =
-    let φ = g.R.Holds.answers c.args.context.now.functions.now in
-    let p = c.args.context.now.plan.now in
+    let μ = context_machine g.R.Holds.answers c.args.context.now in
     let d = c.args.context.now.dt in
     let x = c.args.value.now in
     let m = c.args.meter.now in
     let l = c.loop-state in
     let f = meter_fault c.step_member.new.meter in
     let n = c.step_member.new.meter in
-    let failed = each_fails φ p c.args.wait _ d x m l.state-items l.state-index l.outputs.items l.meter c.args.inside c.state-item.result (omega (arith, c.loop-state-test.true, l.auto.state-items)) l.invariant.goes_on
+    let failed = each_fails μ c.args.wait _ d x m l.state-items l.state-index l.outputs.items l.meter c.args.inside c.state-item.result (omega (arith, c.loop-state-test.true, l.auto.state-items)) l.invariant.goes_on
     f n (rw c.in-Ok-clone_in.ensures at c.in_err-step_member.ensures) in
-    pass_with _ _ c.from_residual.ensures.0 (subst (λ bs. EachSteps φ p c.args.wait bs (step d x) (Err f) m n c.args.inside) c.deref_mut-state-items.ensures.value failed)
+    pass_with _ _ c.from_residual.ensures.0 (subst (λ bs. EachSteps μ c.args.wait bs (step d x) (Err f) m n c.args.inside) c.deref_mut-state-items.ensures.value failed)
 
 pub step_each-push_reserved-requires : goal.step_each-push_reserved-requires
 step_each-push_reserved-requires g t c =
@@ -1193,8 +1133,7 @@ step_each-push_reserved-requires g t c =
 
 pub step_each-loop-state-preserved : goal.step_each-loop-state-preserved
 step_each-loop-state-preserved g t c =
-    let φ = g.R.Holds.answers c.args.context.now.functions.now in
-    let p = c.args.context.now.plan.now in
+    let μ = context_machine g.R.Holds.answers c.args.context.now in
     let d = c.args.context.now.dt in
     let x = c.args.value.now in
     let m = c.args.meter.now in
@@ -1202,8 +1141,8 @@ step_each-loop-state-preserved g t c =
     let n = c.step_member.new.meter in
     let bs = set l.state-items l.state-index c.step_member.new.state in
     record {
-      goes_on = subst (λ ys. Continues φ p c.args.wait c.deref_mut-state-items.result.now d x m (take (l.state-index + 1) bs) ys (drop (l.state-index + 1) bs) n c.args.inside) (sym c.push_reserved.ensures.items)
-          (each_next φ p c.args.wait c.deref_mut-state-items.result.now d x m l.state-items l.state-index l.outputs.items l.meter c.args.inside c.state-item.result (omega (arith, c.loop-state-test.true, l.auto.state-items)) l.invariant.goes_on
+      goes_on = subst (λ ys. Continues μ c.args.wait c.deref_mut-state-items.result.now d x m (take (l.state-index + 1) bs) ys (drop (l.state-index + 1) bs) n c.args.inside) (sym c.push_reserved.ensures.items)
+          (each_next μ c.args.wait c.deref_mut-state-items.result.now d x m l.state-items l.state-index l.outputs.items l.meter c.args.inside c.state-item.result (omega (arith, c.loop-state-test.true, l.auto.state-items)) l.invariant.goes_on
           c.step_member.new.state c.step_member.new.value n (rw c.in-Ok-clone_in.ensures at c.in_ok-step_member.ensures));
       as_many = c.push_reserved.ensures.len ∙ ap (λ k. k + 1) l.invariant.as_many;
       room = omega (arith, length-set l.state-items l.state-index c.step_member.new.state, l.invariant.room, c.push_reserved.ensures.capacity);
@@ -1211,8 +1150,7 @@ step_each-loop-state-preserved g t c =
 
 pub step_each-returns : goal.step_each-returns
 step_each-returns g t c =
-    let φ = g.R.Holds.answers c.args.context.now.functions.now in
-    let p = c.args.context.now.plan.now in
+    let μ = context_machine g.R.Holds.answers c.args.context.now in
     let d = c.args.context.now.dt in
     let x = c.args.value.now in
     let m = c.args.meter.now in
@@ -1220,36 +1158,32 @@ step_each-returns g t c =
     let last : l.state-index ≡ length l.state-items = omega (arith, l.auto.state-items, l.auto.state-index-end, c.loop-state-test.false) in
     let w = with_items c.args.states.now l.state-items in
     let whole : w.items ≡ l.state-items = with_items_is c.args.states.now l.state-items (omega (arith, l.auto.state-items, ap length c.deref_mut-state-items.ensures.value)) in
-    let all = each_last φ p c.args.wait _ d x m l.state-items l.state-index l.outputs.items l.meter c.args.inside last l.invariant.goes_on in
-    rw whole (subst (λ bs. EachSteps φ p c.args.wait bs (step d x) (Ok (l.state-items, l.outputs.items)) m l.meter c.args.inside) c.deref_mut-state-items.ensures.value all)
+    let all = each_last μ c.args.wait _ d x m l.state-items l.state-index l.outputs.items l.meter c.args.inside last l.invariant.goes_on in
+    rw whole (subst (λ bs. EachSteps μ c.args.wait bs (step d x) (Ok (l.state-items, l.outputs.items)) m l.meter c.args.inside) c.deref_mut-state-items.ensures.value all)
 
 -- ## step_member, step_waiting
 
 pub step_member-returns-in-None : goal.step_member-returns-in-None
 step_member-returns-in-None g t c =
-    let φ = g.R.Holds.answers c.args.context.now.functions.now in
-    let p = c.args.context.now.plan.now in
-    rw c.in-None.is (runs_among φ p c.args.state.now (step c.args.context.now.dt c.args.value.now) _ c.args.meter.now c.step_state.new.meter c.args.inside c.step_state.ensures)
+    let μ = context_machine g.R.Holds.answers c.args.context.now in
+    rw c.in-None.is (runs_among μ c.args.state.now (step c.args.context.now.dt c.args.value.now) _ c.args.meter.now c.step_state.new.meter c.args.inside c.step_state.ensures)
 
 pub step_member-returns-in-Some : goal.step_member-returns-in-Some
 step_member-returns-in-Some g t c = rw c.in-Some.is c.step_waiting.ensures
 
 pub step_waiting-returns-then-has_lived : goal.step_waiting-returns-then-has_lived
 step_waiting-returns-then-has_lived g t c =
-    let φ = g.R.Holds.answers c.args.context.now.functions.now in
-    let p = c.args.context.now.plan.now in
-    goes_on_among φ p c.args.state.now c.args.wait c.args.context.now.dt c.args.value.now _ c.args.meter.now c.step_state.new.meter c.args.inside (awake_lived φ p c.args.state.now (sym c.has_lived.ensures ∙ c.if-has_lived.true)) c.step_state.ensures
+    let μ = context_machine g.R.Holds.answers c.args.context.now in
+    goes_on_among μ c.args.state.now c.args.wait c.args.context.now.dt c.args.value.now _ c.args.meter.now c.step_state.new.meter c.args.inside (awake_lived μ c.args.state.now (sym c.has_lived.ensures ∙ c.if-has_lived.true)) c.step_state.ensures
 
 pub step_waiting-returns-else-has_lived : goal.step_waiting-returns-else-has_lived
 step_waiting-returns-else-has_lived g t c =
-    let φ = g.R.Holds.answers c.args.context.now.functions.now in
-    let p = c.args.context.now.plan.now in
-    begins_among φ p c.args.state.now c.args.wait c.args.context.now.dt c.args.value.now _ c.args.meter.now c.step_state-else-has_lived.new.meter c.args.inside (asleep_fresh φ p c.args.state.now (sym c.has_lived.ensures ∙ c.if-has_lived.false)) c.step_state-else-has_lived.ensures
+    let μ = context_machine g.R.Holds.answers c.args.context.now in
+    begins_among μ c.args.state.now c.args.wait c.args.context.now.dt c.args.value.now _ c.args.meter.now c.step_state-else-has_lived.new.meter c.args.inside (asleep_fresh μ c.args.state.now (sym c.has_lived.ensures ∙ c.if-has_lived.false)) c.step_state-else-has_lived.ensures
 
 -- ## step_gathered
 
 pub step_gathered-returns : goal.step_gathered-returns
 step_gathered-returns g t c =
-    let φ = g.R.Holds.answers c.args.context.now.functions.now in
-    let p = c.args.context.now.plan.now in
-    gathered_so φ p c.args.members.now c.args.context.now.dt c.args.value.now c.args.meter.now c.step_members.new.meter c.args.inside c.step_members.result c.step_members.new.members c.step_members.new.value (meter_fault c.step_members.new.meter) c.step_members.ensures
+    let μ = context_machine g.R.Holds.answers c.args.context.now in
+    gathered_so μ c.args.members.now c.args.context.now.dt c.args.value.now c.args.meter.now c.step_members.new.meter c.args.inside c.step_members.result c.step_members.new.members c.step_members.new.value (meter_fault c.step_members.new.meter) c.step_members.ensures

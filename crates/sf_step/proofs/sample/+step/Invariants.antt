@@ -2,6 +2,7 @@ use Rattle.std.proofs.Common.{◌≡◌, ◌≤◌, ◌+◌, ◌-◌, ◌*◌, i
 use Rattle.std.specs.Prelude.{vec_len, vec_capacity}
 use Rattle.sf_value.specs.Values.{Data}
 use Rattle.sf_state.specs.Standing.{is_frozen}
+use Rattle.sf_begin.specs.Contexts.{context_machine}
 use Rattle.sf_step.proofs.Stages.{Continues}
 use Rattle.sf_step.proofs.Members
 use Rattle.sf_step.proofs.Turns.{NotesOn, TurnsOn}
@@ -91,7 +92,7 @@ decreases-step_begun g l = 22 * (1600 - l.inside) + 7
 
 abbrev pub invariant-step_pipeline-loop-stage : goal.invariant-step_pipeline-loop-stage
 invariant-step_pipeline-loop-stage g l = record {
-  goes_on : Continues (g.R.Holds.answers l.context.functions.now) l.context.plan.now l.initial.stage-items l.context.dt l.initial.value l.initial.meter (take l.stage-index l.stage-items) (drop l.stage-index l.stage-items) l.value l.meter l.inside;
+  goes_on : Continues (context_machine g.R.Holds.answers l.context) l.initial.stage-items l.context.dt l.initial.value l.initial.meter (take l.stage-index l.stage-items) (drop l.stage-index l.stage-items) l.value l.meter l.inside;
 }
 
 abbrev pub decreases-step_gathering : goal.decreases-step_gathering
@@ -126,7 +127,7 @@ decreases-step_each g l = 22 * (1600 - l.inside) + 9
 
 abbrev pub invariant-step_each-loop-state : goal.invariant-step_each-loop-state
 invariant-step_each-loop-state g l = record {
-  goes_on : Members.Continues (g.R.Holds.answers l.context.functions.now) l.context.plan.now l.wait l.initial.state-items l.context.dt l.value l.initial.meter (take l.state-index l.state-items) l.outputs.items (drop l.state-index l.state-items) l.meter l.inside;
+  goes_on : Members.Continues (context_machine g.R.Holds.answers l.context) l.wait l.initial.state-items l.context.dt l.value l.initial.meter (take l.state-index l.state-items) l.outputs.items (drop l.state-index l.state-items) l.meter l.inside;
   as_many : vec_len l.outputs ≡ l.state-index;
   room : length l.state-items ≤ vec_capacity l.outputs;
 }
@@ -157,7 +158,7 @@ decreases-step_noted g l = 22 * (1600 - l.inside) + 9
 
 abbrev pub invariant-step_noted-loop-ran : goal.invariant-step_noted-loop-ran
 invariant-step_noted-loop-ran g l = record {
-  goes_on : NotesOn (g.R.Holds.answers l.context.functions.now) l.context.plan.now l.wait l.context.dt l.value l.inside l.initial.meter l.initial.ran-items (take l.ran-index l.ran-items) l.outputs.items l.turns.items (drop l.ran-index l.ran-items) l.meter;
+  goes_on : NotesOn (context_machine g.R.Holds.answers l.context) l.wait l.context.dt l.value l.inside l.initial.meter l.initial.ran-items (take l.ran-index l.ran-items) l.outputs.items l.turns.items (drop l.ran-index l.ran-items) l.meter;
   as_many : vec_len l.outputs ≡ l.ran-index;
   room : length l.ran-items ≤ vec_capacity l.outputs;
   as_many_turns : vec_len l.turns ≡ l.ran-index;
@@ -169,7 +170,7 @@ decreases-step_again g l = 22 * (1600 - l.turns.inside) + 9
 
 abbrev pub invariant-step_again-loop-at : goal.invariant-step_again-loop-at
 invariant-step_again-loop-at g l = record {
-  goes_on : TurnsOn (g.R.Holds.answers l.context.functions.now) l.context.plan.now l.wait l.context.dt l.inside l.initial.meter l.initial.states.items l.initial.outputs.items l.each (take l.at l.states.items) (take l.at l.outputs.items) (drop l.at l.states.items) (drop l.at l.outputs.items) (drop l.at l.each) l.meter;
+  goes_on : TurnsOn (context_machine g.R.Holds.answers l.context) l.wait l.context.dt l.inside l.initial.meter l.initial.states.items l.initial.outputs.items l.each (take l.at l.states.items) (take l.at l.outputs.items) (drop l.at l.states.items) (drop l.at l.outputs.items) (drop l.at l.each) l.meter;
   states : length l.states.items ≡ length l.each;
   outputs : length l.outputs.items ≡ length l.each;
 }

@@ -18,6 +18,6 @@ returns-in_default-share-clause-running g c = λ n m L S R.
 pub returns-clause-running : goal.returns-clause-running
 returns-clause-running g c = λ n m L S R.
     let found = finds_some R c.args.name.now _ c.in-Some-get.ensures.value in
-    let copy = c.in-Ok.ensures _ _ m found.life found.save in
+    let copy = c.in-Ok.ensures _ m found.life found.save in
     returns_to (some_started _ L c.if-not-is_started.false (c.is_started.ensures.history n m L S R)) found.found
     (runs_on R refl refl refl refl copy.state copy.time (sym copy.last) copy.history R.saves)

@@ -11,6 +11,7 @@ use Rattle.sf_state.specs.declared.env.Collected.{Collected}
 use Rattle.sf_state.specs.Names.{given_members, given_at}
 use Rattle.sf_state.specs.Held.{gathered_holding}
 use Rattle.sf_state.specs.Standing.{IsNames, AreFound}
+use Rattle.sf_state.specs.Machine.{machine}
 use Rattle.sf_state.proofs.Scopes.{members_value, members_outside, members_there, members_further, members_process, members_behind, names_called, members_called}
 use Rattle.sf_state.proofs.env.Env.+members.Goals as goal
 
@@ -21,8 +22,8 @@ returns-in-None t c = λ φ e N.
     let b = c.in-Bound.binding.value in
     let pattern = ap (λ (a : Binding). a.pattern) c.deref.ensures in
     let value = c.deref-in-Bound-2.ensures ∙ ap (λ a. a.value.value) c.deref-in-Bound.ensures in
-    members_outside φ p x b.pattern b.value b.around _ e (rw (sym pattern, sym value) (c.in-None.ensures []))
-    (λ e M. c.members.ensures φ e (subst (λ a. IsNames φ p a.around e) (sym c.deref-in-None.ensures) M)) (rw c.in-Bound.is at N)
+    members_outside (machine φ p) x b.pattern b.value b.around _ e (rw (sym pattern, sym value) (c.in-None.ensures []))
+    (λ e M. c.members.ensures φ e (subst (λ a. IsNames (machine φ p) a.around e) (sym c.deref-in-None.ensures) M)) (rw c.in-Bound.is at N)
 
 pub returns-in-Some : goal.returns-in-Some
 returns-in-Some t c = λ φ e N.
@@ -31,43 +32,43 @@ returns-in-Some t c = λ φ e N.
     let b = c.in-Bound.binding.value in
     let pattern = ap (λ (a : Binding). a.pattern) c.deref.ensures in
     let value = c.deref-in-Bound-2.ensures ∙ ap (λ a. a.value.value) c.deref-in-Bound.ensures in
-    members_value φ p x b.pattern b.value b.around c.in-Some.field-0.now e (rw (sym pattern, sym value) (c.in-Some.ensures [])) (rw c.in-Bound.is at N)
+    members_value (machine φ p) x b.pattern b.value b.around c.in-Some.field-0.now e (rw (sym pattern, sym value) (c.in-Some.ensures [])) (rw c.in-Bound.is at N)
 
 pub returns-then-same_name : goal.returns-then-same_name
 returns-then-same_name t c = λ φ e N.
     let p = c.args.plan.now in
     let x = name_at (plan_expressions p) c.args.name in
     let b = c.in-Running.running.value in
-    members_process φ p x b.name b.handed.process b.handed.base b.around e (ap (λ (a : Running). bytes_eq x (name_at (plan_expressions p) a.name)) (sym c.deref-in-Running.ensures) ∙ sym c.same_name.ensures ∙ c.if-same_name.true) (rw c.in-Running.is at N)
+    members_process (machine φ p) x b.name b.handed.process b.handed.base b.around e (ap (λ (a : Running). bytes_eq x (name_at (plan_expressions p) a.name)) (sym c.deref-in-Running.ensures) ∙ sym c.same_name.ensures ∙ c.if-same_name.true) (rw c.in-Running.is at N)
 
 pub returns-else-same_name : goal.returns-else-same_name
 returns-else-same_name t c = λ φ e N.
     let p = c.args.plan.now in
     let x = name_at (plan_expressions p) c.args.name in
     let b = c.in-Running.running.value in
-    members_behind φ p x b.name b.handed.process b.handed.base b.around _ e (ap (λ (a : Running). bytes_eq x (name_at (plan_expressions p) a.name)) (sym c.deref-in-Running.ensures) ∙ sym c.same_name.ensures ∙ c.if-same_name.false)
-    (λ e M. c.members-else-same_name.ensures φ e (subst (λ (a : Running). IsNames φ p a.around e) (sym c.deref-else-same_name.ensures) M)) (rw c.in-Running.is at N)
+    members_behind (machine φ p) x b.name b.handed.process b.handed.base b.around _ e (ap (λ (a : Running). bytes_eq x (name_at (plan_expressions p) a.name)) (sym c.deref-in-Running.ensures) ∙ sym c.same_name.ensures ∙ c.if-same_name.false)
+    (λ e M. c.members-else-same_name.ensures φ e (subst (λ (a : Running). IsNames (machine φ p) a.around e) (sym c.deref-else-same_name.ensures) M)) (rw c.in-Running.is at N)
 
 pub returns-then-same_name-2 : goal.returns-then-same_name-2
 returns-then-same_name-2 t c = λ φ e N.
     let p = c.args.plan.now in
     let x = name_at (plan_expressions p) c.args.name in
     let b = c.in-Collected.collected.value in
-    let found : AreFound φ p (Some (gathered_holding b.members)) (members_of x e) =
-    members_there φ p x c.in-Collected.collected e (ap (λ (a : Collected). bytes_eq x (name_at (plan_expressions p) a.name)) (sym c.deref-in-Collected.ensures) ∙ sym c.same_name-in-Collected.ensures ∙ c.if-same_name-2.true) (rw c.in-Collected.is at N) in
-    subst (λ (r : Collected). AreFound φ p (Some (gathered_holding r.members)) (members_of x e)) (sym c.deref-then-same_name-2.ensures) found
+    let found : AreFound (machine φ p) (Some (gathered_holding b.members)) (members_of x e) =
+    members_there (machine φ p) x c.in-Collected.collected e (ap (λ (a : Collected). bytes_eq x (name_at (plan_expressions p) a.name)) (sym c.deref-in-Collected.ensures) ∙ sym c.same_name-in-Collected.ensures ∙ c.if-same_name-2.true) (rw c.in-Collected.is at N) in
+    subst (λ (r : Collected). AreFound (machine φ p) (Some (gathered_holding r.members)) (members_of x e)) (sym c.deref-then-same_name-2.ensures) found
 
 pub returns-else-same_name-2 : goal.returns-else-same_name-2
 returns-else-same_name-2 t c = λ φ e N.
     let p = c.args.plan.now in
     let x = name_at (plan_expressions p) c.args.name in
     let b = c.in-Collected.collected.value in
-    members_further φ p x c.in-Collected.collected _ e (ap (λ (a : Collected). bytes_eq x (name_at (plan_expressions p) a.name)) (sym c.deref-in-Collected.ensures) ∙ sym c.same_name-in-Collected.ensures ∙ c.if-same_name-2.false)
-    (λ e M. c.members-else-same_name-2.ensures φ e (subst (λ (a : Collected). IsNames φ p a.around e) (sym c.deref-else-same_name-2.ensures) M)) (rw c.in-Collected.is at N)
+    members_further (machine φ p) x c.in-Collected.collected _ e (ap (λ (a : Collected). bytes_eq x (name_at (plan_expressions p) a.name)) (sym c.deref-in-Collected.ensures) ∙ sym c.same_name-in-Collected.ensures ∙ c.if-same_name-2.false)
+    (λ e M. c.members-else-same_name-2.ensures φ e (subst (λ (a : Collected). IsNames (machine φ p) a.around e) (sym c.deref-else-same_name-2.ensures) M)) (rw c.in-Collected.is at N)
 
 pub returns-in-Called : goal.returns-in-Called
 returns-in-Called t c = λ φ e N.
     let p = c.args.plan.now in
     let x = name_at (plan_expressions p) c.args.name in
     let given = c.members-in-Called.ensures ∙ ap (λ (k : Call). given_members (given_at (last_parameter x (names_called p k)) k.arguments.items)) c.deref-in-Called.ensures in
-    subst (λ r. AreFound φ p r (members_of x e)) (sym given) (members_called φ p x c.in-Called.call e (rw c.in-Called.is at N))
+    subst (λ r. AreFound (machine φ p) r (members_of x e)) (sym given) (members_called (machine φ p) x c.in-Called.call e (rw c.in-Called.is at N))

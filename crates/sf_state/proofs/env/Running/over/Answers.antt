@@ -5,6 +5,6 @@ use Rattle.sf_state.proofs.Fewer.{process_made}
 use Rattle.sf_state.proofs.env.Running.over.Goals as goal
 
 pub returns : goal.returns
-returns c = λ φ p m l e P h H k.
+returns c = λ μ m l e P h H k.
     let r : Running = record { name = c.args.self.now.name; handed = c.in_ok-handed.handed; around = c.in-Some.around } in
-    process_made φ p r c.in_ok-running.running.value c.in_ok-running.ensures.ok h (c.in_ok-handed.ensures φ p (name_at (plan_expressions p) c.args.self.now.name) P H) (rw c.in-Some.is at k)
+    process_made μ r c.in_ok-running.running.value c.in_ok-running.ensures.ok h (c.in_ok-handed.ensures μ (name_at (plan_expressions μ.plan) c.args.self.now.name) P H) (rw c.in-Some.is at k)

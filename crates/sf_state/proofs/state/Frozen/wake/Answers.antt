@@ -2,26 +2,26 @@ use Rattle.sf_state.proofs.Copies.{kept_around}
 use Rattle.sf_state.proofs.state.Frozen.wake.Goals as goal
 
 pub returns-in-Primitive-clause-stands : goal.returns-in-Primitive-clause-stands
-returns-in-Primitive-clause-stands c = λ φ p P L A.
+returns-in-Primitive-clause-stands c = λ μ P L A.
     let names = c.args.self.now.names in
-    rw c.in-Primitive.is at (kept_around φ p names c.in_ok-around.around c.in_ok-node.field-0 (c.in_ok-around.ensures φ p) P L (c.in_ok-node.ensures φ p names P L A))
+    rw c.in-Primitive.is at (kept_around μ names c.in_ok-around.around c.in_ok-node.field-0 (c.in_ok-around.ensures μ) P L (c.in_ok-node.ensures μ names P L A))
 
 pub returns-in-Live-clause-stands : goal.returns-in-Live-clause-stands
-returns-in-Live-clause-stands c = λ φ p P L A.
+returns-in-Live-clause-stands c = λ μ P L A.
     let names = c.args.self.now.names in
-    rw c.in-Live.is at (kept_around φ p names c.in_ok-around.around c.in_ok-node.field-0 (c.in_ok-around.ensures φ p) P L (c.in_ok-node.ensures φ p names P L A))
+    rw c.in-Live.is at (kept_around μ names c.in_ok-around.around c.in_ok-node.field-0 (c.in_ok-around.ensures μ) P L (c.in_ok-node.ensures μ names P L A))
 
 pub returns-in-Switch-clause-stands : goal.returns-in-Switch-clause-stands
-returns-in-Switch-clause-stands c = λ φ p P L A.
+returns-in-Switch-clause-stands c = λ μ P L A.
     let names = c.args.self.now.names in
-    rw c.in-Switch.is at (kept_around φ p names c.in_ok-around.around c.in_ok-node.field-0 (c.in_ok-around.ensures φ p) P L (c.in_ok-node.ensures φ p names P L A))
+    rw c.in-Switch.is at (kept_around μ names c.in_ok-around.around c.in_ok-node.field-0 (c.in_ok-around.ensures μ) P L (c.in_ok-node.ensures μ names P L A))
 
 pub returns-in-Continuation-clause-stands : goal.returns-in-Continuation-clause-stands
-returns-in-Continuation-clause-stands c = λ φ p P L A.
+returns-in-Continuation-clause-stands c = λ μ P L A.
     let names = c.args.self.now.names in
-    rw c.in-Continuation.is at (kept_around φ p names c.in_ok-around.around c.in_ok-node.field-0 (c.in_ok-around.ensures φ p) P L (c.in_ok-node.ensures φ p names P L A))
+    rw c.in-Continuation.is at (kept_around μ names c.in_ok-around.around c.in_ok-node.field-0 (c.in_ok-around.ensures μ) P L (c.in_ok-node.ensures μ names P L A))
 
 pub returns-in-Gathering-clause-stands : goal.returns-in-Gathering-clause-stands
-returns-in-Gathering-clause-stands c = λ φ p P L A.
+returns-in-Gathering-clause-stands c = λ μ P L A.
     let names = c.args.self.now.names in
-    rw c.in-Gathering.is at (kept_around φ p names c.in_ok-around.around c.in_ok-node.field-0 (c.in_ok-around.ensures φ p) P L (c.in_ok-node.ensures φ p names P L A))
+    rw c.in-Gathering.is at (kept_around μ names c.in_ok-around.around c.in_ok-node.field-0 (c.in_ok-around.ensures μ) P L (c.in_ok-node.ensures μ names P L A))

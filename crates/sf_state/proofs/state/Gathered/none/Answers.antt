@@ -6,6 +6,6 @@ use Rattle.sf_state.proofs.Copies.{none_held}
 use Rattle.sf_state.proofs.state.Gathered.none.Goals as goal
 
 pub returns : goal.returns
-returns c = λ φ p L.
+returns c = λ μ L.
     let h : Gathered = record { keys = c.in_ok-keys.keys; states = c.in_ok-states.states; wait = None } in
-    none_held φ p h (c.in_ok-keys.ensures.ok ∙ c.new.ensures) (ap (λ (v : Vec State Global). v.items) c.in_ok-states.ensures.ok ∙ c.new-3.ensures.items)
+    none_held μ h (c.in_ok-keys.ensures.ok ∙ c.new.ensures) (ap (λ (v : Vec State Global). v.items) c.in_ok-states.ensures.ok ∙ c.new-3.ensures.items)

@@ -4,6 +4,6 @@ use Rattle.sf_state.proofs.Copies.{held_follow}
 use Rattle.sf_state.proofs.state.Gathered.renew.Goals as goal
 
 pub returns : goal.returns
-returns c = λ φ p.
+returns c = λ μ.
     let h : Gathered = record { keys = c.in_ok-keys.keys; states = c.renew_list.new.own; wait = c.args.other.now.wait } in
-    held_follow φ p c.args.other.now h c.in_ok-keys.ensures.cases (c.in_ok-renew_list.ensures φ p) refl
+    held_follow μ c.args.other.now h c.in_ok-keys.ensures.cases (c.in_ok-renew_list.ensures μ) refl

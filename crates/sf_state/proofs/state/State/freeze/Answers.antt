@@ -5,42 +5,42 @@ use Rattle.sf_state.proofs.state.State.freeze.Goals as goal
 pub returns-in_ok-copy-in-Primitive : goal.returns-in_ok-copy-in-Primitive
 returns-in_ok-copy-in-Primitive c =
     let old = c.in-Primitive.primitive in
-    rw c.in-Primitive.is (lived_frozen _ _ c.args.wait c.freeze_node-in-Primitive.result (λ φ p. primitive_lived φ p old)
-    (λ φ p. primitive_follows φ p old c.in_ok-copy-in-Primitive.copy c.in_ok-copy-in-Primitive.ensures) c.freeze_node-in-Primitive.ensures)
+    rw c.in-Primitive.is (lived_frozen _ _ c.args.wait c.freeze_node-in-Primitive.result (λ μ. primitive_lived μ old)
+    (λ μ. primitive_follows μ old c.in_ok-copy-in-Primitive.copy c.in_ok-copy-in-Primitive.ensures) c.freeze_node-in-Primitive.ensures)
 
 pub returns-in_ok-live-in-Live : goal.returns-in_ok-live-in-Live
 returns-in_ok-live-in-Live c =
     let names = c.in-Live.names in
     let old = c.in-Live.node.value in
     let new = c.in_ok-live-in-Live.live.value in
-    rw c.in-Live.is (lived_frozen _ _ c.args.wait c.freeze_node.result (λ φ p. alive_lived φ p names old)
-    (λ φ p. alive_follows φ p names names old new (λ e N. N) (same_follows φ p old new c.in_ok-live-in-Live.ensures.cases)) c.freeze_node.ensures)
+    rw c.in-Live.is (lived_frozen _ _ c.args.wait c.freeze_node.result (λ μ. alive_lived μ names old)
+    (λ μ. alive_follows μ names names old new (λ e N. N) (same_follows μ old new c.in_ok-live-in-Live.ensures.cases)) c.freeze_node.ensures)
 
 pub returns-in_ok-switch-in-Switch : goal.returns-in_ok-switch-in-Switch
 returns-in_ok-switch-in-Switch c =
     let names = c.in-Switch.names in
     let old = c.in-Switch.node.value in
     let new = c.in_ok-switch-in-Switch.switch.value in
-    rw c.in-Switch.is (lived_frozen _ _ c.args.wait c.freeze_node-in-Switch.result (λ φ p. watching_lived φ p names old)
-    (λ φ p. watching_follows φ p names names old new (λ e N. N) (same_waits φ p old new c.in_ok-switch-in-Switch.ensures.cases)) c.freeze_node-in-Switch.ensures)
+    rw c.in-Switch.is (lived_frozen _ _ c.args.wait c.freeze_node-in-Switch.result (λ μ. watching_lived μ names old)
+    (λ μ. watching_follows μ names names old new (λ e N. N) (same_waits μ old new c.in_ok-switch-in-Switch.ensures.cases)) c.freeze_node-in-Switch.ensures)
 
 pub returns-in_ok-continuing-in-Continuation : goal.returns-in_ok-continuing-in-Continuation
 returns-in_ok-continuing-in-Continuation c =
     let names = c.in-Continuation.names in
     let old = c.in-Continuation.node.value in
     let new = c.in_ok-continuing-in-Continuation.continuing.value in
-    rw c.in-Continuation.is (lived_frozen _ _ c.args.wait c.freeze_node-in-Continuation.result (λ φ p. continuing_lived φ p names old)
-    (λ φ p. continuing_follows φ p names names old new (λ e N. N) (same_keeps φ p old new c.in_ok-continuing-in-Continuation.ensures.cases)) c.freeze_node-in-Continuation.ensures)
+    rw c.in-Continuation.is (lived_frozen _ _ c.args.wait c.freeze_node-in-Continuation.result (λ μ. continuing_lived μ names old)
+    (λ μ. continuing_follows μ names names old new (λ e N. N) (same_keeps μ old new c.in_ok-continuing-in-Continuation.ensures.cases)) c.freeze_node-in-Continuation.ensures)
 
 pub returns-in-Unborn : goal.returns-in-Unborn
 returns-in-Unborn c =
-    fresh_frozen c.args.self.now c.args.wait c.share.result (λ φ p. ⊎_elim (λ u. subst (λ a. IsFresh φ p a) (sym u.1) (unborn_fresh φ p u.0))
-    (λ f. subst (λ a. IsFresh φ p a) (sym f.1) (frozen_fresh φ p f.0.value.wait f.0.value.names f.0.value.node)) c.in-Unborn.is) c.share.ensures
+    fresh_frozen c.args.self.now c.args.wait c.share.result (λ μ. ⊎_elim (λ u. subst (λ a. IsFresh μ a) (sym u.1) (unborn_fresh μ u.0))
+    (λ f. subst (λ a. IsFresh μ a) (sym f.1) (frozen_fresh μ f.0.value.wait f.0.value.names f.0.value.node)) c.in-Unborn.is) c.share.ensures
 
 pub returns-in_ok-gathering-in-Gathering : goal.returns-in_ok-gathering-in-Gathering
 returns-in_ok-gathering-in-Gathering c =
     let names = c.in-Gathering.names in
     let old = c.in-Gathering.node.value in
     let new = c.in_ok-gathering-in-Gathering.gathering.value in
-    rw c.in-Gathering.is (lived_frozen _ _ c.args.wait c.freeze_node-in-Gathering.result (λ φ p. gathering_lived φ p names old)
-    (λ φ p. gathering_follows φ p names names old new (λ e N. N) (same_gathers φ p old new c.in_ok-gathering-in-Gathering.ensures.cases)) c.freeze_node-in-Gathering.ensures)
+    rw c.in-Gathering.is (lived_frozen _ _ c.args.wait c.freeze_node-in-Gathering.result (λ μ. gathering_lived μ names old)
+    (λ μ. gathering_follows μ names names old new (λ e N. N) (same_gathers μ old new c.in_ok-gathering-in-Gathering.ensures.cases)) c.freeze_node-in-Gathering.ensures)

@@ -2,5 +2,5 @@ use Rattle.sf_state.proofs.Copies.{primitive_follows}
 use Rattle.sf_state.proofs.state.State.share.Goals as goal
 
 pub returns-in_ok-copy-in-Primitive : goal.returns-in_ok-copy-in-Primitive
-returns-in_ok-copy-in-Primitive c = λ φ p P L A.
-    primitive_follows φ p c.in-Primitive.primitive c.in_ok-copy-in-Primitive.copy c.in_ok-copy-in-Primitive.ensures P L (rw c.in-Primitive.is at A)
+returns-in_ok-copy-in-Primitive c = λ μ P L A.
+    primitive_follows μ c.in-Primitive.primitive c.in_ok-copy-in-Primitive.copy c.in_ok-copy-in-Primitive.ensures P L (rw c.in-Primitive.is at A)

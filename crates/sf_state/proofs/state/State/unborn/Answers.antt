@@ -3,4 +3,4 @@ use Rattle.sf_state.specs.Standing.{is_empty, itself, unborn, is_closure}
 use Rattle.sf_state.proofs.state.State.unborn.Goals as goal
 
 pub returns : goal.returns
-returns c = λ φ p. itself (unborn (is_closure (alike_itself _) is_empty))
+returns c = λ μ. itself (unborn (is_closure (alike_itself _) is_empty))
