@@ -194,8 +194,7 @@ fn bind<R: Holds>(
     match given {
         Given::Value(value) => {
             let shared = Rc::new(context.alloc, value)?;
-            let expressions = context.plan.expressions();
-            bound.inside(context.alloc, expressions, parameter.pattern(), shared)
+            bound.inside(context.alloc, context.plan, parameter.pattern(), shared)
         }
         Given::Process(handed) => bound.with_process(context.alloc, parameter.name(), handed),
         Given::Members(members) => bound.with_members(context.alloc, parameter.name(), members),

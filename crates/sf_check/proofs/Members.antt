@@ -2,7 +2,7 @@
 use Rattle.std.proofs.Common.{◌≡◌, true, Some, sym, subst, ap, ◌∙◌, Ok}
 use Rattle.std.proofs.lemmas.Option.{same_Some}
 use mathlib.Core.Path.{ap₂, subst₂}
-use Rattle.sf_value.specs.Values.{KeyKind, int_keys, Kind, unit_kind, bool_kind, pair_kind, event_kind, table_kind}
+use Rattle.sf_value.specs.Values.{KeyKind, Kind, bool_kind, pair_kind, event_kind, table_kind}
 use Rattle.sf_value.specs.declared.ty.KeyType.{KeyType}
 use Rattle.sf_value.specs.KindView.{key_kind_of}
 use Rattle.sf_refusal.specs.declared.spot.Spot.{Spot}
@@ -21,7 +21,6 @@ use Rattle.sf_term.specs.declared.node.Node.TheVariants as nodes
 use Rattle.sf_term.specs.declared.collection.CollExpr.{CollExpr}
 use Rattle.sf_term.specs.declared.collection.CollExpr.TheVariants as collections
 use Rattle.sf_term.specs.declared.program.Program.{Program}
-use Rattle.sf_term.specs.Entries.{absent_collection}
 use Rattle.sf_term.specs.Trees.{without_members, added, dropped, kept, chosen}
 use Rattle.sf_term.specs.Arena.{tree, term_node_at, term_spot_at, program_expressions, program_expression, program_function, collection_of, collection_tree}
 use Rattle.sf_mean.specs.Contexts.{collection, Context, names_of_values}
@@ -33,9 +32,6 @@ use Rattle.sf_check.proofs.Contexts.{collection_is}
 module _ (p : Program) (Γ : Context) (a : Kind) where
   pub empty_collects : (k l : KeyType) (t b : Kind) → l ≡ k → b ≡ t → Collects Γ (without_members (key_kind_of k) t) (key_kind_of l) a b
   empty_collects k l t b keys is = subst₂ (λ (l : KeyType) (b : Kind). Collects Γ (without_members (key_kind_of k) t) (key_kind_of l) a b) (sym keys) (sym is) collects_none
-
-  pub absent_collects : {c : CollExpr} (b : Kind) → absent_collection ≡ c → b ≡ unit_kind → Collects Γ (collection_of p c) int_keys a b
-  absent_collects b is same = subst₂ (λ (c : CollExpr) (b : Kind). Collects Γ (collection_of p c) int_keys a b) is (sym same) collects_none
 
   module _ (x : NameId) (n s : Spot) where
     module _ (k : KeyKind) (b c : Kind) (named : kind_named (program_name p x) Γ.bindings ≡ Some (collection k b c)) where

@@ -6,7 +6,7 @@ use Rattle.sf_func.specs.Registries.{TypesByName}
 use Rattle.sf_refusal.specs.declared.spot.Spot.{Spot}
 use Rattle.sf_refusal.specs.declared.rule.Rule.TheVariants.{DuplicateName, Endless}
 use Rattle.sf_refusal.specs.declared.refusal.Breach.{Breach}
-use Rattle.sf_refusal.specs.Refusals.{breach_of, broken}
+use Rattle.sf_refusal.specs.Refusals.{breach_of}
 use Rattle.sf_term.specs.declared.program.Program.{Program}
 use Rattle.sf_term.specs.Headers.{Header}
 use Rattle.sf_term.specs.Arena.{headers_of, term_template}

@@ -31,7 +31,7 @@ use Rattle.sf_term.specs.declared.program.Program.{Program}
 use Rattle.sf_term.specs.Headers.{Header}
 use Rattle.sf_term.specs.Trees.{Template}
 use Rattle.sf_term.specs.Arena.{tree, program_expressions, argument_nodes, collection_tree, headers_of, templates_of}
-use Rattle.sf_mean.specs.Contexts.{NameKind, value, process, collection, Bindings, Signature, signature_named, Context, names_of_values, inside_pattern}
+use Rattle.sf_mean.specs.Contexts.{NameKind, process, collection, Bindings, Signature, signature_named, Context, names_of_values, inside_pattern}
 use Rattle.sf_mean.specs.Typing.{Takes, Collects, IsTyped}
 pub use Rattle.sf_check.specs.Standing.{kind_named, program_pattern, program_name, continuing_inside, members_inside, BindsInside}
 use Rattle.sf_check.specs.Judging.{members_judged, term_judged, template_judged}

@@ -5,7 +5,7 @@ ghost use Rattle.sf_term.specs.declared.collection.CollectionId.{CollectionId};
 ghost use Rattle.sf_term.specs.ParameterView.{kind_of_form};
 ghost use Rattle.sf_term.specs.Parameters.{parameters_of};
 ghost use Rattle.sf_term.specs.Trees.{collection_depth, arguments_depth};
-ghost use Rattle.sf_term.specs.Arena.{term_number, term_spot_at, arguments_of, collection_node, collection_of, ArgumentBelow, term_template};
+ghost use Rattle.sf_term.specs.Arena.{term_number, term_spot_at, arguments_of, collection_node, collection_of, ArgumentBelow, HoldsTerm, HoldsArgument, term_template};
 ghost use Rattle.sf_mean.specs.Contexts.{signature_of};
 ghost use Rattle.sf_check.specs.Contexts.{program_in, context_in};
 ghost use Rattle.sf_check.specs.Breaking.{ArgumentsLeft};
@@ -31,6 +31,7 @@ fn argument_suits(
 ) -> Result<(), Blame>
     requires below { ArgumentBelow (program_in context.now) (term_number term) argument }
     requires shallow { (i : CollectionId) → argument ≡ Argument.Collection i → collection_depth (collection_of (program_in context.now) (collection_node (program_in context.now) i)) ≤ 64 }
+    requires argument_held { HoldsArgument (program_in context.now) argument }
     ensures ok { OnOk result (ArgumentFits (program_in context.now) (context_in context.now) argument (kind_of_form parameter.now)) }
     ensures err { IfErr result (λ b. Explains (ArgumentDiffers (program_in context.now) (context_in context.now) spot argument (kind_of_form parameter.now)) b) }
 {
@@ -70,6 +71,8 @@ pub(crate) fn explain_fit(
     requires typed { ArgumentsLeft (program_in context.now) (context_in context.now) arguments.now (parameters_of template.now.parameters) [] [] }
     requires below { All (ArgumentBelow (program_in context.now) (term_number term)) arguments.now }
     requires shallow { arguments_depth (arguments_of (program_in context.now) arguments.now) ≤ 64 }
+    requires term_held { HoldsTerm (program_in context.now) term }
+    requires arguments_held { All (HoldsArgument (program_in context.now)) arguments.now }
     ensures { IfErr result (λ b. Explains (CallDiffers (program_in context.now) (context_in context.now) (term_spot_at (program_in context.now) term) arguments.now input.now (signature_of (term_template (program_in context.now) template.now))) b) }
 {
     let spot = context.program.spot(term);

@@ -3,6 +3,7 @@ ghost use Rattle.std.specs.Prelude.{◌≡◌, ◌↔◌, IsTrue};
 ghost use Rattle.sf_func.specs.Registries.{types_named};
 ghost use Rattle.sf_func.specs.Signatures.{signatures_in};
 ghost use Rattle.sf_expr.specs.Arena.{node_at};
+ghost use Rattle.sf_expr.specs.Arena;
 ghost use Rattle.sf_check.specs.Calling.{IsCalledAlike, AreCalledAlike};
 
 use sf_expr::{ExprId, ExprNode, Exprs};
@@ -25,6 +26,7 @@ fn has_same_types<R: Holds>(name: &str, here: &Signatures, there: &R) -> bool
 
 /// Whether the function that the expression at an id calls has the same types here and there.
 fn is_called_alike<R: Holds>(exprs: &Exprs, id: ExprId, here: &Signatures, there: &R) -> bool
+    requires { Arena.Holds exprs.now id }
     ensures { IsTrue result ↔ IsCalledAlike exprs.now (signatures_in here.now) (R.types there.now) (node_at exprs.now id) }
 {
     match exprs.node(id) {

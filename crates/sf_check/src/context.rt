@@ -3,7 +3,7 @@ ghost use Rattle.std.specs.Prelude.{◌≡◌, Some, None, IfOk, IfErr, IfSome, 
 ghost use Rattle.sf_value.specs.KindView.{key_kind_of};
 ghost use Rattle.sf_func.specs.Signatures.{signatures_in};
 ghost use Rattle.sf_refusal.specs.Refusals.{OrMemory};
-ghost use Rattle.sf_expr.specs.Arena.{stored_pattern};
+ghost use Rattle.sf_expr.specs.Arena.{stored_pattern, HoldsName, HoldsPattern};
 ghost use Rattle.sf_expr.specs.Contexts.{exprs_in, types_around};
 ghost use Rattle.sf_expr.specs.Refusals.{PatternRefused};
 ghost use Rattle.sf_expr.specs.Judging.{judged_binding, Stops};
@@ -88,6 +88,7 @@ impl<'a> TypingContext<'a> {
 
     /// The template of a name, or `None` where there is none.
     pub(crate) fn template(&self, name: NameId) -> Option<&'a Template>
+        requires { HoldsName (program_expressions (program_in self.now)) name }
         ensures found { IfSome result (λ t. signature_named (program_name (program_in self.now) name) (context_in self.now).signatures ≡ Some (signature_of (term_template (program_in self.now) t.now))) }
         ensures absent { IfNone result (signature_named (program_name (program_in self.now) name) (context_in self.now).signatures ≡ None) }
     {
@@ -122,6 +123,7 @@ impl<'a> TypingContext<'a> {
         ty: &'b Ty,
         at: Spot,
     ) -> Result<Frame<'b>, Refusal>
+        requires { HoldsPattern (program_expressions (program_in self.now)) pattern }
         ensures inside { IfOk result (λ names. inside_names names (context_in self.now) ≡ inside_pattern (program_pattern (program_in self.now) pattern) ty.now (context_in self.now)) }
         ensures bound { OnOk result (BindsInside (program_pattern (program_in self.now) pattern) ty.now (context_in self.now)) }
         ensures found { OnOk result (judged_binding at (stored_pattern (program_expressions (program_in self.now)) pattern) ty.now (names_of_values (context_in self.now)) ≡ Ok (names_of_values (inside_pattern (program_pattern (program_in self.now) pattern) ty.now (context_in self.now)))) }
@@ -139,6 +141,7 @@ impl<'a> TypingContext<'a> {
         from: &'b Ty,
         to: &'b Ty,
     ) -> Result<Frame<'b>, AllocError>
+        requires { HoldsName (program_expressions (program_in self.now)) name }
         ensures { IfOk result (λ names. inside_names names (context_in self.now) ≡ continuing_inside (program_in self.now) name from.now to.now (context_in self.now)) }
     {
         let name = self.program.expressions().name_of(name);
@@ -155,6 +158,7 @@ impl<'a> TypingContext<'a> {
         from: &'b Ty,
         to: &'b Ty,
     ) -> Result<Frame<'b>, AllocError>
+        requires { HoldsName (program_expressions (program_in self.now)) name }
         ensures { IfOk result (λ names. inside_names names (context_in self.now) ≡ members_inside (program_in self.now) name (key_kind_of keys) from.now to.now (context_in self.now)) }
     {
         let name = self.program.expressions().name_of(name);
@@ -166,6 +170,7 @@ impl<'a> TypingContext<'a> {
     /// The types of the process that a name stands for. Refused at `at` with `UnknownName` where the name is not there, and
     /// with `Mismatch` where it stands for a value or a collection.
     pub(crate) fn process(&self, name: NameId, at: Spot) -> Result<ProcessTypes<'a>, Refusal>
+        requires { HoldsName (program_expressions (program_in self.now)) name }
         ensures found { IfOk result (λ k. kind_named (program_name (program_in self.now) name) (context_in self.now).bindings ≡ Some (process k.from.now k.to.now)) }
         ensures stops { IfErr result (λ r. Stops r (judged_process at (kind_named (program_name (program_in self.now) name) (context_in self.now).bindings))) }
     {
@@ -181,6 +186,7 @@ impl<'a> TypingContext<'a> {
     /// The types of the collection that a name stands for. Refused at `at` with `UnknownName` where the name is not there, and
     /// with `Mismatch` where it stands for a value or a process.
     pub(crate) fn collection(&self, name: NameId, at: Spot) -> Result<CollectionTypes<'a>, Refusal>
+        requires { HoldsName (program_expressions (program_in self.now)) name }
         ensures found { IfOk result (λ k. kind_named (program_name (program_in self.now) name) (context_in self.now).bindings ≡ Some (collection (key_kind_of k.keys) k.from.now k.to.now)) }
         ensures stops { IfErr result (λ r. Stops r (judged_collection at (kind_named (program_name (program_in self.now) name) (context_in self.now).bindings))) }
     {

@@ -7,13 +7,13 @@ ghost use Rattle.sf_refusal.specs.Refusals.{breach_of};
 ghost use Rattle.sf_func.specs.Signatures.{signatures_in};
 ghost use Rattle.sf_expr.specs.Scopes.{frame_entries};
 ghost use Rattle.sf_differ.specs.Differing.{PatternDiffers, ExpressionDiffers, FunctionDiffers};
-ghost use Rattle.sf_expr.specs.Arena.{expression, function_at, stored_pattern};
+ghost use Rattle.sf_expr.specs.Arena.{expression, function_at, stored_pattern, Holds, HoldsFunction, HoldsName, HoldsPattern};
 ghost use Rattle.sf_expr.specs.Typing.{Fits, HasType, FunctionTakes};
 ghost use Rattle.sf_term.specs.declared.collection.CollectionId as collection_ids;
 ghost use Rattle.sf_term.specs.declared.collection.CollExpr.TheVariants.{Used};
 ghost use Rattle.sf_term.specs.ParameterView.{kind_of_form};
 ghost use Rattle.sf_term.specs.Trees.{collection_depth};
-ghost use Rattle.sf_term.specs.Arena.{term_number, term_node_at, program_expressions, tree, templates_of, argument_nodes, collection_node, collection_of, collection_tree, ArgumentBelow, CollectionBelow};
+ghost use Rattle.sf_term.specs.Arena.{term_number, term_node_at, program_expressions, tree, templates_of, argument_nodes, collection_node, collection_of, collection_tree, ArgumentBelow, CollectionBelow, HoldsTerm, HoldsTermParts, HoldsArgument, HoldsArguments, HoldsMembers, HoldsWhole};
 ghost use Rattle.sf_term.specs.declared.form.Start.{Start};
 ghost use Rattle.sf_mean.specs.Contexts.{names_of_values, outer_context, inside_pattern};
 ghost use Rattle.sf_mean.specs.Typing.{Takes, Collects};
@@ -45,11 +45,12 @@ use sf_term::{
     Heading, Join, Naming, Node, Observation, ParameterForm, Primitive, Program, Releasing, Side,
     Switch, Switching, Template, TermId, Timing, WithValue,
 };
-use sf_value::{KeyType, Ty};
+use sf_value::Ty;
 use std::alloc::{AllocError, Global};
 
 /// The type of a constant, or what differs in it.
 fn constant(context: &TypingContext, value: ExprId) -> Result<Ty, Blame>
+    requires { Holds (program_expressions (program_in context.now)) value }
     ensures ok { IfOk result (λ t. HasType (names_of_values (context_in context.now)) (expression (program_expressions (program_in context.now)) value) t) }
     ensures err { IfErr result (λ b. Explains (ExpressionDiffers (program_expressions (program_in context.now)) (names_of_values (context_in context.now)) value) b) }
 {
@@ -69,6 +70,7 @@ fn answer(
     argument: &Ty,
     spot: Spot,
 ) -> Result<Ty, Blame>
+    requires { HoldsFunction (program_expressions (program_in context.now)) function }
     ensures ok { IfOk result (λ t. FunctionTakes (names_of_values (context_in context.now)) (function_at (program_expressions (program_in context.now)) function) argument.now t) }
     ensures err { IfErr result (λ b. Explains (FunctionDiffers (program_expressions (program_in context.now)) (names_of_values (context_in context.now)) function argument.now spot) b) }
 {
@@ -187,6 +189,7 @@ fn explain_value(
     input: &Ty,
     spot: Spot,
 ) -> Result<(), Blame>
+    requires { Holds (program_expressions (program_in context.now)) value }
     ensures { IfErr result (λ b. Explains (PrimitiveDiffers (program_expressions (program_in context.now)) (context_in context.now) spot (Primitive.WithValue kind value) input.now) b) }
 {
     let given = constant(context, value)?;
@@ -204,6 +207,7 @@ fn explain_timed(
     input: &Ty,
     spot: Spot,
 ) -> Result<(), Blame>
+    requires { Holds (program_expressions (program_in context.now)) value }
     ensures { IfErr result (λ b. Explains (PrimitiveDiffers (program_expressions (program_in context.now)) (context_in context.now) spot (Primitive.Timed kind time value) input.now) b) }
 {
     let given = constant(context, value)?;
@@ -220,6 +224,8 @@ fn explain_accumulated(
     input: &Ty,
     spot: Spot,
 ) -> Result<(), Blame>
+    requires value_held { Holds (program_expressions (program_in context.now)) value }
+    requires function_held { HoldsFunction (program_expressions (program_in context.now)) function }
     ensures { IfErr result (λ b. Explains (PrimitiveDiffers (program_expressions (program_in context.now)) (context_in context.now) spot (Primitive.Accumulated kind value function) input.now) b) }
 {
     let given = constant(context, value)?;
@@ -239,6 +245,7 @@ fn explain_arrow(
     input: &Ty,
     spot: Spot,
 ) -> Result<(), Blame>
+    requires { HoldsFunction (program_expressions (program_in context.now)) function }
     ensures { IfErr result (λ b. Explains (PrimitiveDiffers (program_expressions (program_in context.now)) (context_in context.now) spot (Primitive.Arrow function) input.now) b) }
 {
     answer(context, function, input, spot)?;
@@ -252,6 +259,7 @@ fn explain_primitive(
     input: &Ty,
     spot: Spot,
 ) -> Result<(), Blame>
+    requires { HoldsTermParts (program_in context.now) (Node.Primitive primitive) }
     ensures { IfErr result (λ b. Explains (PrimitiveDiffers (program_expressions (program_in context.now)) (context_in context.now) spot primitive input.now) b) }
 {
     match primitive {
@@ -272,7 +280,8 @@ fn explain_primitive(
 /// The type of the outputs of a term on inputs of a type, or what differs in it.
 #[cycle(explain)]
 fn part(context: &TypingContext, term: TermId, input: &Ty) -> Result<Ty, Blame>
-    requires { Fits input.now }
+    requires fits { Fits input.now }
+    requires term_held { HoldsTerm (program_in context.now) term }
     ensures ok { IfOk result (λ t. Takes (context_in context.now) (tree (program_in context.now) term) input.now t) }
     ensures err { IfErr result (λ b. Explains (TermDiffers (program_in context.now) (context_in context.now) term input.now) b) }
 {
@@ -298,6 +307,8 @@ fn explain_sequence(
     requires fits { Fits input.now }
     requires there { term_node_at (program_in context.now) term ≡ Node.Joined Join.InSequence left right }
     requires below { (term_number left < term_number term) × (term_number right < term_number term) }
+    requires left_held { HoldsTerm (program_in context.now) left }
+    requires right_held { HoldsTerm (program_in context.now) right }
     ensures { IfErr result (λ b. Explains (TermDiffers (program_in context.now) (context_in context.now) term input.now) b) }
 {
     let middle = part(context, left, input)?;
@@ -317,6 +328,9 @@ fn explain_parallel(
     requires fits { Fits input.now }
     requires there { term_node_at (program_in context.now) term ≡ Node.Joined Join.InParallel left right }
     requires below { (term_number left < term_number term) × (term_number right < term_number term) }
+    requires term_held { HoldsTerm (program_in context.now) term }
+    requires left_held { HoldsTerm (program_in context.now) left }
+    requires right_held { HoldsTerm (program_in context.now) right }
     ensures { IfErr result (λ b. Explains (TermDiffers (program_in context.now) (context_in context.now) term input.now) b) }
 {
     let spot = context.program.spot(term);
@@ -339,6 +353,8 @@ fn explain_fan(
     requires fits { Fits input.now }
     requires there { term_node_at (program_in context.now) term ≡ Node.Joined Join.FannedOut left right }
     requires below { (term_number left < term_number term) × (term_number right < term_number term) }
+    requires left_held { HoldsTerm (program_in context.now) left }
+    requires right_held { HoldsTerm (program_in context.now) right }
     ensures { IfErr result (λ b. Explains (TermDiffers (program_in context.now) (context_in context.now) term input.now) b) }
 {
     part(context, left, input)?;
@@ -358,6 +374,8 @@ fn explain_sided(
     requires fits { Fits input.now }
     requires there { term_node_at (program_in context.now) term ≡ Node.Sided side inner }
     requires below { term_number inner < term_number term }
+    requires term_held { HoldsTerm (program_in context.now) term }
+    requires inner_held { HoldsTerm (program_in context.now) inner }
     ensures { IfErr result (λ b. Explains (TermDiffers (program_in context.now) (context_in context.now) term input.now) b) }
 {
     let spot = context.program.spot(term);
@@ -388,6 +406,9 @@ fn explain_headed(
     requires fits { Fits input.now }
     requires there { term_node_at (program_in context.now) term ≡ Node.Headed heading value inner }
     requires below { term_number inner < term_number term }
+    requires term_held { HoldsTerm (program_in context.now) term }
+    requires value_held { Holds (program_expressions (program_in context.now)) value }
+    requires inner_held { HoldsTerm (program_in context.now) inner }
     ensures { IfErr result (λ b. Explains (TermDiffers (program_in context.now) (context_in context.now) term input.now) b) }
 {
     let spot = context.program.spot(term);
@@ -422,6 +443,9 @@ fn explain_transformed(
     requires fits { Fits input.now }
     requires there { term_node_at (program_in context.now) term ≡ Node.Transformed function inner }
     requires below { term_number inner < term_number term }
+    requires term_held { HoldsTerm (program_in context.now) term }
+    requires function_held { HoldsFunction (program_expressions (program_in context.now)) function }
+    requires inner_held { HoldsTerm (program_in context.now) inner }
     ensures { IfErr result (λ b. Explains (TermDiffers (program_in context.now) (context_in context.now) term input.now) b) }
 {
     let spot = context.program.spot(term);
@@ -443,6 +467,8 @@ fn explain_basic(
     requires fits { Fits input.now }
     requires there { term_node_at (program_in context.now) term ≡ Node.Switching (record form { form = Switching.Basic shown }) }
     requires below { (term_number form.source < term_number term) × (term_number form.body < term_number term) }
+    requires term_held { HoldsTerm (program_in context.now) term }
+    requires form_held { HoldsTermParts (program_in context.now) (Node.Switching form) }
     ensures { IfErr result (λ b. Explains (TermDiffers (program_in context.now) (context_in context.now) term input.now) b) }
 {
     let spot = context.program.spot(term);
@@ -472,6 +498,8 @@ fn explain_recurring(
     requires fits { Fits input.now }
     requires there { term_node_at (program_in context.now) term ≡ Node.Switching (record form { form = Switching.Recurring shown }) }
     requires below { (term_number form.source < term_number term) × (term_number form.body < term_number term) }
+    requires term_held { HoldsTerm (program_in context.now) term }
+    requires form_held { HoldsTermParts (program_in context.now) (Node.Switching form) }
     ensures { IfErr result (λ b. Explains (TermDiffers (program_in context.now) (context_in context.now) term input.now) b) }
 {
     let spot = context.program.spot(term);
@@ -500,6 +528,8 @@ fn explain_continuing(
     requires fits { Fits input.now }
     requires there { term_node_at (program_in context.now) term ≡ Node.Continuation form }
     requires below { (term_number form.source < term_number term) × (term_number form.observer < term_number term) × (term_number form.body < term_number term) }
+    requires term_held { HoldsTerm (program_in context.now) term }
+    requires form_held { HoldsTermParts (program_in context.now) (Node.Continuation form) }
     ensures { IfErr result (λ b. Explains (TermDiffers (program_in context.now) (context_in context.now) term input.now) b) }
 {
     let spot = context.program.spot(term);
@@ -522,7 +552,9 @@ fn explain_continuing(
 /// What differs in a body inside the name of a process from the one type to the other and a pattern for payloads of a type.
 #[cycle(explain)]
 fn explain_kept(context: &TypingContext, name: NameId, body: &Body) -> Result<(), Blame>
-    requires { Fits body.now.input.now }
+    requires fits { Fits body.now.input.now }
+    requires name_held { HoldsName (program_expressions (program_in context.now)) name }
+    requires body_held { HoldsPattern (program_expressions (program_in context.now)) body.now.pattern × HoldsTerm (program_in context.now) body.now.term }
     ensures { IfErr result (λ b. Explains (StopsBody (program_in context.now) (continuing_inside (program_in context.now) name body.now.input.now body.now.wanted.now (context_in context.now)) body.now) b) }
 {
     let names = (&*context).process_name(name, &*body.input, &*body.wanted)?;
@@ -540,6 +572,8 @@ fn explain_releasing(
     requires fits { Fits input.now }
     requires there { term_node_at (program_in context.now) term ≡ Node.Releasing form }
     requires below { CollectionBelow (term_number term) (collection_node (program_in context.now) form.members) × (term_number form.observer < term_number term) × (term_number form.body < term_number term) }
+    requires term_held { HoldsTerm (program_in context.now) term }
+    requires form_held { HoldsTermParts (program_in context.now) (Node.Releasing form) }
     ensures { IfErr result (λ b. Explains (TermDiffers (program_in context.now) (context_in context.now) term input.now) b) }
 {
     let spot = context.program.spot(term);
@@ -568,7 +602,9 @@ fn explain_released(
     types: &MemberTypes,
     body: &Body,
 ) -> Result<(), Blame>
-    requires { Fits body.now.input.now }
+    requires fits { Fits body.now.input.now }
+    requires name_held { HoldsName (program_expressions (program_in context.now)) name }
+    requires body_held { HoldsPattern (program_expressions (program_in context.now)) body.now.pattern × HoldsTerm (program_in context.now) body.now.term }
     ensures { IfErr result (λ b. Explains (StopsBody (program_in context.now) (members_inside (program_in context.now) name (key_kind_of types.now.keys) body.now.input.now types.now.output (context_in context.now)) body.now) b) }
 {
     let names = (&*context).members_name(name, types.keys, &*body.input, &types.output)?;
@@ -586,6 +622,8 @@ fn explain_editing(
     requires fits { Fits input.now }
     requires there { term_node_at (program_in context.now) term ≡ Node.Editing form }
     requires below { CollectionBelow (term_number term) (collection_node (program_in context.now) form.members) × CollectionBelow (term_number term) (collection_node (program_in context.now) form.edit) }
+    requires term_held { HoldsTerm (program_in context.now) term }
+    requires form_held { HoldsTermParts (program_in context.now) (Node.Editing form) }
     ensures { IfErr result (λ b. Explains (TermDiffers (program_in context.now) (context_in context.now) term input.now) b) }
 {
     let spot = context.program.spot(term);
@@ -608,6 +646,7 @@ fn explain_edited(context: &TypingContext, term: TermId, edit: &Edit) -> Result<
     requires fits { Fits edit.now.input.now }
     requires below { CollectionBelow (term_number term) (collection_node (program_in context.now) edit.now.form.edit) }
     requires shallow { collection_depth (collection_of (program_in context.now) (collection_node (program_in context.now) edit.now.form.edit)) ≤ 64 }
+    requires edit_held { HoldsTermParts (program_in context.now) (Node.Editing edit.now.form) }
     ensures { IfErr result (λ b. Explains (StopsEdit (program_in context.now) (members_inside (program_in context.now) edit.now.form.name (key_kind_of edit.now.wanted.now.keys) edit.now.input.now edit.now.wanted.now.output (context_in context.now)) edit.now) b) }
 {
     let wanted = edit.wanted;
@@ -631,6 +670,7 @@ fn explain_edit_inside(
     requires fits { Fits edit.now.input.now }
     requires below { CollectionBelow (term_number term) (collection_node (program_in context.now) edit.now.form.edit) }
     requires shallow { collection_depth (collection_of (program_in context.now) (collection_node (program_in context.now) edit.now.form.edit)) ≤ 64 }
+    requires edit_held { HoldsTermParts (program_in context.now) (Node.Editing edit.now.form) }
     ensures { IfErr result (λ b. Explains (StopsEdit (program_in context.now) (inside_names names.now (context_in context.now)) edit.now) b) }
 {
     let inner = (&*context).within(&*names)?;
@@ -643,6 +683,7 @@ fn explain_edit(context: &TypingContext, term: TermId, edit: &Edit) -> Result<()
     requires fits { Fits edit.now.input.now }
     requires below { CollectionBelow (term_number term) (collection_node (program_in context.now) edit.now.form.edit) }
     requires shallow { collection_depth (collection_of (program_in context.now) (collection_node (program_in context.now) edit.now.form.edit)) ≤ 64 }
+    requires edit_held { HoldsTermParts (program_in context.now) (Node.Editing edit.now.form) }
     ensures { IfErr result (λ b. Explains (StopsEdit (program_in context.now) (context_in context.now) edit.now) b) }
 {
     let names = bound(&*context, edit.form.pattern, &*edit.payload, edit.spot)?;
@@ -669,6 +710,7 @@ fn members_part_within(
     requires fits { Fits input.now }
     requires below { CollectionBelow (term_number form) (collection_node (program_in context.now) members) }
     requires shallow { collection_depth (collection_of (program_in context.now) (collection_node (program_in context.now) members)) ≤ 64 }
+    requires members_held { HoldsWhole (program_in context.now) members }
     ensures ok { IfOk result (λ m. Collects (inside_names names.now (context_in context.now)) (collection_tree (program_in context.now) members) (key_kind_of m.keys) input.now m.output) }
     ensures err { IfErr result (λ b. Explains (CollectionDiffers (program_in context.now) (inside_names names.now (context_in context.now)) (collection_node (program_in context.now) members) input.now) b) }
 {
@@ -687,6 +729,7 @@ fn explain_gathered(
     requires fits { Fits input.now }
     requires there { term_node_at (program_in context.now) term ≡ Node.Gathered members }
     requires below { CollectionBelow (term_number term) (collection_node (program_in context.now) members) }
+    requires members_held { HoldsWhole (program_in context.now) members }
     ensures { IfErr result (λ b. Explains (TermDiffers (program_in context.now) (context_in context.now) term input.now) b) }
 {
     members_at_part(context, term, members, input)?;
@@ -704,16 +747,11 @@ fn members_at_part(
     requires fits { Fits input.now }
     requires below { CollectionBelow (term_number form) (collection_node (program_in context.now) members) }
     requires shallow { collection_depth (collection_of (program_in context.now) (collection_node (program_in context.now) members)) ≤ 64 }
+    requires members_held { HoldsWhole (program_in context.now) members }
     ensures ok { IfOk result (λ m. Collects (context_in context.now) (collection_tree (program_in context.now) members) (key_kind_of m.keys) input.now m.output) }
     ensures err { IfErr result (λ b. Explains (CollectionDiffers (program_in context.now) (context_in context.now) (collection_node (program_in context.now) members) input.now) b) }
 {
-    match context.program.collection(members) {
-        Some(collection) => members_part(context, form, collection, input),
-        None => Ok(MemberTypes {
-            keys: KeyType::Int,
-            output: Ty::unit(),
-        }),
-    }
+    members_part(context, form, context.program.collection(members), input)
 }
 
 /// The types of a collection, which a form has, on inputs of a type, or what differs in it.
@@ -727,6 +765,7 @@ fn members_part(
     requires fits { Fits input.now }
     requires below { CollectionBelow (term_number form) collection.now }
     requires shallow { collection_depth (collection_of (program_in context.now) collection.now) ≤ 64 }
+    requires collection_held { HoldsMembers (program_in context.now) collection.now }
     ensures ok { IfOk result (λ m. Collects (context_in context.now) (collection_of (program_in context.now) collection.now) (key_kind_of m.keys) input.now m.output) }
     ensures err { IfErr result (λ b. Explains (CollectionDiffers (program_in context.now) (context_in context.now) collection.now input.now) b) }
 {
@@ -773,6 +812,7 @@ fn used_part(
     spot: Spot,
     input: &Ty,
 ) -> Result<MemberTypes, Blame>
+    requires { HoldsName (program_expressions (program_in context.now)) name }
     ensures ok { IfOk result (λ m. Collects (context_in context.now) (collection_of (program_in context.now) (Used name place spot)) (key_kind_of m.keys) input.now m.output) }
     ensures err { IfErr result (λ b. Explains (CollectionDiffers (program_in context.now) (context_in context.now) (Used name place spot) input.now) b) }
 {
@@ -784,7 +824,8 @@ fn used_part(
 /// What differs in a body inside names and a pattern for payloads of a type.
 #[cycle(explain)]
 fn explain_inside(context: &TypingContext, names: &Frame, body: &Body) -> Result<(), Blame>
-    requires { Fits body.now.input.now }
+    requires fits { Fits body.now.input.now }
+    requires body_held { HoldsPattern (program_expressions (program_in context.now)) body.now.pattern × HoldsTerm (program_in context.now) body.now.term }
     ensures { IfErr result (λ b. Explains (StopsBody (program_in context.now) (inside_names names.now (context_in context.now)) body.now) b) }
 {
     let inner = (&*context).within(&*names)?;
@@ -794,7 +835,8 @@ fn explain_inside(context: &TypingContext, names: &Frame, body: &Body) -> Result
 /// What differs in a body, which is to take inputs of a type to what is wanted of it, inside a pattern for payloads of a type.
 #[cycle(explain)]
 fn explain_body(context: &TypingContext, body: &Body) -> Result<(), Blame>
-    requires { Fits body.now.input.now }
+    requires fits { Fits body.now.input.now }
+    requires body_held { HoldsPattern (program_expressions (program_in context.now)) body.now.pattern × HoldsTerm (program_in context.now) body.now.term }
     ensures { IfErr result (λ b. Explains (StopsBody (program_in context.now) (context_in context.now) body.now) b) }
 {
     let names = bound(&*context, body.pattern, &*body.payload, body.spot)?;
@@ -810,6 +852,7 @@ fn bound<'b>(
     ty: &'b Ty,
     spot: Spot,
 ) -> Result<Frame<'b>, Blame>
+    requires { HoldsPattern (program_expressions (program_in context.now)) pattern }
     ensures inside { IfOk result (λ names. inside_names names (context_in context.now) ≡ inside_pattern (program_pattern (program_in context.now) pattern) ty.now (context_in context.now)) }
     ensures bound { OnOk result (BindsInside (program_pattern (program_in context.now) pattern) ty.now (context_in context.now)) }
     ensures err { IfErr result (λ b. Explains (PatternDiffers (stored_pattern (program_expressions (program_in context.now)) pattern) ty.now spot) b) }
@@ -831,7 +874,8 @@ fn part_within(
     body: TermId,
     input: &Ty,
 ) -> Result<Ty, Blame>
-    requires { Fits input.now }
+    requires fits { Fits input.now }
+    requires body_held { HoldsTerm (program_in context.now) body }
     ensures ok { IfOk result (λ t. Takes (inside_names names.now (context_in context.now)) (tree (program_in context.now) body) input.now t) }
     ensures err { IfErr result (λ b. Explains (TermDiffers (program_in context.now) (inside_names names.now (context_in context.now)) body input.now) b) }
 {
@@ -848,6 +892,8 @@ fn explain_process(
     input: &Ty,
 ) -> Result<(), Blame>
     requires there { (start : Start) × (term_node_at (program_in context.now) term ≡ Node.Named (Naming.Process start) name place) }
+    requires term_held { HoldsTerm (program_in context.now) term }
+    requires name_held { HoldsName (program_expressions (program_in context.now)) name }
     ensures { IfErr result (λ b. Explains (TermDiffers (program_in context.now) (context_in context.now) term input.now) b) }
 {
     let process = context.process(name, place)?;
@@ -866,6 +912,7 @@ fn explain_argument(
 ) -> Result<(), Blame>
     requires below { ArgumentBelow (program_in context.now) (term_number term) argument }
     requires shallow { (i : collection_ids.CollectionId) → argument ≡ Argument.Collection i → collection_depth (collection_of (program_in context.now) (collection_node (program_in context.now) i)) ≤ 64 }
+    requires argument_held { HoldsArgument (program_in context.now) argument }
     ensures ok { OnOk result (ArgumentKeeps (program_in context.now) (context_in context.now) argument (kind_of_form parameter.now)) }
     ensures err { IfErr result (λ b. Explains (ArgumentDiffersWithin (program_in context.now) (context_in context.now) argument (kind_of_form parameter.now)) b) }
 {
@@ -903,6 +950,9 @@ fn explain_call(
 ) -> Result<(), Blame>
     requires there { term_node_at (program_in context.now) term ≡ Node.Call name arguments }
     requires below { All (ArgumentBelow (program_in context.now) (term_number term)) (argument_nodes (program_in context.now) arguments) }
+    requires term_held { HoldsTerm (program_in context.now) term }
+    requires name_held { HoldsName (program_expressions (program_in context.now)) name }
+    requires arguments_held { HoldsArguments (program_in context.now) arguments × All (HoldsArgument (program_in context.now)) (argument_nodes (program_in context.now) arguments) }
     ensures { IfErr result (λ b. Explains (TermDiffers (program_in context.now) (context_in context.now) term input.now) b) }
 {
     let Some(template) = context.template(name) else {
@@ -922,7 +972,8 @@ fn explain_call(
 /// What differs in a term that is refused on inputs of a type.
 #[cycle(explain)]
 fn explain(context: &TypingContext, term: TermId, input: &Ty) -> Result<(), Blame>
-    requires { Fits input.now }
+    requires fits { Fits input.now }
+    requires term_held { HoldsTerm (program_in context.now) term }
     ensures { IfErr result (λ b. Explains (TermDiffers (program_in context.now) (context_in context.now) term input.now) b) }
 {
     match context.program.node(term) {
@@ -967,6 +1018,8 @@ fn explain_primitive_at(
     input: &Ty,
 ) -> Result<(), Blame>
     requires there { term_node_at (program_in context.now) term ≡ Node.Primitive primitive }
+    requires term_held { HoldsTerm (program_in context.now) term }
+    requires primitive_held { HoldsTermParts (program_in context.now) (Node.Primitive primitive) }
     ensures { IfErr result (λ b. Explains (TermDiffers (program_in context.now) (context_in context.now) term input.now) b) }
 {
     explain_primitive(context, primitive, input, context.program.spot(term))
@@ -982,7 +1035,8 @@ fn template_part(
     names: &Frame,
     template: &Template,
 ) -> Result<Ty, Blame>
-    requires { names_of_set templates.now ≡ program_names program.now }
+    requires names { names_of_set templates.now ≡ program_names program.now }
+    requires body_held { HoldsTerm program.now template.now.body }
     ensures ok { IfOk result (λ t. Takes (outer_context (signatures_in functions.now) (bindings_from (frame_entries names.now)) (templates_of program.now)) (tree program.now template.now.body) template.now.input t) }
     ensures err { IfErr result (λ b. Explains (TermDiffers program.now (outer_context (signatures_in functions.now) (bindings_from (frame_entries names.now)) (templates_of program.now)) template.now.body template.now.input) b) }
 {
@@ -1000,7 +1054,8 @@ fn explain_template(
     functions: &Signatures,
     template: &Template,
 ) -> Result<(), Blame>
-    requires { names_of_set names.now ≡ program_names program.now }
+    requires names { names_of_set names.now ≡ program_names program.now }
+    requires body_held { HoldsTerm program.now template.now.body }
     ensures { IfErr result (λ b. Explains (TemplateDiffers (signatures_in functions.now) program.now template.now) b) }
 {
     let parameters = parameter_names(alloc, template.parameters())?;

@@ -5,11 +5,12 @@ ghost use Rattle.sf_value.specs.KindView.{key_kind_of};
 ghost use Rattle.sf_refusal.specs.Refusals.{broken, OrMemory};
 ghost use Rattle.sf_refusal.specs.declared.rule.Rule.TheVariants.{Mismatch};
 ghost use Rattle.sf_func.specs.Signatures.{signatures_in};
+ghost use Rattle.sf_expr.specs.Arena.{Holds, HoldsFunction, HoldsName, HoldsConstant, HoldsPattern};
 ghost use Rattle.sf_expr.specs.Refusals.{Judges};
 ghost use Rattle.sf_expr.specs.Judging.{matching_at, judged_fitting, judged, function_judged, Stops, GivesFound};
 ghost use Rattle.sf_expr.specs.Typing.{Fits};
 ghost use Rattle.sf_term.specs.Trees.{collection_depth};
-ghost use Rattle.sf_term.specs.Arena.{term_number, term_node_at, term_spot_at, program_expressions, argument_nodes, collection_node, collection_of, ArgumentBelow, CollectionBelow, TermPartsBelow, term_template, templates_of};
+ghost use Rattle.sf_term.specs.Arena.{term_number, term_node_at, term_spot_at, program_expressions, argument_nodes, collection_node, collection_of, ArgumentBelow, CollectionBelow, TermPartsBelow, HoldsTerm, HoldsTermParts, HoldsArgument, HoldsArguments, HoldsMembers, HoldsWhole, term_template, templates_of};
 ghost use Rattle.sf_term.specs.declared.collection.CollExpr.TheVariants.{Used};
 ghost use Rattle.sf_term.specs.declared.collection.CollectionId as collection_ids;
 ghost use Rattle.sf_term.specs.ParameterView.{kind_of_form};
@@ -46,7 +47,7 @@ use sf_term::{
     Heading, Join, Naming, Node, Observation, ParameterForm, Primitive, Program, Releasing, Side,
     Switch, Switching, Template, TermId, Timing, WithValue,
 };
-use sf_value::{KeyType, Ty, same_type};
+use sf_value::{Ty, same_type};
 use std::alloc::Global;
 
 /// The two parts of a type of pairs; another type is refused with `Mismatch` at the spot.
@@ -120,6 +121,7 @@ fn table_at(alloc: Global, types: &MemberTypes, spot: Spot) -> Result<Ty, Refusa
 
 /// The type of a value.
 fn value_type(context: &TypingContext, value: ExprId) -> Result<Ty, Refusal>
+    requires { Holds (program_expressions (program_in context.now)) value }
     ensures { GivesFound result (judged (program_expressions (program_in context.now)) value (names_of_values (context_in context.now))) }
 {
     type_of(
@@ -133,6 +135,7 @@ fn value_type(context: &TypingContext, value: ExprId) -> Result<Ty, Refusal>
 
 /// The type of a constant.
 pub(crate) fn constant_type(context: &TypingContext, value: ExprId) -> Result<Ty, Refusal>
+    requires { Holds (program_expressions (program_in context.now)) value }
     ensures { Judges (program_expressions (program_in context.now)) (names_of_values (context_in context.now)) value result }
 {
     value_type(context, value)
@@ -178,6 +181,7 @@ fn never_output(
     input: &Ty,
     spot: Spot,
 ) -> Result<Ty, Refusal>
+    requires { HoldsConstant (program_expressions (program_in context.now)) constant }
     ensures { GivesFound result (primitive_judged (program_expressions (program_in context.now)) spot (Primitive.Never constant) (context_in context.now) input.now) }
 {
     let constant = context.program.expressions().constant_at(constant);
@@ -242,6 +246,7 @@ fn value_output(
     input: &Ty,
     spot: Spot,
 ) -> Result<Ty, Refusal>
+    requires { Holds (program_expressions (program_in context.now)) value }
     ensures { GivesFound result (primitive_judged (program_expressions (program_in context.now)) spot (Primitive.WithValue kind value) (context_in context.now) input.now) }
 {
     let given = value_type(context, value)?;
@@ -289,6 +294,7 @@ fn timed_output(
     input: &Ty,
     spot: Spot,
 ) -> Result<Ty, Refusal>
+    requires { Holds (program_expressions (program_in context.now)) value }
     ensures { GivesFound result (primitive_judged (program_expressions (program_in context.now)) spot (Primitive.Timed kind time value) (context_in context.now) input.now) }
 {
     let given = value_type(context, value)?;
@@ -333,6 +339,7 @@ fn answer_type(
     argument: &Ty,
     spot: Spot,
 ) -> Result<Ty, Refusal>
+    requires { HoldsFunction (program_expressions (program_in context.now)) function }
     ensures { GivesFound result (function_judged (program_expressions (program_in context.now)) function spot argument.now (names_of_values (context_in context.now))) }
 {
     let expressions = context.expressions();
@@ -401,6 +408,8 @@ fn accumulated_output(
     input: &Ty,
     spot: Spot,
 ) -> Result<Ty, Refusal>
+    requires value_held { Holds (program_expressions (program_in context.now)) value }
+    requires function_held { HoldsFunction (program_expressions (program_in context.now)) function }
     ensures { GivesFound result (primitive_judged (program_expressions (program_in context.now)) spot (Primitive.Accumulated kind value function) (context_in context.now) input.now) }
 {
     let given = value_type(context, value)?;
@@ -416,6 +425,7 @@ fn primitive_output(
     input: &Ty,
     spot: Spot,
 ) -> Result<Ty, Refusal>
+    requires { HoldsTermParts (program_in context.now) (Node.Primitive primitive) }
     ensures { GivesFound result (primitive_judged (program_expressions (program_in context.now)) spot primitive (context_in context.now) input.now) }
 {
     match primitive {
@@ -454,6 +464,9 @@ fn joined_output(
     input: &Ty,
 ) -> Result<Ty, Refusal>
     requires below { (term_number left < term_number term) × (term_number right < term_number term) }
+    requires term_held { HoldsTerm (program_in context.now) term }
+    requires left_held { HoldsTerm (program_in context.now) left }
+    requires right_held { HoldsTerm (program_in context.now) right }
     ensures { GivesFound result (judged_as (program_in context.now) term (Node.Joined join left right) (context_in context.now) input.now) }
 {
     match join {
@@ -474,6 +487,8 @@ fn sequence_output(
     input: &Ty,
 ) -> Result<Ty, Refusal>
     requires below { (term_number left < term_number term) × (term_number right < term_number term) }
+    requires left_held { HoldsTerm (program_in context.now) left }
+    requires right_held { HoldsTerm (program_in context.now) right }
     ensures { GivesFound result (judged_as (program_in context.now) term (Node.Joined Join.InSequence left right) (context_in context.now) input.now) }
 {
     let middle = judge(context, left, input)?;
@@ -491,6 +506,9 @@ fn parallel_output(
     input: &Ty,
 ) -> Result<Ty, Refusal>
     requires below { (term_number left < term_number term) × (term_number right < term_number term) }
+    requires term_held { HoldsTerm (program_in context.now) term }
+    requires left_held { HoldsTerm (program_in context.now) left }
+    requires right_held { HoldsTerm (program_in context.now) right }
     ensures { GivesFound result (judged_as (program_in context.now) term (Node.Joined Join.InParallel left right) (context_in context.now) input.now) }
 {
     let spot = context.program.spot(term);
@@ -511,6 +529,9 @@ fn fan_output(
     input: &Ty,
 ) -> Result<Ty, Refusal>
     requires below { (term_number left < term_number term) × (term_number right < term_number term) }
+    requires term_held { HoldsTerm (program_in context.now) term }
+    requires left_held { HoldsTerm (program_in context.now) left }
+    requires right_held { HoldsTerm (program_in context.now) right }
     ensures { GivesFound result (judged_as (program_in context.now) term (Node.Joined Join.FannedOut left right) (context_in context.now) input.now) }
 {
     let spot = context.program.spot(term);
@@ -530,6 +551,8 @@ fn sided_output(
     input: &Ty,
 ) -> Result<Ty, Refusal>
     requires below { term_number part < term_number term }
+    requires term_held { HoldsTerm (program_in context.now) term }
+    requires part_held { HoldsTerm (program_in context.now) part }
     ensures { GivesFound result (judged_as (program_in context.now) term (Node.Sided side part) (context_in context.now) input.now) }
 {
     let spot = context.program.spot(term);
@@ -558,6 +581,7 @@ fn wanted_output(output: Ty, wanted: &Ty, spot: Spot) -> Result<Ty, Refusal>
 /// a type.
 #[cycle(output)]
 fn body_output(context: &TypingContext, body: &Body) -> Result<Ty, Refusal>
+    requires { HoldsPattern (program_expressions (program_in context.now)) body.now.pattern × HoldsTerm (program_in context.now) body.now.term }
     ensures { GivesFound result (judged_body (program_in context.now) body.now (context_in context.now)) }
 {
     let names = (&*context).pattern_names(body.pattern, &*body.payload, body.spot)?;
@@ -573,6 +597,7 @@ fn output_within(
     body: TermId,
     input: &Ty,
 ) -> Result<Ty, Refusal>
+    requires { HoldsTerm (program_in context.now) body }
     ensures { GivesFound result (term_judged (program_in context.now) body (inside_names names.now (context_in context.now)) input.now) }
 {
     let inner = (&*context).within(&*names)?;
@@ -592,6 +617,9 @@ fn headed_output(
     input: &Ty,
 ) -> Result<Ty, Refusal>
     requires below { term_number part < term_number term }
+    requires term_held { HoldsTerm (program_in context.now) term }
+    requires value_held { Holds (program_expressions (program_in context.now)) value }
+    requires part_held { HoldsTerm (program_in context.now) part }
     ensures { GivesFound result (judged_as (program_in context.now) term (Node.Headed heading value part) (context_in context.now) input.now) }
 {
     let spot = context.program.spot(term);
@@ -625,6 +653,9 @@ fn transformed_output(
     input: &Ty,
 ) -> Result<Ty, Refusal>
     requires below { term_number part < term_number term }
+    requires term_held { HoldsTerm (program_in context.now) term }
+    requires function_held { HoldsFunction (program_expressions (program_in context.now)) function }
+    requires part_held { HoldsTerm (program_in context.now) part }
     ensures { GivesFound result (judged_as (program_in context.now) term (Node.Transformed function part) (context_in context.now) input.now) }
 {
     let spot = context.program.spot(term);
@@ -643,6 +674,8 @@ fn switching_output(
     input: &Ty,
 ) -> Result<Ty, Refusal>
     requires below { (term_number form.source < term_number term) × (term_number form.body < term_number term) }
+    requires term_held { HoldsTerm (program_in context.now) term }
+    requires form_held { HoldsTermParts (program_in context.now) (Node.Switching form) }
     ensures { GivesFound result (judged_as (program_in context.now) term (Node.Switching form) (context_in context.now) input.now) }
 {
     match form.form {
@@ -662,6 +695,8 @@ fn basic_output(
     input: &Ty,
 ) -> Result<Ty, Refusal>
     requires below { (term_number form.source < term_number term) × (term_number form.body < term_number term) }
+    requires term_held { HoldsTerm (program_in context.now) term }
+    requires form_held { HoldsTermParts (program_in context.now) (Node.Switching form) }
     ensures { GivesFound result (judged_as (program_in context.now) term (Node.Switching (record form { form = Switching.Basic shown })) (context_in context.now) input.now) }
 {
     let spot = context.program.spot(term);
@@ -689,6 +724,8 @@ fn recurring_output(
     input: &Ty,
 ) -> Result<Ty, Refusal>
     requires below { (term_number form.source < term_number term) × (term_number form.body < term_number term) }
+    requires term_held { HoldsTerm (program_in context.now) term }
+    requires form_held { HoldsTermParts (program_in context.now) (Node.Switching form) }
     ensures { GivesFound result (judged_as (program_in context.now) term (Node.Switching (record form { form = Switching.Recurring shown })) (context_in context.now) input.now) }
 {
     let spot = context.program.spot(term);
@@ -716,6 +753,8 @@ fn continuing_output(
     input: &Ty,
 ) -> Result<Ty, Refusal>
     requires below { (term_number form.source < term_number term) × (term_number form.observer < term_number term) × (term_number form.body < term_number term) }
+    requires term_held { HoldsTerm (program_in context.now) term }
+    requires form_held { HoldsTermParts (program_in context.now) (Node.Continuation form) }
     ensures { GivesFound result (judged_as (program_in context.now) term (Node.Continuation form) (context_in context.now) input.now) }
 {
     let spot = context.program.spot(term);
@@ -738,6 +777,8 @@ fn continuing_output(
 /// a type and the name of a process from the one to the other.
 #[cycle(output)]
 fn kept_output(context: &TypingContext, name: NameId, body: &Body) -> Result<Ty, Refusal>
+    requires name_held { HoldsName (program_expressions (program_in context.now)) name }
+    requires body_held { HoldsPattern (program_expressions (program_in context.now)) body.now.pattern × HoldsTerm (program_in context.now) body.now.term }
     ensures { GivesFound result (judged_body (program_in context.now) body.now (continuing_inside (program_in context.now) name body.now.input.now body.now.wanted.now (context_in context.now))) }
 {
     let names = (&*context).process_name(name, &*body.input, &*body.wanted)?;
@@ -748,6 +789,7 @@ fn kept_output(context: &TypingContext, name: NameId, body: &Body) -> Result<Ty,
 /// for payloads of a type.
 #[cycle(output)]
 fn body_within(context: &TypingContext, names: &Frame, body: &Body) -> Result<Ty, Refusal>
+    requires { HoldsPattern (program_expressions (program_in context.now)) body.now.pattern × HoldsTerm (program_in context.now) body.now.term }
     ensures { GivesFound result (judged_body (program_in context.now) body.now (inside_names names.now (context_in context.now))) }
 {
     let inner = (&*context).within(&*names)?;
@@ -763,6 +805,7 @@ fn used_types(
     spot: Spot,
     input: &Ty,
 ) -> Result<MemberTypes, Refusal>
+    requires { HoldsName (program_expressions (program_in context.now)) name }
     ensures { GivesMembers result (members_judged (program_in context.now) (term_judged (program_in context.now)) (Used name place spot) (context_in context.now) input.now) }
 {
     let types = context.collection(name, place)?;
@@ -791,15 +834,10 @@ fn judge_members(
 ) -> Result<MemberTypes, Refusal>
     requires below { CollectionBelow (term_number form) (collection_node (program_in context.now) members) }
     requires shallow { collection_depth (collection_of (program_in context.now) (collection_node (program_in context.now) members)) ≤ 64 }
+    requires members_held { HoldsWhole (program_in context.now) members }
     ensures { GivesMembers result (members_judged (program_in context.now) (term_judged (program_in context.now)) (collection_node (program_in context.now) members) (context_in context.now) input.now) }
 {
-    match context.program.collection(members) {
-        Some(collection) => members_of(context, form, collection, input),
-        None => Ok(MemberTypes {
-            keys: KeyType::Int,
-            output: Ty::unit(),
-        }),
-    }
+    members_of(context, form, context.program.collection(members), input)
 }
 
 /// The types of a collection, which a form has, on inputs of a type, or the first rule that is broken in it.
@@ -813,6 +851,7 @@ fn members_of(
 ) -> Result<MemberTypes, Refusal>
     requires below { CollectionBelow (term_number form) collection.now }
     requires shallow { collection_depth (collection_of (program_in context.now) collection.now) ≤ 64 }
+    requires collection_held { HoldsMembers (program_in context.now) collection.now }
     ensures { GivesMembers result (members_judged (program_in context.now) (term_judged (program_in context.now)) collection.now (context_in context.now) input.now) }
 {
     match collection {
@@ -862,6 +901,8 @@ fn gathered_output(
 ) -> Result<Ty, Refusal>
     requires there { term_node_at (program_in context.now) term ≡ Node.Gathered members }
     requires below { CollectionBelow (term_number term) (collection_node (program_in context.now) members) }
+    requires term_held { HoldsTerm (program_in context.now) term }
+    requires members_held { HoldsWhole (program_in context.now) members }
     ensures { GivesFound result (judged_as (program_in context.now) term (Node.Gathered members) (context_in context.now) input.now) }
 {
     let types = judge_members(context, term, members, input)?;
@@ -880,6 +921,8 @@ fn releasing_output(
 ) -> Result<Ty, Refusal>
     requires there { term_node_at (program_in context.now) term ≡ Node.Releasing form }
     requires below { CollectionBelow (term_number term) (collection_node (program_in context.now) form.members) × (term_number form.observer < term_number term) × (term_number form.body < term_number term) }
+    requires term_held { HoldsTerm (program_in context.now) term }
+    requires form_held { HoldsTermParts (program_in context.now) (Node.Releasing form) }
     ensures { GivesFound result (judged_as (program_in context.now) term (Node.Releasing form) (context_in context.now) input.now) }
 {
     let spot = context.program.spot(term);
@@ -908,6 +951,8 @@ fn released_output(
     types: &MemberTypes,
     body: &Body,
 ) -> Result<Ty, Refusal>
+    requires name_held { HoldsName (program_expressions (program_in context.now)) name }
+    requires body_held { HoldsPattern (program_expressions (program_in context.now)) body.now.pattern × HoldsTerm (program_in context.now) body.now.term }
     ensures { GivesFound result (judged_body (program_in context.now) body.now (members_inside (program_in context.now) name (key_kind_of types.now.keys) body.now.input.now types.now.output (context_in context.now))) }
 {
     let names = (&*context).members_name(name, types.keys, &*body.input, &types.output)?;
@@ -925,6 +970,8 @@ fn editing_output(
 ) -> Result<Ty, Refusal>
     requires there { term_node_at (program_in context.now) term ≡ Node.Editing form }
     requires below { CollectionBelow (term_number term) (collection_node (program_in context.now) form.members) × CollectionBelow (term_number term) (collection_node (program_in context.now) form.edit) }
+    requires term_held { HoldsTerm (program_in context.now) term }
+    requires form_held { HoldsTermParts (program_in context.now) (Node.Editing form) }
     ensures { GivesFound result (judged_as (program_in context.now) term (Node.Editing form) (context_in context.now) input.now) }
 {
     let spot = context.program.spot(term);
@@ -947,6 +994,7 @@ fn editing_output(
 fn edited_types(context: &TypingContext, term: TermId, edit: &Edit) -> Result<MemberTypes, Refusal>
     requires below { CollectionBelow (term_number term) (collection_node (program_in context.now) edit.now.form.edit) }
     requires shallow { collection_depth (collection_of (program_in context.now) (collection_node (program_in context.now) edit.now.form.edit)) ≤ 64 }
+    requires edit_held { HoldsTermParts (program_in context.now) (Node.Editing edit.now.form) }
     ensures { GivesMembers result (judged_edit (program_in context.now) edit.now (members_inside (program_in context.now) edit.now.form.name (key_kind_of edit.now.wanted.now.keys) edit.now.input.now edit.now.wanted.now.output (context_in context.now))) }
 {
     let wanted = edit.wanted;
@@ -970,6 +1018,7 @@ fn edit_within(
 ) -> Result<MemberTypes, Refusal>
     requires below { CollectionBelow (term_number term) (collection_node (program_in context.now) edit.now.form.edit) }
     requires shallow { collection_depth (collection_of (program_in context.now) (collection_node (program_in context.now) edit.now.form.edit)) ≤ 64 }
+    requires edit_held { HoldsTermParts (program_in context.now) (Node.Editing edit.now.form) }
     ensures { GivesMembers result (judged_edit (program_in context.now) edit.now (inside_names names.now (context_in context.now))) }
 {
     let inner = (&*context).within(&*names)?;
@@ -982,6 +1031,7 @@ fn edit_within(
 fn edit_types(context: &TypingContext, term: TermId, edit: &Edit) -> Result<MemberTypes, Refusal>
     requires below { CollectionBelow (term_number term) (collection_node (program_in context.now) edit.now.form.edit) }
     requires shallow { collection_depth (collection_of (program_in context.now) (collection_node (program_in context.now) edit.now.form.edit)) ≤ 64 }
+    requires edit_held { HoldsTermParts (program_in context.now) (Node.Editing edit.now.form) }
     ensures { GivesMembers result (judged_edit (program_in context.now) edit.now (context_in context.now)) }
 {
     let names = (&*context).pattern_names(edit.form.pattern, &*edit.payload, edit.spot)?;
@@ -1001,6 +1051,7 @@ fn members_within(
 ) -> Result<MemberTypes, Refusal>
     requires below { CollectionBelow (term_number form) (collection_node (program_in context.now) members) }
     requires shallow { collection_depth (collection_of (program_in context.now) (collection_node (program_in context.now) members)) ≤ 64 }
+    requires members_held { HoldsWhole (program_in context.now) members }
     ensures { GivesMembers result (members_judged (program_in context.now) (term_judged (program_in context.now)) (collection_node (program_in context.now) members) (inside_names names.now (context_in context.now)) input.now) }
 {
     let inner = (&*context).within(&*names)?;
@@ -1015,6 +1066,8 @@ fn process_output(
     place: Spot,
     input: &Ty,
 ) -> Result<Ty, Refusal>
+    requires term_held { HoldsTerm (program_in context.now) term }
+    requires name_held { HoldsName (program_expressions (program_in context.now)) name }
     ensures { (start : Start) → GivesFound result (judged_as (program_in context.now) term (Node.Named (Naming.Process start) name place) (context_in context.now) input.now) }
 {
     let process = context.process(name, place)?;
@@ -1031,6 +1084,8 @@ fn named_output(
     place: Spot,
     input: &Ty,
 ) -> Result<Ty, Refusal>
+    requires term_held { HoldsTerm (program_in context.now) term }
+    requires name_held { HoldsName (program_expressions (program_in context.now)) name }
     ensures { GivesFound result (judged_as (program_in context.now) term (Node.Named naming name place) (context_in context.now) input.now) }
 {
     match naming {
@@ -1063,6 +1118,8 @@ fn argument_fits(
 ) -> Result<bool, Refusal>
     requires below { ArgumentBelow (program_in context.now) (term_number term) argument }
     requires shallow { (i : collection_ids.CollectionId) → argument ≡ Argument.Collection i → collection_depth (collection_of (program_in context.now) (collection_node (program_in context.now) i)) ≤ 64 }
+    requires term_held { HoldsTerm (program_in context.now) term }
+    requires argument_held { HoldsArgument (program_in context.now) argument }
     ensures { GivesFound result (argument_judged (program_in context.now) (term_judged (program_in context.now)) (term_spot_at (program_in context.now) term) (context_in context.now) argument (kind_of_form parameter.now)) }
 {
     match (argument, parameter) {
@@ -1107,6 +1164,9 @@ fn call_output(
 ) -> Result<Ty, Refusal>
     requires there { term_node_at (program_in context.now) term ≡ Node.Call name arguments }
     requires below { All (ArgumentBelow (program_in context.now) (term_number term)) (argument_nodes (program_in context.now) arguments) }
+    requires term_held { HoldsTerm (program_in context.now) term }
+    requires name_held { HoldsName (program_expressions (program_in context.now)) name }
+    requires arguments_held { HoldsArguments (program_in context.now) arguments × All (HoldsArgument (program_in context.now)) (argument_nodes (program_in context.now) arguments) }
     ensures { GivesFound result (judged_as (program_in context.now) term (Node.Call name arguments) (context_in context.now) input.now) }
 {
     let spot = context.program.spot(term);
@@ -1134,6 +1194,8 @@ fn call_output(
 fn judge_form(context: &TypingContext, term: TermId, node: Node, input: &Ty) -> Result<Ty, Refusal>
     requires there { term_node_at (program_in context.now) term ≡ node }
     requires below { TermPartsBelow (program_in context.now) node (term_number term) }
+    requires term_held { HoldsTerm (program_in context.now) term }
+    requires node_held { HoldsTermParts (program_in context.now) node }
     ensures { GivesFound result (judged_as (program_in context.now) term node (context_in context.now) input.now) }
 {
     match node {
@@ -1165,6 +1227,7 @@ fn judge_form(context: &TypingContext, term: TermId, node: Node, input: &Ty) -> 
 /// The type of a term's outputs on inputs of a type, or the first rule that a form in it breaks.
 #[cycle(output)]
 fn judge(context: &TypingContext, term: TermId, input: &Ty) -> Result<Ty, Refusal>
+    requires { HoldsTerm (program_in context.now) term }
     ensures { GivesFound result (term_judged (program_in context.now) term (context_in context.now) input.now) }
 {
     let node = context.program.node(term);
@@ -1174,7 +1237,8 @@ fn judge(context: &TypingContext, term: TermId, input: &Ty) -> Result<Ty, Refusa
 /// The type of a term's outputs on inputs of a type, or the first rule that a form in it breaks.
 #[tactic(auto, using(crate::proofs::Judged::answers_term))]
 pub(crate) fn output_of(context: &TypingContext, term: TermId, input: &Ty) -> Result<Ty, Refusal>
-    requires { Fits input.now }
+    requires fits { Fits input.now }
+    requires term_held { HoldsTerm (program_in context.now) term }
     ensures { AnswersTerm (program_in context.now) (context_in context.now) term input.now result }
 {
     judge(context, term, input)
@@ -1191,6 +1255,7 @@ pub(crate) fn members_at(
     requires fits { Fits input.now }
     requires below { CollectionBelow (term_number form) (collection_node (program_in context.now) members) }
     requires shallow { collection_depth (collection_of (program_in context.now) (collection_node (program_in context.now) members)) ≤ 64 }
+    requires members_held { HoldsWhole (program_in context.now) members }
     ensures { AnswersMembers (program_in context.now) (context_in context.now) (collection_node (program_in context.now) members) input.now result }
 {
     judge_members(context, form, members, input)
@@ -1206,7 +1271,8 @@ fn template_output(
     names: &Frame,
     template: &Template,
 ) -> Result<Ty, Refusal>
-    requires { names_of_set templates.now ≡ program_names program.now }
+    requires names { names_of_set templates.now ≡ program_names program.now }
+    requires body_held { HoldsTerm program.now template.now.body }
     ensures { AnswersTerm program.now (outer_context (signatures_in functions.now) (bindings_from (frame_entries names.now)) (templates_of program.now)) template.now.body template.now.input result }
 {
     let context = TypingContext::of_body(alloc, program, templates, functions, &*names)?;
@@ -1224,7 +1290,8 @@ pub(crate) fn check_template(
     functions: &Signatures,
     template: &Template,
 ) -> Result<(), Refusal>
-    requires { names_of_set names.now ≡ program_names program.now }
+    requires names { names_of_set names.now ≡ program_names program.now }
+    requires body_held { HoldsTerm program.now template.now.body }
     ensures ok { OnOk result (IsTyped (signatures_in functions.now) (templates_of program.now) (term_template program.now template.now)) }
     ensures err { IfErr result (OrMemory (TemplateBreaks (signatures_in functions.now) program.now template.now)) }
 {

@@ -13,10 +13,11 @@ use Rattle.sf_expr.specs.declared.exprs.Exprs.{Exprs}
 use Rattle.sf_expr.specs.declared.exprs.ExprId.{ExprId}
 use Rattle.sf_expr.specs.declared.exprs.Mapped.{Mapped}
 use Rattle.sf_expr.specs.declared.exprs.Folded.{Folded}
+use Rattle.sf_operator.specs.declared.operator.Operator.{Operator}
 use Rattle.sf_expr.specs.declared.exprs.NameId.{NameId}
 use Rattle.sf_expr.specs.declared.exprs.PatternId.{PatternId}
 use Rattle.sf_expr.specs.declared.exprs.ExprNode.TheVariants as nodes
-use Rattle.sf_expr.specs.Arena.{expression, name_at, stored_pattern, Builds, builds_conditional, builds_mapped, builds_folded}
+use Rattle.sf_expr.specs.Arena.{expression, name_at, stored_pattern, Builds, builds_pair, builds_operation, builds_conditional, builds_mapped, builds_folded}
 use Rattle.sf_expr.specs.Expressions.{Pattern, named, both, Expression, variable, literal, paired, applied, operation, conditional, mapped, folded, called}
 use Rattle.sf_expr.specs.Patterns.{pattern_of}
 use Rattle.sf_expr.specs.Meanings.{names_seen}
@@ -202,3 +203,24 @@ module _ {x : Exprs} (ps : List Pattern) where
       → is_closed (ps ++ old) (expression x n.first) ≡ true → is_closed (ps ++ old) (expression x n.second) ≡ true → is_closed (pattern_of (stored_pattern x n.pattern) ∷ (ps ++ new)) (expression x n.body) ≡ true → is_closed (ps ++ new) t ≡ true
   folded_closed {n} old new builds_folded more h k l =
       and_from _ _ (closed_more old new more (expression x n.first) ps h) (and_from _ _ (closed_more old new more (expression x n.second) ps k) l)
+
+  pub pair_closed : {a b : ExprId} {t : Expression} → Builds x (nodes.Pair a b) t → is_closed ps (expression x a) ≡ true → is_closed ps (expression x b) ≡ true → is_closed ps t ≡ true
+  pair_closed builds_pair h k = and_from _ _ h k
+
+  pub operation_closed : {a b : ExprId} {op : Operator} {t : Expression} → Builds x (nodes.Operation a op b) t → is_closed ps (expression x a) ≡ true → is_closed ps (expression x b) ≡ true → is_closed ps t ≡ true
+  operation_closed builds_operation h k = and_from _ _ h k
+
+  -- the parts of an expression are closed where it is
+  pub pair_parts : {a b : ExprId} {t : Expression} → Builds x (nodes.Pair a b) t → is_closed ps t ≡ true → (is_closed ps (expression x a) ≡ true) × (is_closed ps (expression x b) ≡ true)
+  pair_parts builds_pair h = and_parts _ _ h
+
+  pub operation_parts : {a b : ExprId} {op : Operator} {t : Expression} → Builds x (nodes.Operation a op b) t → is_closed ps t ≡ true → (is_closed ps (expression x a) ≡ true) × (is_closed ps (expression x b) ≡ true)
+  operation_parts builds_operation h = and_parts _ _ h
+
+  pub conditional_parts : {a b c : ExprId} {t : Expression} → Builds x (nodes.Conditional a b c) t → is_closed ps t ≡ true
+      → (is_closed ps (expression x a) ≡ true) × (is_closed ps (expression x b) ≡ true) × (is_closed ps (expression x c) ≡ true)
+  conditional_parts builds_conditional h = let each = and_parts _ _ h in let branches = and_parts _ _ each.1 in (each.0, branches.0, branches.1)
+
+  pub folded_parts : {n : Folded} {t : Expression} → Builds x (nodes.Folded n) t → is_closed ps t ≡ true
+      → (is_closed ps (expression x n.first) ≡ true) × (is_closed ps (expression x n.second) ≡ true) × (is_closed (pattern_of (stored_pattern x n.pattern) ∷ ps) (expression x n.body) ≡ true)
+  folded_parts builds_folded h = let each = and_parts _ _ h in let others = and_parts _ _ each.1 in (each.0, others.0, others.1)

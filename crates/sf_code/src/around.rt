@@ -1,11 +1,11 @@
 //! The names around an expression: those that no pattern of its frames binds.
 ghost use Rattle.std.specs.Prelude.{◌≡◌, true, [], ◌∷◌, ◌++◌, IfOk, OnOk, is_some};
-ghost use Rattle.sf_expr.specs.Arena.{expression, name_at, stored_pattern};
+ghost use Rattle.sf_expr.specs.Arena.{expression, name_at, stored_pattern, Holds, HoldsName, HoldsPattern};
 ghost use Rattle.sf_expr.specs.Patterns.{pattern_of};
 ghost use Rattle.sf_code.specs.Compiling.{is_closed, named_each, path_of_name, place_of_name, BindAsMany};
 ghost use Rattle.sf_expr.specs.declared.exprs.Exprs as expression_arenas;
 ghost use Rattle.sf_code.specs.PlaceView.{frame_patterns, around_pattern};
-ghost use Rattle.sf_code.specs.Around.{names_by_id, pattern_around, patterns_around};
+ghost use Rattle.sf_code.specs.Around.{names_by_id, pattern_around, patterns_around, HoldsEach, HoldsShape, HoldsFrame};
 
 use crate::pattern::FramePattern;
 use crate::place::Patterns;
@@ -28,6 +28,7 @@ pub enum Around {
 impl Around {
     /// The pattern of these names, of which the places in the text are none.
     fn pattern(&self, alloc: Global, exprs: &Exprs) -> Result<Pat, AllocError>
+        requires { HoldsShape exprs.now self.now }
         ensures { IfOk result (λ pattern. pattern_of pattern ≡ pattern_around exprs.now self.now) }
     {
         match self {
@@ -52,6 +53,7 @@ pub(crate) fn pattern_of_around(
     exprs: &Exprs,
     around: &Option<Box<Around>>,
 ) -> Result<Option<Box<Pat>>, AllocError>
+    requires { HoldsFrame exprs.now around.now }
     ensures { IfOk result (λ pattern. around_pattern pattern ≡ patterns_around exprs.now around.now) }
 {
     match around {
@@ -71,6 +73,8 @@ pub(crate) fn names_around(
     id: ExprId,
     patterns: &Patterns,
 ) -> Result<Option<Box<Around>>, AllocError>
+    requires { Holds exprs.now id }
+    ensures held { IfOk result (λ around. HoldsFrame exprs.now around) }
     ensures closed { IfOk result (λ around. is_closed (frame_patterns patterns.now ++ patterns_around exprs.now around) (expression exprs.now id) ≡ true) }
     ensures fewest { is_closed (frame_patterns patterns.now) (expression exprs.now id) ≡ true → IfOk result (λ around. around ≡ None) }
 {
@@ -82,6 +86,8 @@ pub(crate) fn names_around(
 
 // Of names of the same text the first.
 fn each_once(alloc: Global, exprs: &Exprs, names: &[NameId]) -> Result<Vec<NameId>, AllocError>
+    requires { HoldsEach exprs.now names.now }
+    ensures held { IfOk result (λ own. HoldsEach exprs.now own.items) }
     ensures bound { IfOk result (λ own. BindAsMany (named_each (names_by_id exprs.now names.now)) (named_each (names_by_id exprs.now own.items))) }
     ensures fewest { names.now ≡ [] → IfOk result (λ own. own.items ≡ []) }
 {
@@ -98,6 +104,7 @@ fn each_once(alloc: Global, exprs: &Exprs, names: &[NameId]) -> Result<Vec<NameI
 
 // Names as names around code, if there are any.
 fn around_of(alloc: Global, names: &[NameId]) -> Result<Option<Box<Around>>, AllocError>
+    ensures held { (x : expression_arenas.Exprs) → HoldsEach x names.now → IfOk result (λ around. HoldsFrame x around) }
     ensures bound { (x : expression_arenas.Exprs) → IfOk result (λ around. BindAsMany (named_each (names_by_id x names.now)) (patterns_around x around)) }
     ensures fewest { names.now ≡ [] → IfOk result (λ around. around ≡ None) }
 {
@@ -110,7 +117,8 @@ fn around_of(alloc: Global, names: &[NameId]) -> Result<Option<Box<Around>>, All
 
 // The same of some, as low as can be.
 fn balanced(alloc: Global, names: &[NameId]) -> Result<Around, AllocError>
-    ensures { (x : expression_arenas.Exprs) → IfOk result (λ around. BindAsMany (named_each (names_by_id x names.now)) (pattern_around x around ∷ [])) }
+    ensures held { (x : expression_arenas.Exprs) → HoldsEach x names.now → IfOk result (λ around. HoldsShape x around) }
+    ensures bound { (x : expression_arenas.Exprs) → IfOk result (λ around. BindAsMany (named_each (names_by_id x names.now)) (pattern_around x around ∷ [])) }
 {
     match names {
         [] => Ok(Around::Nothing),
@@ -133,6 +141,8 @@ fn gather(
     patterns: &Patterns,
     names: &mut Vec<NameId>,
 ) -> Result<(), AllocError>
+    requires { Holds exprs.now id }
+    ensures held { HoldsEach exprs.now names.old.items → OnOk result (HoldsEach exprs.now names.new.items) }
     ensures kept { OnOk result (BindAsMany (named_each (names_by_id exprs.now names.old.items)) (named_each (names_by_id exprs.now names.new.items))) }
     ensures closed { OnOk result (is_closed (frame_patterns patterns.now ++ named_each (names_by_id exprs.now names.new.items)) (expression exprs.now id) ≡ true) }
     ensures fewest { OnOk result (is_closed (frame_patterns patterns.now) (expression exprs.now id) ≡ true → names.new.items ≡ names.old.items) }
@@ -171,6 +181,9 @@ fn gather_both(
     patterns: &Patterns,
     names: &mut Vec<NameId>,
 ) -> Result<(), AllocError>
+    requires first { Holds exprs.now first }
+    requires second { Holds exprs.now second }
+    ensures held { HoldsEach exprs.now names.old.items → OnOk result (HoldsEach exprs.now names.new.items) }
     ensures kept { OnOk result (BindAsMany (named_each (names_by_id exprs.now names.old.items)) (named_each (names_by_id exprs.now names.new.items))) }
     ensures first { OnOk result (is_closed (frame_patterns patterns.now ++ named_each (names_by_id exprs.now names.new.items)) (expression exprs.now first) ≡ true) }
     ensures second { OnOk result (is_closed (frame_patterns patterns.now ++ named_each (names_by_id exprs.now names.new.items)) (expression exprs.now second) ≡ true) }
@@ -190,6 +203,9 @@ fn gather_within(
     patterns: &Patterns,
     names: &mut Vec<NameId>,
 ) -> Result<(), AllocError>
+    requires pattern { HoldsPattern exprs.now pattern }
+    requires body { Holds exprs.now body }
+    ensures held { HoldsEach exprs.now names.old.items → OnOk result (HoldsEach exprs.now names.new.items) }
     ensures kept { OnOk result (BindAsMany (named_each (names_by_id exprs.now names.old.items)) (named_each (names_by_id exprs.now names.new.items))) }
     ensures closed { OnOk result (is_closed (pattern_of (stored_pattern exprs.now pattern) ∷ (frame_patterns patterns.now ++ named_each (names_by_id exprs.now names.new.items))) (expression exprs.now body) ≡ true) }
     ensures fewest { OnOk result (is_closed (pattern_of (stored_pattern exprs.now pattern) ∷ frame_patterns patterns.now) (expression exprs.now body) ≡ true → names.new.items ≡ names.old.items) }
@@ -206,6 +222,8 @@ fn note(
     patterns: &Patterns,
     names: &mut Vec<NameId>,
 ) -> Result<(), AllocError>
+    requires { HoldsName exprs.now name }
+    ensures held { HoldsEach exprs.now names.old.items → OnOk result (HoldsEach exprs.now names.new.items) }
     ensures kept { OnOk result (BindAsMany (named_each (names_by_id exprs.now names.old.items)) (named_each (names_by_id exprs.now names.new.items))) }
     ensures bound { OnOk result (is_some (place_of_name (name_at exprs.now name) (frame_patterns patterns.now ++ named_each (names_by_id exprs.now names.new.items))) ≡ true) }
     ensures fewest { OnOk result (is_some (place_of_name (name_at exprs.now name) (frame_patterns patterns.now)) ≡ true → names.new.items ≡ names.old.items) }

@@ -1,7 +1,8 @@
 //! The code of expressions.
 ghost use Rattle.std.specs.Prelude.{◌≡◌, true, ◌∷◌, IfOk, IfSome, is_some};
-ghost use Rattle.sf_expr.specs.Arena.{expression, stored_pattern, name_at};
+ghost use Rattle.sf_expr.specs.Arena.{expression, stored_pattern, name_at, Holds, HoldsName, HoldsPattern, HoldsParts};
 ghost use Rattle.sf_expr.specs.Evaluation.{literal_value, nonsense};
+ghost use Rattle.sf_expr.specs.declared.exprs.ExprNode.TheVariants as nodes;
 ghost use Rattle.sf_expr.specs.Patterns.{pattern_of};
 ghost use Rattle.sf_value.specs.Values.{number};
 ghost use Rattle.sf_code.specs.Codes as trees;
@@ -27,6 +28,7 @@ pub(crate) fn compile(
     id: ExprId,
     patterns: &Patterns,
 ) -> Result<Code, AllocError>
+    requires { Holds exprs.now id }
     ensures { IfOk result (λ code. code_of code ≡ closed_code (frame_patterns patterns.now) (expression exprs.now id)) }
 {
     match exprs.node(id) {
@@ -63,6 +65,7 @@ fn boxed(
     id: ExprId,
     patterns: &Patterns,
 ) -> Result<Box<Code>, AllocError>
+    requires { Holds exprs.now id }
     ensures { IfOk result (λ code. code_of code.value ≡ closed_code (frame_patterns patterns.now) (expression exprs.now id)) }
 {
     let code = compile(alloc, exprs, id, patterns)?;
@@ -78,6 +81,8 @@ fn both(
     second: ExprId,
     patterns: &Patterns,
 ) -> Result<(Box<Code>, Box<Code>), AllocError>
+    requires first { Holds exprs.now first }
+    requires second { Holds exprs.now second }
     ensures first { IfOk result (λ pair. code_of pair.0.value ≡ closed_code (frame_patterns patterns.now) (expression exprs.now first)) }
     ensures second { IfOk result (λ pair. code_of pair.1.value ≡ closed_code (frame_patterns patterns.now) (expression exprs.now second)) }
 {
@@ -95,6 +100,8 @@ fn within(
     body: ExprId,
     patterns: &Patterns,
 ) -> Result<Box<Code>, AllocError>
+    requires pattern { HoldsPattern exprs.now pattern }
+    requires body { Holds exprs.now body }
     ensures { IfOk result (λ code. code_of code.value ≡ closed_code (pattern_of (stored_pattern exprs.now pattern) ∷ frame_patterns patterns.now) (expression exprs.now body)) }
 {
     let frame = FramePattern::new(alloc, (&*exprs).placed(pattern))?;
@@ -112,6 +119,8 @@ fn operation(
     right: ExprId,
     patterns: &Patterns,
 ) -> Result<Code, AllocError>
+    requires left { Holds exprs.now left }
+    requires right { Holds exprs.now right }
     ensures { let ps = frame_patterns patterns.now in
         IfOk result (λ code. code_of code ≡ trees.operation (closed_code ps (expression exprs.now left)) operator (closed_code ps (expression exprs.now right))) }
 {
@@ -176,6 +185,9 @@ fn conditional(
     second: ExprId,
     patterns: &Patterns,
 ) -> Result<Code, AllocError>
+    requires condition { Holds exprs.now condition }
+    requires first { Holds exprs.now first }
+    requires second { Holds exprs.now second }
     ensures { let ps = frame_patterns patterns.now in
         IfOk result (λ code. code_of code ≡ trees.conditional (closed_code ps (expression exprs.now condition)) (closed_code ps (expression exprs.now first)) (closed_code ps (expression exprs.now second))) }
 {
@@ -192,6 +204,7 @@ fn mapped(
     node: Mapped,
     patterns: &Patterns,
 ) -> Result<Code, AllocError>
+    requires { HoldsParts exprs.now (nodes.Mapped node) }
     ensures { let ps = frame_patterns patterns.now in
         let p = pattern_of (stored_pattern exprs.now node.pattern) in
         IfOk result (λ code. code_of code ≡ trees.mapped (closed_code ps (expression exprs.now node.part)) node.mapping (closed_code (p ∷ ps) (expression exprs.now node.body))) }
@@ -209,6 +222,7 @@ fn folded(
     node: Folded,
     patterns: &Patterns,
 ) -> Result<Code, AllocError>
+    requires { HoldsParts exprs.now (nodes.Folded node) }
     ensures { let ps = frame_patterns patterns.now in
         let p = pattern_of (stored_pattern exprs.now node.pattern) in
         IfOk result (λ code. code_of code ≡ trees.folded (closed_code ps (expression exprs.now node.first)) node.folding (closed_code ps (expression exprs.now node.second)) (closed_code (p ∷ ps) (expression exprs.now node.body))) }
@@ -227,6 +241,8 @@ fn called(
     part: ExprId,
     patterns: &Patterns,
 ) -> Result<Code, AllocError>
+    requires function { HoldsName exprs.now function }
+    requires part { Holds exprs.now part }
     ensures { IfOk result (λ code. code_of code ≡ trees.called (name_at exprs.now function) (closed_code (frame_patterns patterns.now) (expression exprs.now part))) }
 {
     let part = boxed(alloc, exprs, part, patterns)?;

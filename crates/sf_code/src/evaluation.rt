@@ -1,7 +1,7 @@
 //! Expressions, evaluated where names have values.
 ghost use Rattle.std.specs.Prelude.{IfOk};
 ghost use Rattle.sf_value.specs.Values.{Kind, HasKind};
-ghost use Rattle.sf_expr.specs.Arena.{expression};
+ghost use Rattle.sf_expr.specs.Arena.{expression, Holds};
 ghost use Rattle.sf_expr.specs.Expressions.{Expression};
 ghost use Rattle.sf_expr.specs.Evaluation;
 ghost use Rattle.sf_expr.specs.Soundness.{ScopeHas};
@@ -31,6 +31,7 @@ pub fn eval<N: Names, F: Holds>(
     names: &N,
     functions: &F,
 ) -> Result<Value, EvalFault>
+    requires { Holds (N.expressions names.now) id }
     ensures worth { Evaluates result (Evaluation.eval (expression (N.expressions names.now) id) (scope_with (N.values names.now) (F.answers functions.now))) }
     ensures typed { (R : Typing.Names) (t : Kind) → HasType R (expression (N.expressions names.now) id) t → ScopeHas (scope_with (N.values names.now) (F.answers functions.now)) R →
         IfOk result (λ v. HasKind v t) }

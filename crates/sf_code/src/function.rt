@@ -1,6 +1,6 @@
 //! The code of expressions and functions.
 ghost use Rattle.std.specs.Prelude.{◌≡◌, true, [], ◌∷◌, IfOk, option_to_list};
-ghost use Rattle.sf_expr.specs.Arena.{expression, function_at};
+ghost use Rattle.sf_expr.specs.Arena.{expression, function_at, Holds, HoldsFunction};
 ghost use Rattle.sf_expr.specs.Expressions.{Expression, Function};
 ghost use Rattle.sf_expr.specs.Patterns.{pattern_of};
 ghost use Rattle.sf_expr.specs.Evaluation.{Scope, scope_functions, eval};
@@ -8,7 +8,7 @@ ghost use Rattle.sf_expr.specs.Evaluation;
 ghost use Rattle.sf_operator.specs.Answers.{Evaluates, EvaluatesAs};
 ghost use Rattle.sf_code.specs.CodeView.{code_of};
 ghost use Rattle.sf_code.specs.Compiling.{closed_code, is_closed, is_closed_function};
-ghost use Rattle.sf_code.specs.Around.{patterns_around};
+ghost use Rattle.sf_code.specs.Around.{patterns_around, HoldsFrame};
 ghost use Rattle.sf_code.specs.Running;
 ghost use Rattle.sf_code.specs.Worth.{IsCodeOf, IsCodeOfFunction, IsCodeOfIn, AnswersAsFunction};
 
@@ -30,6 +30,7 @@ use std::mem;
 
 /// The code of an expression: without a frame for names around it where it has no names.
 pub fn expression_code(alloc: Global, exprs: &Exprs, id: ExprId) -> Result<OpenCode, AllocError>
+    requires { Holds exprs.now id }
     ensures code { IfOk result (λ code. IsCodeOf exprs.now (expression exprs.now id) code) }
     ensures bare { is_closed [] (expression exprs.now id) ≡ true → IfOk result (λ code. code.around ≡ None) }
 {
@@ -40,6 +41,7 @@ pub fn expression_code(alloc: Global, exprs: &Exprs, id: ExprId) -> Result<OpenC
 
 /// The code of a function: without a frame for names around it where its own pattern binds each of its names.
 pub fn function_code(alloc: Global, exprs: &Exprs, id: FunctionId) -> Result<OpenCode, AllocError>
+    requires { HoldsFunction exprs.now id }
     ensures code { IfOk result (λ code. IsCodeOfFunction exprs.now (function_at exprs.now id) code) }
     ensures bare { is_closed_function (function_at exprs.now id) ≡ true → IfOk result (λ code. code.around ≡ None) }
 {
@@ -58,6 +60,8 @@ fn code_over(
     id: ExprId,
     around: &Option<Box<Around>>,
 ) -> Result<Code, AllocError>
+    requires there { Holds exprs.now id }
+    requires around { HoldsFrame exprs.now around.now }
     ensures { IfOk result (λ code. code_of code ≡ closed_code (patterns_around exprs.now around.now) (expression exprs.now id)) }
 {
     let pattern = pattern_of_around(alloc, exprs, around)?;
@@ -73,6 +77,8 @@ fn code_within(
     body: ExprId,
     around: &Option<Box<Around>>,
 ) -> Result<Code, AllocError>
+    requires there { Holds exprs.now body }
+    requires around { HoldsFrame exprs.now around.now }
     ensures { IfOk result (λ code. code_of code ≡ closed_code (pattern_of frame.now.pattern.now ∷ patterns_around exprs.now around.now) (expression exprs.now body)) }
 {
     let pattern = pattern_of_around(alloc, exprs, around)?;

@@ -35,7 +35,12 @@ impl<'a> Names for NamedValues<'a> {
     }
 
     fn value<'r>(&'r self, name: NameId) -> Option<&'r Value> {
-        first_named(self.values, self.expressions.name_of(name))
+        let text = if self.expressions.holds_name(name) {
+            self.expressions.name_of(name)
+        } else {
+            ""
+        };
+        first_named(self.values, text)
     }
 }
 

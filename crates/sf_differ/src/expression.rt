@@ -1,7 +1,7 @@
 //! What differs in an expression that is refused.
 ghost use Rattle.std.specs.Prelude.{◌≡◌, IfOk, IfErr};
 ghost use Rattle.sf_expr.specs.declared.exprs.ExprNode.TheVariants.{Conditional};
-ghost use Rattle.sf_expr.specs.Arena.{expression, node_at, id_number, PartsBelow};
+ghost use Rattle.sf_expr.specs.Arena.{expression, node_at, id_number, PartsBelow, Holds, HoldsFunction, HoldsParts};
 ghost use Rattle.sf_expr.specs.Arena.{function_at};
 ghost use Rattle.sf_expr.specs.Expressions;
 ghost use Rattle.sf_expr.specs.Patterns.{pattern_of};
@@ -34,6 +34,7 @@ use std::alloc::Global;
 /// in its place. Silent where no types are compared, and where the expression has a type.
 #[cycle(explain)]
 fn explain(context: &ExprContext, id: ExprId) -> Result<(), Blame>
+    requires { Holds (exprs_in context.now) id }
     ensures { IfErr result (λ b. Explains (ExpressionDiffers (exprs_in context.now) (types_around context.now) id) b) }
 {
     match context.exprs.node(id) {
@@ -61,6 +62,7 @@ fn explain(context: &ExprContext, id: ExprId) -> Result<(), Blame>
 /// The type of an expression, or what differs in it.
 #[cycle(explain)]
 fn part_type(context: &ExprContext, id: ExprId) -> Result<Ty, Blame>
+    requires { Holds (exprs_in context.now) id }
     ensures ok { IfOk result (λ t. HasType (types_around context.now) (expression (exprs_in context.now) id) t) }
     ensures err { IfErr result (λ b. Explains (ExpressionDiffers (exprs_in context.now) (types_around context.now) id) b) }
 {
@@ -90,6 +92,8 @@ fn explain_pair(
 ) -> Result<(), Blame>
     requires there { node_at (exprs_in context.now) id ≡ ExprNode.Pair first second }
     requires below { PartsBelow (ExprNode.Pair first second) (id_number id) }
+    requires held { Holds (exprs_in context.now) id }
+    requires parts_held { HoldsParts (exprs_in context.now) (ExprNode.Pair first second) }
     ensures { IfErr result (λ b. Explains (ExpressionDiffers (exprs_in context.now) (types_around context.now) id) b) }
 {
     part_type(context, first)?;
@@ -107,6 +111,8 @@ fn explain_applied(
 ) -> Result<(), Blame>
     requires there { node_at (exprs_in context.now) id ≡ ExprNode.Applied operator part }
     requires below { PartsBelow (ExprNode.Applied operator part) (id_number id) }
+    requires held { Holds (exprs_in context.now) id }
+    requires parts_held { HoldsParts (exprs_in context.now) (ExprNode.Applied operator part) }
     ensures { IfErr result (λ b. Explains (ExpressionDiffers (exprs_in context.now) (types_around context.now) id) b) }
 {
     let given = part_type(context, part)?;
@@ -129,6 +135,8 @@ fn explain_operation(
 ) -> Result<(), Blame>
     requires there { node_at (exprs_in context.now) id ≡ ExprNode.Operation left operator right }
     requires below { PartsBelow (ExprNode.Operation left operator right) (id_number id) }
+    requires held { Holds (exprs_in context.now) id }
+    requires parts_held { HoldsParts (exprs_in context.now) (ExprNode.Operation left operator right) }
     ensures { IfErr result (λ b. Explains (ExpressionDiffers (exprs_in context.now) (types_around context.now) id) b) }
 {
     let spot = context.exprs.spot(id);
@@ -150,6 +158,8 @@ fn explain_conditional(
 ) -> Result<(), Blame>
     requires there { node_at (exprs_in context.now) id ≡ Conditional condition first second }
     requires below { PartsBelow (Conditional condition first second) (id_number id) }
+    requires held { Holds (exprs_in context.now) id }
+    requires parts_held { HoldsParts (exprs_in context.now) (Conditional condition first second) }
     ensures { IfErr result (λ b. Explains (ExpressionDiffers (exprs_in context.now) (types_around context.now) id) b) }
 {
     let spot = context.exprs.spot(id);
@@ -166,6 +176,8 @@ fn explain_conditional(
 fn explain_mapped(context: &ExprContext, id: ExprId, node: Mapped) -> Result<(), Blame>
     requires there { node_at (exprs_in context.now) id ≡ ExprNode.Mapped node }
     requires below { PartsBelow (ExprNode.Mapped node) (id_number id) }
+    requires held { Holds (exprs_in context.now) id }
+    requires parts_held { HoldsParts (exprs_in context.now) (ExprNode.Mapped node) }
     ensures { IfErr result (λ b. Explains (ExpressionDiffers (exprs_in context.now) (types_around context.now) id) b) }
 {
     let spot = context.exprs.spot(id);
@@ -182,6 +194,8 @@ fn explain_mapped(context: &ExprContext, id: ExprId, node: Mapped) -> Result<(),
 fn explain_folded(context: &ExprContext, id: ExprId, node: Folded) -> Result<(), Blame>
     requires there { node_at (exprs_in context.now) id ≡ ExprNode.Folded node }
     requires below { PartsBelow (ExprNode.Folded node) (id_number id) }
+    requires held { Holds (exprs_in context.now) id }
+    requires parts_held { HoldsParts (exprs_in context.now) (ExprNode.Folded node) }
     ensures { IfErr result (λ b. Explains (ExpressionDiffers (exprs_in context.now) (types_around context.now) id) b) }
 {
     let spot = context.exprs.spot(id);
@@ -208,6 +222,8 @@ fn explain_called(
 ) -> Result<(), Blame>
     requires there { node_at (exprs_in context.now) id ≡ ExprNode.Called function place part }
     requires below { PartsBelow (ExprNode.Called function place part) (id_number id) }
+    requires held { Holds (exprs_in context.now) id }
+    requires parts_held { HoldsParts (exprs_in context.now) (ExprNode.Called function place part) }
     ensures { IfErr result (λ b. Explains (ExpressionDiffers (exprs_in context.now) (types_around context.now) id) b) }
 {
     let given = part_type(context, part)?;
@@ -227,6 +243,7 @@ fn part_behind(
     from: &Ty,
     at: Spot,
 ) -> Result<Ty, Blame>
+    requires { Holds (exprs_in context.now) body }
     ensures ok { IfOk result (λ t. FunctionTakes (types_around context.now) (Expressions.function (pattern_of pattern.now) (expression (exprs_in context.now) body)) from.now t) }
     ensures err { IfErr result (λ b. Explains (BoundDiffers (exprs_in context.now) (types_around context.now) pattern.now body from.now at) b) }
 {
@@ -239,6 +256,7 @@ fn part_behind(
 /// The type of an expression where a frame puts names behind those around it, or what differs.
 #[cycle(explain)]
 fn part_within(context: &ExprContext, body: ExprId, frame: &Frame) -> Result<Ty, Blame>
+    requires { Holds (exprs_in context.now) body }
     ensures ok { IfOk result (λ t. HasType (types_within frame.now context.now) (expression (exprs_in context.now) body) t) }
     ensures err { IfErr result (λ b. Explains (ExpressionDiffers (exprs_in context.now) (types_within frame.now context.now) body) b) }
 {
@@ -260,6 +278,7 @@ pub fn typed(
     names: &TypeScope,
     functions: &Signatures,
 ) -> Result<Ty, Blame>
+    requires { Holds exprs.now id }
     ensures ok { IfOk result (λ t. HasType (names_and_functions (signatures_in functions.now) (scope_names names.now)) (expression exprs.now id) t) }
     ensures err { IfErr result (λ b. Explains (ExpressionDiffers exprs.now (names_and_functions (signatures_in functions.now) (scope_names names.now)) id) b) }
 {
@@ -279,6 +298,7 @@ pub fn explain_function(
     from: &Ty,
     at: Spot,
 ) -> Result<Ty, Blame>
+    requires { HoldsFunction (exprs_in context.now) function }
     ensures ok { IfOk result (λ t. FunctionTakes (types_around context.now) (function_at (exprs_in context.now) function) from.now t) }
     ensures err { IfErr result (λ b. Explains (FunctionDiffers (exprs_in context.now) (types_around context.now) function from.now at) b) }
 {

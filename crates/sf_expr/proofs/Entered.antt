@@ -1,5 +1,6 @@
 -- An arena of expressions, to which more is added.
-use Rattle.std.proofs.Common.{◌≡◌, ℕ, ◌<◌, ◌≤◌, List, [], ◌∷◌, ◌++◌, length, Bool, true, false, cond, refl, sym, ◌∙◌, ap, subst, arith, ◌↔◌, ◌⊎◌, inl, inr, ⊎_elim, IsTrue, pos, Result, Ok, Err, IfOk, OnErr}
+use Rattle.std.specs.Prelude.{slice_index_or}
+use Rattle.std.proofs.Common.{◌≡◌, ℕ, ◌<◌, ◌≤◌, List, [], ◌∷◌, ◌++◌, length, Bool, true, false, cond, refl, sym, ◌∙◌, ap, subst, arith, ◌↔◌, ◌⊎◌, inl, inr, ⊎_elim, IsTrue, Result, Ok, Err, IfOk, OnErr}
 use mathlib.Core.Path.{ap₂}
 use Rattle.std.proofs.lemmas.Bool.{cases_lt}
 use Rattle.std.proofs.lemmas.List.Elements.{All-nil, All-push, All-weaker, All-get_or}
@@ -408,11 +409,6 @@ name_shown x id n y e f = let b : Builds x (nodes.Name n) (variable y) = subst (
     shown : {e : Expression} → Builds x (nodes.Name n) e → e ≡ variable y → name_at x n ≡ y
     shown builds_name e = cc
 
--- past the end stands the number 0
-pub past_builds : (x : Exprs) (id : ExprId) → length (entries_of x.arena) ≤ id.0 → Builds x (nodes.Int (pos 0)) (expression x id)
-unfolding entry_of
-past_builds x id h = subst (λ (n : Entry ExprNode). Builds x n.node (expression x id)) (get_or_past (entries_of x.arena) id.0 zero_entry h) (builds x id)
-
 -- the parts of a node stand before it
 pub parts_below : (x : Exprs) (id : ExprId) → PartsBelow (entry_of x id).node (id_number id)
 unfolding entry_of
@@ -475,9 +471,9 @@ unfolding entry_of
 narrow_node x id = x.ordered.narrow id.0
 
 -- the body of a function that is held is held
-pub body_held : (x : Exprs) (f : FunctionId) → HoldsFunction x f → Holds x (body_id x f)
-unfolding HoldsFunction Holds body_id
-body_held x f h = (All-get_or (IsClosed (length (entries_of x.arena))) x.functions.items f.0 no_function h x.closed).0
+pub body_at : (x : Exprs) (f : FunctionId) (g : StoredFunction) → HoldsFunction x f → g ≡ slice_index_or x.functions.items f.0 g → Holds x g.body
+unfolding HoldsFunction Holds
+body_at x f g h e = subst (λ (k : StoredFunction). k.body.0 < length (entries_of x.arena)) (sym e) (All-get_or (IsClosed (length (entries_of x.arena))) x.functions.items f.0 g h x.closed).0
 
 -- an arena holds what stands below its count
 pub holds_below : (x : Exprs) (id : ExprId) → Holds x id → id_number id < arena_count x

@@ -1,6 +1,6 @@
 -- Names as numbers.
 use Rattle.std.specs.Borrow.{Bor}
-use Rattle.std.specs.Prelude.{◌≡◌, ℕ, ◌<◌, Bool, ⊤, nat_eq, List, length, slice_index_or, bytes_eq}
+use Rattle.std.specs.Prelude.{◌≡◌, ℕ, ◌<◌, ⊤, nat_eq, List, length, slice_index_or, bytes_eq}
 use Rattle.std.specs.List.{position_or_len}
 use Rattle.sf_value.specs.Values.{Name}
 use Rattle.sf_expr.specs.declared.exprs.Exprs.{Exprs}

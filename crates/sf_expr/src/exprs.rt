@@ -1,10 +1,10 @@
 //! An arena of expressions.
-ghost use Rattle.std.specs.Prelude.{◌≡◌, ◌<◌, ◌≤◌, ◌↔◌, IfOk, OnErr, IsTrue, length, string_bytes};
+ghost use Rattle.std.specs.Prelude.{◌≡◌, ◌<◌, ◌≤◌, ◌↔◌, true, false, [], IfOk, OnErr, IsTrue, length, string_bytes};
 ghost use Rattle.sf_expr.specs.Expressions as expression_trees;
 ghost use Rattle.sf_expr.specs.Expressions.{pattern_depth};
-ghost use Rattle.sf_expr.specs.Patterns.{placed_unnamed, pattern_of};
+ghost use Rattle.sf_expr.specs.Patterns.{pattern_of};
 ghost use Rattle.sf_arena.specs.Arenas.{entries_of};
-ghost use Rattle.sf_expr.specs.Entries.{IsArena, AreFunctions, AreValued, AreShallowPatterns, none_of_unit, has_narrow};
+ghost use Rattle.sf_expr.specs.Entries.{IsArena, AreFunctions, AreValued, AreShallowPatterns, has_narrow};
 
 mod numbers;
 
@@ -17,7 +17,6 @@ pub use numbers::{NumberedPattern, Numbers};
 use sf_arena::{Arena, ArenaRefusal};
 use sf_operator::{Folding, Mapping, Operator, Unary};
 use sf_refusal::Spot;
-use sf_value::Ty;
 use std::alloc::{AllocError, Global};
 
 /// An expression in its arena.
@@ -105,14 +104,10 @@ pub struct Exprs {
     constants: Vec<Constant>,
     patterns: Vec<Pat>,
     functions: Vec<StoredFunction>,
-    unnamed: Pat,
-    absent: Constant,
     ghost ordered: { IsArena (record { names = names.items; literals = constants.items; patterns = patterns.items }) (entries_of arena) },
     ghost valued: { AreValued constants.items },
     ghost shallow: { AreShallowPatterns patterns.items },
     ghost closed: { AreFunctions (length (entries_of arena)) functions.items },
-    ghost nothing: { unnamed ≡ placed_unnamed },
-    ghost none: { absent ≡ none_of_unit },
 }
 
 impl Drop for Exprs {
@@ -123,21 +118,17 @@ impl Drop for Exprs {
             constants,
             patterns,
             functions,
-            unnamed,
-            absent,
         } = self;
         drop(arena);
         drop(names);
         drop(constants);
         drop(patterns);
         drop(functions);
-        drop(unnamed);
-        drop(absent);
     }
 }
 
 impl Exprs {
-    ghost use Rattle.sf_expr.specs.Arena.{arena_count, function_count, name_count, constant_count, pattern_count, Holds, HoldsFunction, expression, name_at, literal_at, stored_pattern, spot_at};
+    ghost use Rattle.sf_expr.specs.Arena.{arena_count, function_count, name_count, constant_count, pattern_count, Holds, HoldsFunction, HoldsName, HoldsConstant, HoldsPattern, expression, name_at, literal_at, stored_pattern, spot_at};
     ghost use Rattle.sf_expr.specs.Arena.{argument_pattern, body_id, function_at, id_number, entry_of, node_at, node_expression};
     ghost use Rattle.sf_expr.specs.Arena.{Builds, PartsBelow, HoldsParts, Adds, AddsName, AddsConstant, AddsPattern, AddsFunction, IsUnchanged, IsCopy};
 
@@ -156,8 +147,6 @@ impl Exprs {
             constants: Vec::new(alloc),
             patterns: Vec::new(alloc),
             functions: Vec::new(alloc),
-            unnamed: Pat::unnamed(),
-            absent: Constant::no_event(Ty::unit()),
         }
     }
 
@@ -170,29 +159,32 @@ impl Exprs {
     }
 
     /// The id of the expression of a number.
-    #[tactic(auto, using(crate::proofs::Entered::few_expressions))]
+    #[tactic(auto, using(crate::proofs::Entered::few_expressions, crate::proofs::Entered::below_holds))]
     pub fn at(&self, number: usize) -> ExprId
         requires { number < arena_count self.now }
-        ensures { id_number result ≡ number }
+        ensures number { id_number result ≡ number }
+        ensures held { Holds self.now result }
     {
         ExprId(number as u32)
     }
 
     /// How many expressions stand one inside another in the one at an id.
-    #[tactic(auto, using(crate::proofs::Entered::expression_shallow), unfolding(crate::specs::Arena::expression))]
+    #[tactic(auto, using(crate::proofs::Entered::expression_shallow), unfolding(crate::specs::Arena::expression, crate::specs::Arena::Holds))]
     pub fn depth(&self, id: ExprId) -> u32
+        requires { Holds self.now id }
         ensures value { result ≡ expression_trees.depth (expression self.now id) }
         ensures bound { result ≤ 64 }
     {
         match self.arena.get(id.0 as usize) {
             Some(entry) => entry.depth,
-            None => 1,
+            None => unreachable!(),
         }
     }
 
     /// How many patterns or expressions stand one inside another in the function at an id.
     #[tactic(auto, using(crate::proofs::Entered::function_shallow, crate::proofs::Entered::expression_shallow, crate::proofs::Entered::pattern_shallow))]
     pub fn function_depth(&self, id: FunctionId) -> u32
+        requires { HoldsFunction self.now id }
         ensures value { result ≡ expression_trees.function_depth (function_at self.now id) }
         ensures bound { result ≤ 64 }
     {
@@ -203,6 +195,7 @@ impl Exprs {
     /// How many patterns stand one inside another in the pattern at an id of patterns.
     #[tactic(auto, using(crate::proofs::Entered::placed_shallow))]
     pub fn pattern_depth(&self, pattern: PatternId) -> u32
+        requires { HoldsPattern self.now pattern }
         ensures value { result ≡ pattern_depth (pattern_of (stored_pattern self.now pattern)) }
         ensures bound { result ≤ 64 }
     {
@@ -212,6 +205,8 @@ impl Exprs {
     // How many patterns or expressions stand one inside another in a pattern and the expression that it binds names for.
     #[tactic(auto, using(crate::proofs::Entered::placed_shallow, crate::proofs::Entered::expression_shallow))]
     fn depth_under(&self, pattern: PatternId, body: ExprId) -> u32
+        requires pattern { HoldsPattern self.now pattern }
+        requires body { Holds self.now body }
         ensures value { result ≡ expression_trees.function_depth (expression_trees.function (pattern_of (stored_pattern self.now pattern)) (expression self.now body)) }
         ensures bound { result ≤ 64 }
     {
@@ -220,6 +215,7 @@ impl Exprs {
 
     // How many expressions would stand one inside another in that of a node.
     fn depth_with(&self, node: ExprNode) -> u32
+        requires { HoldsParts self.now node }
         ensures value { result ≡ expression_trees.depth (node_expression self.now node) }
         ensures bound { result ≤ 65 }
         ensures narrow { IsTrue (has_narrow node) }
@@ -321,9 +317,10 @@ impl Exprs {
         Ok(FunctionId(count))
     }
 
-    /// The node at an id, with the ids of its parts; the number 0 at an id that the arena does not hold.
-    #[tactic(auto, using(crate::proofs::Entered::builds, crate::proofs::Entered::parts_below, crate::proofs::Entered::parts_held, crate::proofs::Entered::narrow_node), unfolding(crate::specs::Arena::entry_of, crate::specs::Arena::node_at))]
+    /// The node at an id, with the ids of its parts.
+    #[tactic(auto, using(crate::proofs::Entered::builds, crate::proofs::Entered::parts_below, crate::proofs::Entered::parts_held, crate::proofs::Entered::narrow_node), unfolding(crate::specs::Arena::entry_of, crate::specs::Arena::node_at, crate::specs::Arena::Holds))]
     pub fn node(&self, id: ExprId) -> ExprNode
+        requires { Holds self.now id }
         ensures value { result ≡ node_at self.now id }
         ensures builds { Builds self.now result (expression self.now id) }
         ensures below { PartsBelow result (id_number id) }
@@ -332,75 +329,75 @@ impl Exprs {
     {
         match self.arena.get(id.0 as usize) {
             Some(entry) => entry.node,
-            None => ExprNode::Int(0),
+            None => unreachable!(),
         }
     }
 
-    /// The name at an id of names; empty at an id that the arena does not hold.
-    #[tactic(auto, unfolding(crate::specs::Arena::name_at))]
+    /// The name at an id of names.
+    #[tactic(auto, unfolding(crate::specs::Arena::name_at, crate::specs::Arena::HoldsName))]
     pub fn name_of(&self, name: NameId) -> &str
+        requires { HoldsName self.now name }
         ensures { result.now ≡ name_at self.now name }
     {
-        match self.names.get(name.0) {
-            Some(name) => name.text(),
-            None => "",
-        }
+        self.names[name.0].text()
     }
 
-    /// The constant at an id of constants; no event of the type with one value at an id that the arena does not hold.
-    #[tactic(auto, unfolding(crate::specs::Arena::literal_at))]
+    /// Whether a name stands at an id.
+    #[tactic(auto, unfolding(crate::specs::Arena::name_at, crate::specs::Arena::HoldsName))]
+    pub fn holds_name(&self, name: NameId) -> bool
+        ensures held { result ≡ true → HoldsName self.now name }
+        ensures absent { result ≡ false → name_at self.now name ≡ [] }
+    {
+        name.0 < self.names.len()
+    }
+
+    /// The constant at an id of constants.
+    #[tactic(auto, unfolding(crate::specs::Arena::literal_at, crate::specs::Arena::HoldsConstant))]
     pub fn constant_at(&self, constant: ConstantId) -> &Constant
+        requires { HoldsConstant self.now constant }
         ensures { result.now ≡ literal_at self.now constant }
     {
-        match self.constants.get(constant.0) {
-            Some(constant) => constant,
-            None => &self.absent,
-        }
+        &self.constants[constant.0]
     }
 
-    /// The pattern at an id of patterns; the one that binds nothing at an id that the arena does not hold.
-    #[tactic(auto, unfolding(crate::specs::Arena::stored_pattern))]
+    /// The pattern at an id of patterns.
+    #[tactic(auto, unfolding(crate::specs::Arena::stored_pattern, crate::specs::Arena::HoldsPattern))]
     pub fn placed(&self, pattern: PatternId) -> &Pat
+        requires { HoldsPattern self.now pattern }
         ensures { result.now ≡ stored_pattern self.now pattern }
     {
-        match self.patterns.get(pattern.0) {
-            Some(pattern) => pattern,
-            None => &self.unnamed,
-        }
+        &self.patterns[pattern.0]
     }
 
-    /// Where the expression at an id stands in the text; `Spot::NONE` at an id that the arena does not hold.
-    #[tactic(auto, unfolding(crate::specs::Arena::spot_at))]
+    /// Where the expression at an id stands in the text.
+    #[tactic(auto, unfolding(crate::specs::Arena::spot_at, crate::specs::Arena::Holds))]
     pub fn spot(&self, id: ExprId) -> Spot
+        requires { Holds self.now id }
         ensures { result ≡ spot_at self.now id }
     {
         match self.arena.get(id.0 as usize) {
             Some(entry) => entry.spot,
-            None => Spot::NONE,
+            None => unreachable!(),
         }
     }
 
-    /// The pattern of the function at an id; the one that binds nothing at an id that the arena does not hold.
-    #[tactic(auto, unfolding(crate::specs::Arena::argument_pattern))]
+    /// The pattern of the function at an id.
+    #[tactic(auto, unfolding(crate::specs::Arena::argument_pattern, crate::specs::Arena::HoldsFunction))]
     pub fn pattern(&self, function: FunctionId) -> &Pat
+        requires { HoldsFunction self.now function }
         ensures { result.now ≡ argument_pattern self.now function }
     {
-        match self.functions.get(function.0) {
-            Some(function) => &function.pattern,
-            None => &self.unnamed,
-        }
+        &self.functions[function.0].pattern
     }
 
-    /// The body of the function at an id; an id that the arena does not hold at an id that it does not hold.
-    #[tactic(auto, using(crate::proofs::Entered::body_held), unfolding(crate::specs::Arena::body_id))]
+    /// The body of the function at an id.
+    #[tactic(auto, using(crate::proofs::Entered::body_at), unfolding(crate::specs::Arena::body_id, crate::specs::Arena::HoldsFunction))]
     pub fn body(&self, function: FunctionId) -> ExprId
+        requires { HoldsFunction self.now function }
         ensures value { result ≡ body_id self.now function }
-        ensures held { HoldsFunction self.now function → Holds self.now result }
+        ensures held { Holds self.now result }
     {
-        match self.functions.get(function.0) {
-            Some(function) => function.body,
-            None => ExprId(u32::MAX),
-        }
+        self.functions[function.0].body
     }
 
     /// A copy, with the same expressions, names, constants, patterns and functions at the same ids.
@@ -418,8 +415,6 @@ impl Exprs {
             constants,
             patterns,
             functions,
-            unnamed: Pat::unnamed(),
-            absent: Constant::no_event(Ty::unit()),
         })
     }
 }

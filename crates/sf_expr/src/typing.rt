@@ -1,7 +1,7 @@
 //! The types of expressions.
 ghost use Rattle.std.specs.Prelude.{OnOk, Some};
 ghost use Rattle.sf_expr.specs.Typing.{Fits, named_in, names_and_functions, literal_kind};
-ghost use Rattle.sf_expr.specs.Arena.{expression, function_at, spot_at, id_number, PartsBelow};
+ghost use Rattle.sf_expr.specs.Arena.{expression, function_at, spot_at, id_number, PartsBelow, Holds, HoldsFunction, HoldsParts};
 ghost use Rattle.sf_expr.specs.declared.exprs.ExprNode.TheVariants.{Conditional};
 ghost use Rattle.sf_expr.specs.Scopes.{scope_names};
 ghost use Rattle.sf_expr.specs.Contexts.{exprs_in, types_around, types_within};
@@ -86,6 +86,7 @@ pub struct ExprContext<'a, 'n> {
 /// The type of an expression, or the first refusal, parts first.
 #[cycle(judge)]
 fn judge(context: &ExprContext, id: ExprId) -> Result<Ty, Refusal>
+    requires { Holds (exprs_in context.now) id }
     ensures { GivesFound result (judged (exprs_in context.now) id (types_around context.now)) }
 {
     let node = context.exprs.node(id);
@@ -96,7 +97,9 @@ fn judge(context: &ExprContext, id: ExprId) -> Result<Ty, Refusal>
 #[cycle(judge)]
 #[tactic(auto, using(crate::proofs::Judged::stops_then, crate::proofs::Judged::kind_answers, crate::proofs::Judged::pair_answers))]
 fn judge_form(context: &ExprContext, id: ExprId, node: ExprNode) -> Result<Ty, Refusal>
-    requires { PartsBelow node (id_number id) }
+    requires below { PartsBelow node (id_number id) }
+    requires there { Holds (exprs_in context.now) id }
+    requires held { HoldsParts (exprs_in context.now) node }
     ensures { GivesFound result (form_judged (exprs_in context.now) (judged (exprs_in context.now)) (spot_at (exprs_in context.now) id) node (types_around context.now)) }
 {
     match node {
@@ -166,7 +169,9 @@ fn judge_conditional(
     first: ExprId,
     second: ExprId,
 ) -> Result<Ty, Refusal>
-    requires { PartsBelow (Conditional condition first second) (id_number id) }
+    requires below { PartsBelow (Conditional condition first second) (id_number id) }
+    requires there { Holds (exprs_in context.now) id }
+    requires held { HoldsParts (exprs_in context.now) (Conditional condition first second) }
     ensures { GivesFound result (form_judged (exprs_in context.now) (judged (exprs_in context.now)) (spot_at (exprs_in context.now) id) (Conditional condition first second) (types_around context.now)) }
 {
     let condition = judge(context, condition)?;
@@ -185,7 +190,9 @@ fn judge_conditional(
 #[cycle(judge)]
 #[tactic(auto, using(crate::proofs::Judged::stops_then, crate::proofs::Judged::kind_answers))]
 fn judge_mapped(context: &ExprContext, id: ExprId, node: Mapped) -> Result<Ty, Refusal>
-    requires { PartsBelow (ExprNode.Mapped node) (id_number id) }
+    requires below { PartsBelow (ExprNode.Mapped node) (id_number id) }
+    requires there { Holds (exprs_in context.now) id }
+    requires held { HoldsParts (exprs_in context.now) (ExprNode.Mapped node) }
     ensures { GivesFound result (form_judged (exprs_in context.now) (judged (exprs_in context.now)) (spot_at (exprs_in context.now) id) (ExprNode.Mapped node) (types_around context.now)) }
 {
     let part = judge(context, node.part)?;
@@ -200,7 +207,9 @@ fn judge_mapped(context: &ExprContext, id: ExprId, node: Mapped) -> Result<Ty, R
 #[cycle(judge)]
 #[tactic(auto, using(crate::proofs::Judged::stops_then, crate::proofs::Judged::kind_answers))]
 fn judge_folded(context: &ExprContext, id: ExprId, node: Folded) -> Result<Ty, Refusal>
-    requires { PartsBelow (ExprNode.Folded node) (id_number id) }
+    requires below { PartsBelow (ExprNode.Folded node) (id_number id) }
+    requires there { Holds (exprs_in context.now) id }
+    requires held { HoldsParts (exprs_in context.now) (ExprNode.Folded node) }
     ensures { GivesFound result (form_judged (exprs_in context.now) (judged (exprs_in context.now)) (spot_at (exprs_in context.now) id) (ExprNode.Folded node) (types_around context.now)) }
 {
     let first = judge(context, node.first)?;
@@ -221,6 +230,7 @@ fn judge_part(
     from: &Ty,
     at: Spot,
 ) -> Result<Ty, Refusal>
+    requires { Holds (exprs_in context.now) body }
     ensures judged { GivesFound result (bound_judged at pattern.now from.now (judged (exprs_in context.now) body) (types_around context.now)) }
     ensures fits { OnOk result (Fits from.now) }
 {
@@ -231,6 +241,7 @@ fn judge_part(
 /// The type of an expression where a frame puts names behind those around it, or the first refusal.
 #[cycle(judge)]
 fn judge_within(context: &ExprContext, body: ExprId, frame: &Frame) -> Result<Ty, Refusal>
+    requires { Holds (exprs_in context.now) body }
     ensures { GivesFound result (judged (exprs_in context.now) body (types_within frame.now context.now)) }
 {
     let names = (&*context.names).within(context.alloc, &*frame)?;
@@ -256,6 +267,7 @@ pub fn type_of(
     names: &TypeScope,
     functions: &Signatures,
 ) -> Result<Ty, Refusal>
+    requires { Holds exprs.now id }
     ensures typed { Types (names_and_functions (signatures_in functions.now) (scope_names names.now)) (expression exprs.now id) result }
     ensures first { Judges exprs.now (names_and_functions (signatures_in functions.now) (scope_names names.now)) id result }
     ensures judged { GivesFound result (judged exprs.now id (names_and_functions (signatures_in functions.now) (scope_names names.now))) }
@@ -280,6 +292,7 @@ pub fn function_type(
     from: &Ty,
     at: Spot,
 ) -> Result<Ty, Refusal>
+    requires { HoldsFunction (exprs_in context.now) function }
     ensures typed { TypesFunction (types_around context.now) (function_at (exprs_in context.now) function) from.now result }
     ensures first { JudgesFunction (exprs_in context.now) (types_around context.now) function from.now at result }
     ensures judged { GivesFound result (function_judged (exprs_in context.now) function at from.now (types_around context.now)) }

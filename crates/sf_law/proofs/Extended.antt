@@ -16,6 +16,7 @@ use Rattle.sf_law.specs.declared.node.PlanNode.TheVariants as nodes
 use Rattle.sf_law.specs.declared.plan.Plan.{Plan}
 use Rattle.sf_law.specs.declared.node.TemplateId.{TemplateId}
 use Rattle.sf_law.specs.Headers.{PlanHeader, place_named, no_header}
+use Rattle.sf_law.specs.Held.{HoldsBeside}
 use Rattle.sf_law.specs.Entries.{IsCoded, plan_over, parts_end, is_whole, calls_first, identity_node, node_among, plan_terms, plan_term}
 use Rattle.sf_law.specs.Arena.{node_count, plan_asks, plan_node_at, plan_tree, BuildsPlan, plan_expressions, plan_headers, plan_template, header_at, IsCalled, builds_primitive, builds_started, builds_probe, builds_call, builds_joined, builds_sided, builds_headed, builds_transformed, builds_switching, builds_continuing, builds_gathered, builds_releasing, builds_editing, builds_pipeline, ExtendsPlan, AddsNode}
 use Rattle.sf_law.specs.Asking.{is_asked}
@@ -67,6 +68,11 @@ builds p a = subst (λ t. BuildsPlan p (node_among p.nodes.items a.0) t) (sym (t
 pub parts_below : (p : Plan) (a : PlanId) → parts_end (plan_node_at p a) ≤ a.0
 unfolding plan_node_at
 parts_below p a = p.arena.in_order a.0
+
+-- what a node names beside its parts is held
+pub beside_held : (p : Plan) (a : PlanId) → HoldsBeside (plan_expressions p) (plan_node_at p a)
+unfolding plan_node_at
+beside_held p a = p.arena.beside a.0
 
 -- the parts of a node are held
 pub parts_held : (p : Plan) (a : PlanId) → parts_end (plan_node_at p a) ≤ node_count p

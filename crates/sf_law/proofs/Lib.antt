@@ -9,3 +9,4 @@ mod Located
 pub mod Naming
 mod Covering
 pub mod Enough
+pub mod Held

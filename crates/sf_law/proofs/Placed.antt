@@ -17,6 +17,7 @@ use Rattle.sf_law.specs.declared.node.PlanCollection.TheVariants as collections
 use Rattle.sf_law.specs.declared.node.PlanNode.{PlanNode}
 use Rattle.sf_law.specs.declared.node.PlanNode.TheVariants as nodes
 use Rattle.sf_law.specs.Headers.{PlanHeader}
+use Rattle.sf_law.specs.Held.{HoldsBeside}
 use Rattle.sf_law.specs.Entries.{closed_before, planned_arguments, planned_collection, collection_over, pipeline, IsCoded, plan_over, ids_end, collection_end, arguments_end, parts_end, is_whole, calls_first, identity_node, node_among, plan_terms, plan_term, ArePlanNodes}
 
 part : (ts more : List Term) (i : ℕ) → suc i ≤ length ts → term_among (ts ++ more) i ≡ term_among ts i
@@ -76,20 +77,21 @@ local x ts more (nodes.Pipeline v) h = ap pipeline (all-parts ts more v.items h)
 
 -- nothing is an arena
 pub arena_empty : (x : Exprs) (hs : List PlanHeader) → ArePlanNodes x hs []
-arena_empty x hs = record { in_order = λ i. omega arith; wholes = λ i. refl; coded = λ i. tt; called = λ i. refl }
+arena_empty x hs = record { in_order = λ i. omega arith; wholes = λ i. refl; coded = λ i. tt; called = λ i. refl; beside = λ i. tt }
 
 -- the arena, where it may be that a node was put behind
 pub arena_put : (x : Exprs) (hs : List PlanHeader) (old new : List PlanNode) (n : PlanNode) (put : Bool) → new ≡ cond put (old ++ n ∷ []) old → ArePlanNodes x hs old
-    → parts_end n ≤ length old → IsTrue (is_whole n) → IsCoded x n → IsTrue (calls_first x hs n) → ArePlanNodes x hs new
-arena_put x hs old new n true e a below whole coded called =
+    → parts_end n ≤ length old → IsTrue (is_whole n) → IsCoded x n → IsTrue (calls_first x hs n) → HoldsBeside x n → ArePlanNodes x hs new
+arena_put x hs old new n true e a below whole coded called beside =
     let added : Added old new n (length old) = record { next = refl; grown = e } in
     record {
       in_order = each_item old new n _ added (λ i m. parts_end m ≤ i) identity_node a.in_order below;
       wholes = each_item old new n _ added (λ i m. IsTrue (is_whole m)) identity_node a.wholes whole;
       coded = each_item old new n _ added (λ i m. IsCoded x m) identity_node a.coded coded;
       called = each_item old new n _ added (λ i m. IsTrue (calls_first x hs m)) identity_node a.called called;
+      beside = each_item old new n _ added (λ i m. HoldsBeside x m) identity_node a.beside beside;
     }
-arena_put x hs old new n false e a below whole coded called = subst (λ ns. ArePlanNodes x hs ns) (sym e) a
+arena_put x hs old new n false e a below whole coded called beside = subst (λ ns. ArePlanNodes x hs ns) (sym e) a
 
 -- the term at a place is made over all terms
 pub term-built : (x : Exprs) (hs : List PlanHeader) (ns : List PlanNode) (i : ℕ) → ArePlanNodes x hs ns → plan_term x ns i ≡ plan_over x (plan_terms x ns) (node_among ns i)

@@ -44,6 +44,7 @@ module _ (ids : List PlanId) (n : ℕ) where
     in_order = a.in_order;
     wholes = a.wholes;
     coded = a.coded;
+    beside = a.beside;
     called = λ i. subst IsTrue (sym (calls_kept x hs (node_among ns i))) (a.called i);
   }
 

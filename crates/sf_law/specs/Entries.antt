@@ -24,6 +24,7 @@ use Rattle.sf_law.specs.declared.node.PlanNode.TheVariants as nodes
 use Rattle.sf_law.specs.declared.node.PlanPrimitive.{PlanPrimitive}
 use Rattle.sf_law.specs.declared.node.PlanPrimitive.TheVariants as primitives
 use Rattle.sf_law.specs.Headers.{ParameterHeader, PlanHeader, place_named}
+use Rattle.sf_law.specs.Held.{HoldsBeside}
 
 -- a stage with those behind it
 abbrev pub stages : Extent → Term → List Term → Term
@@ -268,3 +269,4 @@ pub record ArePlanNodes (x : Exprs) (hs : List PlanHeader) (ns : List PlanNode) 
   pub wholes : (i : ℕ) → IsTrue (is_whole (node_among ns i))
   pub coded : (i : ℕ) → IsCoded x (node_among ns i)
   pub called : (i : ℕ) → IsTrue (calls_first x hs (node_among ns i))
+  pub beside : (i : ℕ) → HoldsBeside x (node_among ns i)

@@ -8,3 +8,4 @@ pub mod Plans
 pub mod Mentioned
 pub mod Asking
 pub mod Mentioning
+pub mod Held

@@ -12,7 +12,11 @@ use Rattle.sf_expr.specs.Expressions.{Pattern, unnamed, named, both, Expression,
 use Rattle.sf_expr.specs.Patterns.{PlacedPattern, placed_unnamed, placed_name, placed_both, pattern_of}
 use Rattle.sf_expr.specs.contracts.pat.Pat as placed
 use Rattle.sf_expr.specs.Evaluation.{scope_functions, eval, apply}
-use Rattle.sf_expr.specs.Arena.{expression, function_at, name_at, stored_pattern}
+use Rattle.sf_expr.specs.Arena.{Holds, HoldsFunction, expression, function_at, name_at, stored_pattern}
+use Rattle.sf_expr.specs.declared.exprs.ExprId.{ExprId}
+use Rattle.sf_expr.specs.declared.exprs.FunctionId.{FunctionId}
+use Rattle.std.proofs.Math.Bridge.{le_prop}
+use Rattle.sf_law.specs.Held.{HoldsChain, HoldsPlanned, HoldsBeside}
 use Rattle.sf_expr.specs.declared.exprs.Exprs.{Exprs}
 use Rattle.sf_code.specs.declared.open.OpenCode.{OpenCode}
 use Rattle.sf_code.specs.CodeView.{code_of}
@@ -126,6 +130,47 @@ IsCoded-prop x (nodes.Gathered r) = IsCodedCollection-prop x r.value
 IsCoded-prop x (nodes.Releasing s) = IsCodedCollection-prop x s.members.value
 IsCoded-prop x (nodes.Editing s) = λ a b i. (IsCodedCollection-prop x s.members.value a.0 b.0 i, IsCodedCollection-prop x s.edit.value a.1 b.1 i)
 IsCoded-prop x (nodes.Pipeline v) = Unit-prop
+
+Holds-prop : (x : Exprs) (e : ExprId) → IsProp (Holds x e)
+unfolding Holds
+Holds-prop x e = le_prop
+
+HoldsFunction-prop : (x : Exprs) (f : FunctionId) → IsProp (HoldsFunction x f)
+unfolding HoldsFunction
+HoldsFunction-prop x f = le_prop
+
+HoldsChain-prop : (x : Exprs) (c : PlanChain) → IsProp (HoldsChain x c)
+HoldsChain-prop x (chains.Lone f c) = HoldsFunction-prop x f
+HoldsChain-prop x (chains.Chained' a f b g) = λ k l i. (HoldsChain-prop x f k.0 l.0 i, HoldsChain-prop x g k.1 l.1 i)
+HoldsChain-prop x (chains.OnSide' d a f) = HoldsChain-prop x f
+HoldsChain-prop x (chains.OnBoth' a f b g) = λ k l i. (HoldsChain-prop x f k.0 l.0 i, HoldsChain-prop x g k.1 l.1 i)
+HoldsChain-prop x (chains.Fanned' a f b g) = λ k l i. (HoldsChain-prop x f k.0 l.0 i, HoldsChain-prop x g k.1 l.1 i)
+
+HoldsPlanned-prop : (x : Exprs) (q : PlanPrimitive) → IsProp (HoldsPlanned x q)
+HoldsPlanned-prop x (primitives.Bare k) = Unit-prop
+HoldsPlanned-prop x (primitives.Never n) = Unit-prop
+HoldsPlanned-prop x (primitives.WithValue k e c) = Holds-prop x e
+HoldsPlanned-prop x (primitives.Timed k q e c) = Holds-prop x e
+HoldsPlanned-prop x (primitives.Selected k n) = Unit-prop
+HoldsPlanned-prop x (primitives.Arrow f c) = HoldsFunction-prop x f
+HoldsPlanned-prop x (primitives.Fused r) = HoldsChain-prop x r.value
+HoldsPlanned-prop x (primitives.Accumulated k e d f c) = λ a b i. (Holds-prop x e a.0 b.0 i, HoldsFunction-prop x f a.1 b.1 i)
+
+pub HoldsBeside-prop : (x : Exprs) (n : PlanNode) → IsProp (HoldsBeside x n)
+HoldsBeside-prop x (nodes.Primitive q) = HoldsPlanned-prop x q
+HoldsBeside-prop x (nodes.Started w k) = Unit-prop
+HoldsBeside-prop x (nodes.Probe r) = Unit-prop
+HoldsBeside-prop x (nodes.Call k g v) = Unit-prop
+HoldsBeside-prop x (nodes.Joined j a b) = Unit-prop
+HoldsBeside-prop x (nodes.Sided d a) = Unit-prop
+HoldsBeside-prop x (nodes.Headed h e c a) = Holds-prop x e
+HoldsBeside-prop x (nodes.Transformed f c a) = HoldsFunction-prop x f
+HoldsBeside-prop x (nodes.Switching n) = Unit-prop
+HoldsBeside-prop x (nodes.Continuation n) = Unit-prop
+HoldsBeside-prop x (nodes.Gathered r) = Unit-prop
+HoldsBeside-prop x (nodes.Releasing s) = Unit-prop
+HoldsBeside-prop x (nodes.Editing s) = Unit-prop
+HoldsBeside-prop x (nodes.Pipeline v) = Unit-prop
 
 pub TellsName-prop : (m : ℕ) (x : Name) (s : NumberedPattern) (p : Pattern) → IsProp (TellsName m x s p)
 TellsName-prop m x Unnamed unnamed = Unit-prop

@@ -1,8 +1,10 @@
 //! Collections of a program, as those of its plans.
 ghost use Rattle.std.specs.Prelude.{◌≡◌, IfOk, IsTrue, List};
 ghost use Rattle.sf_term.specs.declared.node.Node.TheVariants.{Gathered as gathered_node, Releasing as releasing_node, Editing as editing_node};
-ghost use Rattle.sf_term.specs.Arena.{collection_node};
+ghost use Rattle.sf_expr.specs.Arena.{Extends};
+ghost use Rattle.sf_term.specs.Arena.{collection_node, program_expressions, HoldsTermParts, HoldsWhole};
 ghost use Rattle.sf_law.specs.Headers.{PlanHeader};
+ghost use Rattle.sf_law.specs.Held.{HoldsCoded, HoldsBeside};
 ghost use Rattle.sf_law.specs.Entries.{IsCoded, IsCodedCollection, calls_first};
 ghost use Rattle.sf_law.specs.Copies.{stands_under, CopiesCollection, CopiesNode};
 
@@ -10,7 +12,6 @@ use crate::node::{PlanCollection, PlanEditing, PlanId, PlanNode, PlanReleasing};
 use sf_code::{expression_code, function_code};
 use sf_expr::Exprs;
 use sf_term::{CollExpr, CollectionId, Editing, Program, Releasing, TermId};
-use sf_value::{KeyType, Ty};
 use std::alloc::{AllocError, Global};
 use std::rc::Rc;
 
@@ -46,9 +47,12 @@ pub(crate) fn plan_gathered(
     terms: TermPlans,
     members: CollectionId,
 ) -> Result<PlanNode, AllocError>
+    requires kept { Extends (program_expressions program.now) exprs.now }
+    requires held { HoldsTermParts program.now (gathered_node members) }
     ensures same { IfOk result (λ copy. CopiesNode program.now (stands_under terms.entry) (gathered_node members) copy) }
     ensures coded { IfOk result (λ copy. IsCoded exprs.now copy) }
     ensures called { IfOk result (λ copy. (x : Exprs) (headers : List PlanHeader) → IsTrue (calls_first x headers copy)) }
+    ensures beside { IfOk result (λ copy. (x : Exprs) → HoldsBeside x copy) }
 {
     let members = plan_members(alloc, exprs, program, terms, members)?;
     Ok(PlanNode::Gathered(members))
@@ -62,9 +66,12 @@ pub(crate) fn plan_releasing(
     terms: TermPlans,
     node: Releasing,
 ) -> Result<PlanNode, AllocError>
+    requires kept { Extends (program_expressions program.now) exprs.now }
+    requires held { HoldsTermParts program.now (releasing_node node) }
     ensures same { IfOk result (λ copy. CopiesNode program.now (stands_under terms.entry) (releasing_node node) copy) }
     ensures coded { IfOk result (λ copy. IsCoded exprs.now copy) }
     ensures called { IfOk result (λ copy. (x : Exprs) (headers : List PlanHeader) → IsTrue (calls_first x headers copy)) }
+    ensures beside { IfOk result (λ copy. (x : Exprs) → HoldsBeside x copy) }
 {
     let members = plan_members(alloc, exprs, program, terms, node.members)?;
     let observer = terms.id(node.observer);
@@ -87,9 +94,12 @@ pub(crate) fn plan_editing(
     terms: TermPlans,
     node: Editing,
 ) -> Result<PlanNode, AllocError>
+    requires kept { Extends (program_expressions program.now) exprs.now }
+    requires held { HoldsTermParts program.now (editing_node node) }
     ensures same { IfOk result (λ copy. CopiesNode program.now (stands_under terms.entry) (editing_node node) copy) }
     ensures coded { IfOk result (λ copy. IsCoded exprs.now copy) }
     ensures called { IfOk result (λ copy. (x : Exprs) (headers : List PlanHeader) → IsTrue (calls_first x headers copy)) }
+    ensures beside { IfOk result (λ copy. (x : Exprs) → HoldsBeside x copy) }
 {
     let members = plan_members(alloc, exprs, program, terms, node.members)?;
     let edit = plan_members(alloc, exprs, program, terms, node.edit)?;
@@ -103,6 +113,7 @@ pub(crate) fn plan_editing(
 }
 
 /// The collection at an id, with the ids under which its terms stand in a plan, and with its code.
+#[tactic(auto, using(crate::proofs::Held::collection_coded))]
 pub(crate) fn plan_members(
     alloc: Global,
     exprs: &Exprs,
@@ -110,13 +121,12 @@ pub(crate) fn plan_members(
     terms: TermPlans,
     members: CollectionId,
 ) -> Result<Rc<PlanCollection>, AllocError>
+    requires kept { Extends (program_expressions program.now) exprs.now }
+    requires held { HoldsWhole program.now members }
     ensures same { IfOk result (λ copy. CopiesCollection (stands_under terms.entry) (collection_node program.now members) copy.value) }
     ensures coded { IfOk result (λ copy. IsCodedCollection exprs.now copy.value) }
 {
-    match program.collection(members) {
-        Some(collection) => plan_collection(alloc, exprs, terms, collection),
-        None => shared(alloc, PlanCollection::Empty(KeyType::Int, Ty::unit())),
-    }
+    plan_collection(alloc, exprs, terms, program.collection(members))
 }
 
 // A collection with those ids, and with its code.
@@ -126,6 +136,7 @@ fn plan_collection(
     terms: TermPlans,
     collection: &CollExpr,
 ) -> Result<Rc<PlanCollection>, AllocError>
+    requires { HoldsCoded exprs.now collection.now }
     ensures same { IfOk result (λ copy. CopiesCollection (stands_under terms.entry) collection.now copy.value) }
     ensures coded { IfOk result (λ copy. IsCodedCollection exprs.now copy.value) }
 {

@@ -1,15 +1,16 @@
 //! The plan that is a program itself.
 ghost use Rattle.std.specs.Prelude.{◌≡◌, List, map, All, IsTrue, IfOk, OnOk};
 ghost use Rattle.std.specs.List.{AllZip};
-ghost use Rattle.sf_expr.specs.Arena.{function_at, stored_pattern, HoldsPattern, Extends};
+ghost use Rattle.sf_expr.specs.Arena.{function_at, stored_pattern, HoldsFunction, HoldsName, HoldsPattern, Extends};
 ghost use Rattle.sf_expr.specs.Patterns.{placed_name};
-ghost use Rattle.sf_term.specs.Arena.{program_expressions, headers_of};
+ghost use Rattle.sf_term.specs.Arena.{program_expressions, headers_of, HoldsArgument, HoldsTermParts};
 ghost use Rattle.sf_term.specs.declared.node.TermId as term_ids;
 ghost use Rattle.sf_term.specs.declared.node.Node.TheVariants.{Call as call_node, Named as named_node};
 ghost use Rattle.sf_code.specs.Worth.{IsCodeOfFunction};
 ghost use Rattle.sf_refusal.specs.declared.spot.Spot.{Spot};
 ghost use Rattle.sf_law.specs.declared.node.PlanId as plan_ids;
 ghost use Rattle.sf_law.specs.Headers.{PlanHeader};
+ghost use Rattle.sf_law.specs.Held.{HoldsPrimitive, HoldsPlanned, HoldsBeside};
 ghost use Rattle.sf_law.specs.Entries.{IsCodedPrimitive, IsCodedArgument, IsCoded, calls_first};
 ghost use Rattle.sf_law.specs.Arena.{plan_expressions, plan_asked, node_count, plan_headers};
 ghost use Rattle.sf_law.specs.Copies.{stands_under, named_process, copied_switch, copied_continuing, CopiesArgument, CopiesPrimitive, CopiesNode, CopiesParameter, CopiesTemplate, ShowsTerms};
@@ -149,6 +150,7 @@ fn copy_terms(alloc: Global, plan: &mut Plan, program: &Program) -> Result<(), A
 }
 
 /// A node with the ids under which its parts stand in a plan, and with its code. A call is of the first template of its name.
+#[tactic(auto, using(crate::proofs::Held::primitive_held))]
 pub fn plan_node(
     alloc: Global,
     plan: &Plan,
@@ -156,9 +158,12 @@ pub fn plan_node(
     terms: TermPlans,
     node: Node,
 ) -> Result<PlanNode, AllocError>
+    requires kept { Extends (program_expressions program.now) (plan_expressions plan.now) }
+    requires held { HoldsTermParts program.now node }
     ensures same { IfOk result (λ copy. CopiesNode program.now (stands_under terms.entry) node copy) }
     ensures coded { IfOk result (λ copy. IsCoded (plan_expressions plan.now) copy) }
     ensures called { IfOk result (λ copy. IsTrue (calls_first (plan_expressions plan.now) (plan_headers plan.now) copy)) }
+    ensures beside { IfOk result (λ copy. HoldsBeside (plan_expressions plan.now) copy) }
 {
     let exprs = plan.expressions();
     match node {
@@ -229,9 +234,11 @@ fn plan_named(
     form: Naming,
     name: NameId,
 ) -> Result<PlanNode, AllocError>
+    requires { HoldsName (program_expressions program.now) name }
     ensures same { IfOk result (λ copy. (m : term_ids.TermId → plan_ids.PlanId) (place : Spot) → CopiesNode program.now m (named_node form name place) copy) }
     ensures coded { IfOk result (λ copy. (x : Exprs) → IsCoded x copy) }
     ensures called { IfOk result (λ copy. (x : Exprs) (headers : List PlanHeader) → IsTrue (calls_first x headers copy)) }
+    ensures beside { IfOk result (λ copy. (x : Exprs) → HoldsBeside x copy) }
 {
     match form {
         Naming::Process(start) => Ok(PlanNode::Started(start, name)),
@@ -252,9 +259,12 @@ fn plan_call(
     name: NameId,
     arguments: ArgumentsId,
 ) -> Result<PlanNode, AllocError>
+    requires kept { Extends (program_expressions program.now) (plan_expressions plan.now) }
+    requires held { HoldsTermParts program.now (call_node name arguments) }
     ensures same { IfOk result (λ copy. CopiesNode program.now (stands_under terms.entry) (call_node name arguments) copy) }
     ensures coded { IfOk result (λ copy. IsCoded (plan_expressions plan.now) copy) }
     ensures called { IfOk result (λ copy. IsTrue (calls_first (plan_expressions plan.now) (plan_headers plan.now) copy)) }
+    ensures beside { IfOk result (λ copy. HoldsBeside (plan_expressions plan.now) copy) }
 {
     let exprs = plan.expressions();
     let template = plan.template_named(exprs.name_of(name));
@@ -270,6 +280,8 @@ fn plan_arguments(
     terms: TermPlans,
     arguments: &[Argument],
 ) -> Result<Vec<PlanArgument>, AllocError>
+    requires kept { Extends (program_expressions program.now) exprs.now }
+    requires held { All (HoldsArgument program.now) arguments.now }
     ensures same { IfOk result (λ copies. AllZip (CopiesArgument program.now (stands_under terms.entry)) arguments.now copies.items) }
     ensures coded { IfOk result (λ copies. All (IsCodedArgument exprs.now) copies.items) }
 {
@@ -288,6 +300,8 @@ fn plan_argument(
     terms: TermPlans,
     argument: &Argument,
 ) -> Result<PlanArgument, AllocError>
+    requires kept { Extends (program_expressions program.now) exprs.now }
+    requires held { HoldsArgument program.now argument.now }
     ensures same { IfOk result (λ copy. CopiesArgument program.now (stands_under terms.entry) argument.now copy) }
     ensures coded { IfOk result (λ copy. IsCodedArgument exprs.now copy) }
 {
@@ -323,8 +337,10 @@ fn plan_primitive(
     exprs: &Exprs,
     primitive: Primitive,
 ) -> Result<PlanPrimitive, AllocError>
+    requires { HoldsPrimitive exprs.now primitive }
     ensures same { IfOk result (λ copy. CopiesPrimitive primitive copy) }
     ensures coded { IfOk result (λ copy. IsCodedPrimitive exprs.now copy) }
+    ensures beside { IfOk result (λ copy. HoldsPlanned exprs.now copy) }
 {
     match primitive {
         Primitive::Bare(form) => Ok(PlanPrimitive::Bare(form)),
@@ -356,6 +372,7 @@ fn shared_code(
     exprs: &Exprs,
     function: FunctionId,
 ) -> Result<Rc<OpenCode>, AllocError>
+    requires { HoldsFunction exprs.now function }
     ensures { IfOk result (λ code. IsCodeOfFunction exprs.now (function_at exprs.now function) code.value) }
 {
     let code = function_code(alloc, exprs, function)?;

@@ -9,13 +9,14 @@ ghost use Rattle.sf_law.specs.Headers.{place_named, rebodied, NumbersFirst, no_h
 ghost use Rattle.sf_law.specs.Places.{last_parameter, names_of_parameters, ArePlaces};
 ghost use Rattle.sf_law.specs.Mentioned.{AreCovered, MayCover, binds_name};
 ghost use Rattle.sf_law.specs.Entries.{ArePlanNodes, BindsNames, IsCoded, is_whole, calls_first, parts_end};
+ghost use Rattle.sf_law.specs.Held.{HoldsBeside};
 ghost use Rattle.sf_law.specs.Asking.{AreAsked, is_asked};
 ghost use Rattle.sf_law.specs.declared.mentioned.Mentioned.TheVariants.{Any as any_name};
 ghost use Rattle.std.specs.Prelude.{bytes_eq};
 ghost use Rattle.sf_expr.specs.Arena.{name_at, stored_pattern};
 ghost use Rattle.sf_expr.specs.Patterns.{pattern_of};
 ghost use Rattle.sf_expr.specs.Numbered.{number_at, numbered_pattern, AreNumbers, TellsName};
-ghost use Rattle.sf_law.specs.Unique.{IsCoded-prop, BindsNames-prop, ArePlaces-prop, TellsName-prop};
+ghost use Rattle.sf_law.specs.Unique.{IsCoded-prop, HoldsBeside-prop, BindsNames-prop, ArePlaces-prop, TellsName-prop};
 ghost use Rattle.std.proofs.Props.{props};
 
 use crate::asked::asked_names;
@@ -46,7 +47,7 @@ pub struct Plan {
     identity: PlanNode,
     absent: PlanTemplate,
     ghost told: { AreNumbers expressions numbering } by { Prim.hlevel (props, TellsName-prop) },
-    ghost arena: { ArePlanNodes expressions templates.items nodes.items } by { Prim.hlevel (props, IsCoded-prop) },
+    ghost arena: { ArePlanNodes expressions templates.items nodes.items } by { Prim.hlevel (props, IsCoded-prop, HoldsBeside-prop) },
     ghost enough: { AreAsked expressions templates.items asked nodes.items },
     ghost few: { length mentions.items ≤ length nodes.items },
     ghost covered: { AreCovered expressions nodes.items mentions.items },
@@ -127,6 +128,7 @@ impl Plan {
         requires whole { IsTrue (is_whole node) }
         requires coded { IsCoded (plan_expressions self.old) node }
         requires called { IsTrue (calls_first (plan_expressions self.old) (plan_headers self.old) node) }
+        requires beside { HoldsBeside (plan_expressions self.old) node }
         ensures ok { IfOk result (λ id. AddsNode self.old self.new id node) }
         ensures err { OnErr result ((node_count self.new ≡ node_count self.old) × (plan_asked self.new ≡ plan_asked self.old)) }
         ensures kept { ExtendsPlan self.old self.new }
@@ -217,13 +219,14 @@ impl Plan {
     }
 
     /// The node at an id, with the ids of its parts; the identity at an id that the plan does not hold.
-    #[tactic(auto, using(crate::proofs::Extended::builds, crate::proofs::Extended::parts_below, crate::proofs::Extended::parts_held, crate::proofs::Extended::asked_held), unfolding(crate::specs::Arena::plan_node_at))]
+    #[tactic(auto, using(crate::proofs::Extended::builds, crate::proofs::Extended::parts_below, crate::proofs::Extended::parts_held, crate::proofs::Extended::asked_held, crate::proofs::Extended::beside_held), unfolding(crate::specs::Arena::plan_node_at))]
     pub fn node(&self, id: PlanId) -> &PlanNode
         ensures value { result.now ≡ plan_node_at self.now id }
         ensures builds { BuildsPlan self.now result.now (plan_tree self.now id) }
         ensures below { parts_end result.now ≤ plan_number id }
         ensures held { parts_end result.now ≤ node_count self.now }
         ensures asked { IsTrue (is_asked (plan_expressions self.now) (plan_headers self.now) (plan_asks self.now) result.now) }
+        ensures beside { HoldsBeside (plan_expressions self.now) result.now }
     {
         match self.nodes.get(id.0) {
             Some(node) => node,

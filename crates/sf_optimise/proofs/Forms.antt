@@ -21,6 +21,7 @@ use Rattle.sf_law.specs.declared.node.PlanChain.{PlanChain}
 use Rattle.sf_law.specs.declared.node.PlanChain.TheVariants as chains
 use Rattle.sf_law.specs.declared.plan.Plan.{Plan}
 use Rattle.sf_law.specs.Entries.{stages, pipeline, chain_over, primitive_over, IsCodedPrimitive, IsCodedChain}
+use Rattle.sf_law.specs.Held.{HoldsChain, HoldsPlanned}
 use Rattle.sf_law.specs.Arena.{plan_tree, plan_expressions, plan_trees, BuildsPlan, builds_primitive, builds_started, builds_probe, builds_call, builds_joined, builds_sided, builds_headed, builds_transformed, builds_switching, builds_continuing, builds_gathered, builds_releasing, builds_editing, builds_pipeline}
 use Rattle.sf_law.proofs.Extended.{builds}
 use Rattle.sf_rewrite.specs.Laws.{Laws, arr, unchanged, arr_as_chain}
@@ -82,24 +83,26 @@ identity_built {p} node form is B = built (built_as (node ∙ ap nodes.Primitive
 
 -- `arr` of one function
 pub arrow_chain : {x : Exprs} {f : FunctionId} (code : Rc OpenCode Global) {shared : Rc OpenCode Global} {c : Rc PlanChain Global} → c.value ≡ chains.Lone f shared
-    → shared.value ≡ code.value → IsCodedPrimitive x (primitives.Arrow f code)
+    → shared.value ≡ code.value → IsCodedPrimitive x (primitives.Arrow f code) → HoldsPlanned x (primitives.Arrow f code)
     → TermChain x (primitive (primitive_over x (primitives.Arrow f code))) (Some c)
-arrow_chain {x} {f} code {shared} {c} is same k = chain_in (record {
+arrow_chain {x} {f} code {shared} {c} is same k held = chain_in (record {
+  held = subst (HoldsChain x) (sym is) held;
   coded = subst (IsCodedChain x) (sym is) (rw same k);
   law = subst (λ (d : PlanChain). Laws (primitive (arrow (function_at x f))) (arr (chain_over x d))) (sym is) arr_as_chain;
   is = refl;
 })
 
-pub fused_chain : {x : Exprs} (r : Rc PlanChain Global) {c : Rc PlanChain Global} → c.value ≡ r.value → IsCodedPrimitive x (primitives.Fused r) → TermChain x (primitive (primitive_over x (primitives.Fused r))) (Some c)
-fused_chain {x} r {c} is k = chain_in (record {
+pub fused_chain : {x : Exprs} (r : Rc PlanChain Global) {c : Rc PlanChain Global} → c.value ≡ r.value → IsCodedPrimitive x (primitives.Fused r) → HoldsPlanned x (primitives.Fused r) → TermChain x (primitive (primitive_over x (primitives.Fused r))) (Some c)
+fused_chain {x} r {c} is k held = chain_in (record {
+  held = subst (HoldsChain x) (sym is) held;
   coded = subst (IsCodedChain x) (sym is) k;
   law = subst (λ (d : PlanChain). Laws (arr (chain_over x r.value)) (arr (chain_over x d))) (sym is) unchanged;
   is = refl;
 })
 
 -- what a primitive's functions are, those of its term are
-pub primitive_chain : {p : Plan} {q : PlanPrimitive} {t : Term} {o : Option (Rc PlanChain Global)} → BuildsPlan p (nodes.Primitive q) t → ((x : Exprs) → IsCodedPrimitive x q → TermChain x (primitive (primitive_over x q)) o) → TermChain (plan_expressions p) t o
-primitive_chain {p = p} (builds_primitive k) h = h (plan_expressions p) k
+pub primitive_chain : {p : Plan} {q : PlanPrimitive} {t : Term} {o : Option (Rc PlanChain Global)} → BuildsPlan p (nodes.Primitive q) t → HoldsPlanned (plan_expressions p) q → ((x : Exprs) → IsCodedPrimitive x q → HoldsPlanned x q → TermChain x (primitive (primitive_over x q)) o) → TermChain (plan_expressions p) t o
+primitive_chain {p = p} (builds_primitive k) held h = h (plan_expressions p) k held
 
 -- ## The stages of a plan
 

@@ -11,6 +11,7 @@ use Rattle.sf_law.specs.declared.node.PlanId.{PlanId}
 use Rattle.sf_law.specs.declared.node.PlanChain.{PlanChain}
 use Rattle.sf_law.specs.declared.plan.Plan.{Plan}
 use Rattle.sf_law.specs.Entries.{chain_over, IsCodedChain, pipeline}
+use Rattle.sf_law.specs.Held.{HoldsChain}
 use Rattle.sf_law.specs.Arena.{plan_number, node_count, plan_tree, plan_headers, plan_main, ExtendsPlan}
 use Rattle.sf_rewrite.specs.Quiet.{is_quiet_expression, is_quiet}
 use Rattle.sf_rewrite.specs.Laws.{Laws, arr, constant}
@@ -44,6 +45,7 @@ pub record MakesPlan (t : Term) (p : Plan) (a : PlanId) : Type 0 where
 -- a term is `arr` of these functions
 pub record IsChain (x : Exprs) (t : Term) (c : Rc PlanChain Global) : Type 0 where
   pub coded : IsCodedChain x c.value
+  pub held : HoldsChain x c.value
   pub law : Laws t (arr (chain_over x c.value))
   pub is : is_arr t ≡ true
 

@@ -6,6 +6,8 @@ ghost use Rattle.sf_term.specs.declared.form.Side.TheVariants.{First};
 ghost use Rattle.sf_term.specs.Trees.{joined, sided, staged, whole};
 ghost use Rattle.sf_term.specs.Trees;
 ghost use Rattle.sf_rewrite.specs.Laws.{arr};
+ghost use Rattle.sf_expr.specs.Arena.{Holds};
+ghost use Rattle.sf_law.specs.Held.{HoldsChain, HoldsPlanned};
 ghost use Rattle.sf_law.specs.Arena.{plan_number, node_count, plan_tree, plan_expressions, plan_expression_at, plan_trees};
 ghost use Rattle.sf_law.specs.Entries.{chain_over, pipeline, primitive_over, IsCodedPrimitive, IsCodedChain, ids_end};
 ghost use Rattle.sf_optimise.specs.Lists.{is_identity_term, AreStages};
@@ -79,7 +81,8 @@ pub(crate) fn headed(
     value: ExprId,
     part: PlanId,
 ) -> Result<PlanId, AllocError>
-    requires { plan_number part < node_count plan.old }
+    requires part { plan_number part < node_count plan.old }
+    requires value { Holds (plan_expressions plan.old) value }
     ensures ok { IfOk result (λ a. HoldsTree (Trees.headed heading (plan_expression_at plan.old value) (plan_tree plan.old part)) plan.new a) }
     ensures grows { GrowsPlan plan.old plan.new }
 {
@@ -106,7 +109,7 @@ fn chain_in(alloc: Global, plan: &Plan, id: PlanId) -> Result<Option<Rc<PlanChai
 // The functions of a primitive.
 #[tactic(auto, using(crate::specs::Making::no_chain))]
 fn chain_of(alloc: Global, primitive: &PlanPrimitive) -> Result<Option<Rc<PlanChain>>, AllocError>
-    ensures { (x : Exprs) → IsCodedPrimitive x primitive.now → IfOk result (λ o. TermChain x (Trees.primitive (primitive_over x primitive.now)) o) }
+    ensures { (x : Exprs) → IsCodedPrimitive x primitive.now → HoldsPlanned x primitive.now → IfOk result (λ o. TermChain x (Trees.primitive (primitive_over x primitive.now)) o) }
 {
     match primitive {
         PlanPrimitive::Arrow(function, code) => {
@@ -143,7 +146,8 @@ pub(crate) fn chains_in(
 
 /// `arr` of functions that are made into one.
 pub(crate) fn fused(alloc: Global, plan: &mut Plan, chain: PlanChain) -> Result<PlanId, AllocError>
-    requires { IsCodedChain (plan_expressions plan.old) chain }
+    requires coded { IsCodedChain (plan_expressions plan.old) chain }
+    requires held { HoldsChain (plan_expressions plan.old) chain }
     ensures ok { IfOk result (λ a. HoldsTree (arr (chain_over (plan_expressions plan.old) chain)) plan.new a) }
     ensures grows { GrowsPlan plan.old plan.new }
 {

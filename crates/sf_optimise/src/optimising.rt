@@ -1,7 +1,7 @@
 //! The optimised plan of a network: each term is made anew, from the innermost outwards, of the plans of its parts.
 ghost use Rattle.std.specs.Prelude.{◌≡◌, ◌<◌, ◌≤◌, true, IfOk, length};
 ghost use Rattle.sf_rewrite.specs.Laws.{identity};
-ghost use Rattle.sf_expr.specs.Arena.{Extends};
+ghost use Rattle.sf_expr.specs.Arena.{Extends, Holds};
 ghost use Rattle.sf_term.specs.Trees;
 ghost use Rattle.sf_term.specs.Arena.{term_count, term_number, program_expressions, term_of, tree, TermPartsBelow, HoldsTermParts};
 ghost use Rattle.sf_law.specs.Arena.{plan_tree, plan_expressions, plan_expression_at};
@@ -158,7 +158,8 @@ fn with_head(
     value: ExprId,
     part: PlanId,
 ) -> Result<PlanId, AllocError>
-    requires { IsNormal plan.old part }
+    requires part { IsNormal plan.old part }
+    requires value { Holds (plan_expressions plan.old) value }
     ensures ok { IfOk result (λ a. MakesPlan (Trees.headed heading (plan_expression_at plan.old value) (plan_tree plan.old part)) plan.new a) }
     ensures grows { GrowsPlan plan.old plan.new }
 {

@@ -1,10 +1,11 @@
 //! Quiet terms: by their text they give a value without readings at each step, whatever their input.
 ghost use Rattle.std.specs.Prelude.{◌≡◌, map};
-ghost use Rattle.sf_expr.specs.Arena.{expression, function_at};
-ghost use Rattle.sf_term.specs.Arena.{tree, term_of};
+ghost use Rattle.sf_expr.specs.Arena.{expression, function_at, Holds, HoldsFunction};
+ghost use Rattle.sf_term.specs.Arena.{tree, term_of, HoldsTerm, HoldsTermParts};
 ghost use Rattle.sf_term.specs.declared.node.Node.TheVariants.{Primitive as primitive_node};
 ghost use Rattle.sf_law.specs.Arena.{plan_tree, plan_expressions, plan_trees};
 ghost use Rattle.sf_law.specs.Entries.{chain_over, primitive_over};
+ghost use Rattle.sf_law.specs.Held.{HoldsChain, HoldsPlanned};
 ghost use Rattle.sf_rewrite.specs.Quiet as quiet_terms;
 ghost use Rattle.sf_optimise.specs.Lists.{all_quiet};
 
@@ -16,6 +17,7 @@ use sf_term::{Bare, Naming, Node, Primitive, Program, TermId};
 /// Whether a term of a network is quiet. It takes no memory, and goes no deeper than the term.
 #[tactic(auto, using(sf_term::proofs::Extended::expression_in, sf_term::proofs::Extended::function_at_in))]
 pub fn quiet(program: &Program, id: TermId) -> bool
+    requires { HoldsTerm program.now id }
     ensures { result ≡ quiet_terms.is_quiet (tree program.now id) }
 {
     match program.node(id) {
@@ -37,6 +39,7 @@ pub fn quiet(program: &Program, id: TermId) -> bool
 // Whether a primitive of a network is quiet.
 #[tactic(auto, using(sf_term::proofs::Extended::expression_in, sf_term::proofs::Extended::function_at_in))]
 fn is_quiet_form(program: &Program, primitive: Primitive) -> bool
+    requires { HoldsTermParts program.now (primitive_node primitive) }
     ensures { result ≡ quiet_terms.is_quiet (term_of program.now (primitive_node primitive)) }
 {
     let exprs = program.expressions();
@@ -90,6 +93,7 @@ fn are_quiet(plan: &Plan, stages: &[PlanId]) -> bool
 
 // Whether a primitive of a plan is.
 fn is_quiet_primitive(exprs: &Exprs, primitive: &PlanPrimitive) -> bool
+    requires { HoldsPlanned exprs.now primitive.now }
     ensures { result ≡ quiet_terms.is_quiet_primitive (primitive_over exprs.now primitive.now) }
 {
     match primitive {
@@ -108,6 +112,7 @@ fn is_quiet_primitive(exprs: &Exprs, primitive: &PlanPrimitive) -> bool
 
 // Whether functions that are made into one are.
 fn is_quiet_chain(exprs: &Exprs, chain: &PlanChain) -> bool
+    requires { HoldsChain exprs.now chain.now }
     ensures { result ≡ quiet_terms.is_quiet_chain (chain_over exprs.now chain.now) }
 {
     match chain {
@@ -133,6 +138,7 @@ fn is_quiet_bare(form: Bare) -> bool
 
 // Whether a function is.
 fn is_quiet_function(exprs: &Exprs, function: FunctionId) -> bool
+    requires { HoldsFunction exprs.now function }
     ensures { result ≡ quiet_terms.is_quiet_function (function_at exprs.now function) }
 {
     is_quiet_expression(exprs, exprs.body(function))
@@ -140,6 +146,7 @@ fn is_quiet_function(exprs: &Exprs, function: FunctionId) -> bool
 
 /// Whether an expression is quiet.
 pub(crate) fn is_quiet_expression(exprs: &Exprs, id: ExprId) -> bool
+    requires { Holds exprs.now id }
     ensures { result ≡ quiet_terms.is_quiet_expression (expression exprs.now id) }
 {
     match exprs.node(id) {

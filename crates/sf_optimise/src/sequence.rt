@@ -3,7 +3,8 @@ ghost use Rattle.std.specs.Prelude.{◌≡◌, ◌<◌, ◌≤◌, IfOk, IsTrue}
 ghost use Rattle.sf_term.specs.Trees.{staged, whole};
 ghost use Rattle.sf_rewrite.specs.Laws.{loop_pre, identity};
 ghost use Rattle.sf_rewrite.specs.Normal.{is_stage};
-ghost use Rattle.sf_law.specs.Arena.{plan_number, node_count, plan_tree, plan_expression_at, plan_trees};
+ghost use Rattle.sf_expr.specs.Arena.{Holds};
+ghost use Rattle.sf_law.specs.Arena.{plan_number, node_count, plan_tree, plan_expressions, plan_expression_at, plan_trees};
 ghost use Rattle.sf_law.specs.Entries.{ids_end};
 ghost use Rattle.sf_optimise.specs.Making.{GrowsPlan, IsNormal, MakesPlan, Merges, Meets, MeetsAs, MovesOut};
 ghost use Rattle.sf_optimise.specs.Lists.{AreStages};
@@ -161,7 +162,8 @@ pub(crate) fn in_loop(
     value: ExprId,
     part: PlanId,
 ) -> Result<PlanId, AllocError>
-    requires { IsNormal plan.old part }
+    requires part { IsNormal plan.old part }
+    requires value { Holds (plan_expressions plan.old) value }
     ensures ok { IfOk result (λ a. MakesPlan (loop_pre (plan_expression_at plan.old value) (plan_tree plan.old part)) plan.new a) }
     ensures grows { GrowsPlan plan.old plan.new }
 {
@@ -183,6 +185,7 @@ pub(crate) fn in_loop(
 // Whether a part comes before a constant as well as behind it: one of the two is quiet.
 #[tactic(auto, using(crate::proofs::Looped::value_moves, crate::proofs::Looped::part_moves))]
 fn moves_out(plan: &Plan, value: ExprId, part: PlanId) -> bool
+    requires { Holds (plan_expressions plan.now) value }
     ensures { IsTrue result → MovesOut (plan_expression_at plan.now value) (plan_tree plan.now part) }
 {
     if is_quiet_expression(plan.expressions(), value) {

@@ -1,6 +1,6 @@
 //! Patterns and expressions as they are written.
 ghost use Rattle.std.specs.Prelude.{◌≡◌, OnOk, true};
-ghost use Rattle.sf_expr.specs.Arena.{expression, node_expression, name_at, stored_pattern, argument_pattern, body_id, function_at};
+ghost use Rattle.sf_expr.specs.Arena.{expression, node_expression, name_at, stored_pattern, argument_pattern, body_id, function_at, Holds, HoldsFunction, HoldsName, HoldsPattern, HoldsParts};
 ghost use Rattle.sf_expr.specs.Expressions.{literal, truth_literal, unit_literal, paired, applied, operation, conditional, mapped, called};
 ghost use Rattle.sf_expr.specs.Patterns.{pattern_of};
 ghost use Rattle.sf_grammar.specs.Spelling.{in_brackets, spell_operand, spell_mapping, spell_pattern, spell_literal, spell_expression, spell_function};
@@ -83,6 +83,7 @@ pub(crate) fn write_expression(
     id: ExprId,
     draft: &mut Draft,
 ) -> Result<(), AllocError>
+    requires { Holds exprs.now id }
     ensures { OnOk result (draft.new ≡ append_tokens draft.old (spell_expression version (expression exprs.now id))) }
 {
     match exprs.node(id) {
@@ -119,6 +120,8 @@ fn write_two(
     second: ExprId,
     draft: &mut Draft,
 ) -> Result<(), AllocError>
+    requires first_held { Holds exprs.now first }
+    requires second_held { Holds exprs.now second }
     ensures { OnOk result (draft.new ≡ append_tokens draft.old (in_brackets (spell_expression version (expression exprs.now first)) (sign_token between) (spell_expression version (expression exprs.now second)))) }
 {
     draft.symbol(Symbol::Open)?;
@@ -137,6 +140,7 @@ fn write_one(
     part: ExprId,
     draft: &mut Draft,
 ) -> Result<(), AllocError>
+    requires { Holds exprs.now part }
     ensures { OnOk result (draft.new ≡ append_tokens draft.old (spell_operand true (spell_expression version (expression exprs.now part)))) }
 {
     draft.symbol(Symbol::Open)?;
@@ -154,6 +158,7 @@ fn write_applied(
     part: ExprId,
     draft: &mut Draft,
 ) -> Result<(), AllocError>
+    requires { Holds exprs.now part }
     ensures { OnOk result (draft.new ≡ append_tokens draft.old (spell_expression version (applied operator (expression exprs.now part)))) }
 {
     draft.keyword(unary_word(operator))?;
@@ -175,6 +180,8 @@ fn write_operation(
     right: ExprId,
     draft: &mut Draft,
 ) -> Result<(), AllocError>
+    requires left_held { Holds exprs.now left }
+    requires right_held { Holds exprs.now right }
     ensures { OnOk result (draft.new ≡ append_tokens draft.old (spell_expression version (operation (expression exprs.now left) operator (expression exprs.now right)))) }
 {
     let sign = operator_sign(operator);
@@ -204,6 +211,9 @@ fn write_conditional(
     second: ExprId,
     draft: &mut Draft,
 ) -> Result<(), AllocError>
+    requires condition_held { Holds exprs.now condition }
+    requires first_held { Holds exprs.now first }
+    requires second_held { Holds exprs.now second }
     ensures { OnOk result (draft.new ≡ append_tokens draft.old (spell_expression version (conditional (expression exprs.now condition) (expression exprs.now first) (expression exprs.now second)))) }
 {
     draft.keyword(Keyword::If)?;
@@ -224,6 +234,7 @@ fn write_mapping(
     body: ExprId,
     draft: &mut Draft,
 ) -> Result<(), AllocError>
+    requires { Holds exprs.now body }
     ensures { OnOk result (draft.new ≡ append_tokens draft.old (spell_mapping (spell_pattern (pattern_of pattern.now)) (spell_expression version (expression exprs.now body)))) }
 {
     write_pattern(pattern, draft)?;
@@ -242,6 +253,9 @@ fn write_let(
     body: ExprId,
     draft: &mut Draft,
 ) -> Result<(), AllocError>
+    requires part_held { Holds exprs.now part }
+    requires pattern_held { HoldsPattern exprs.now pattern }
+    requires body_held { Holds exprs.now body }
     ensures { OnOk result (draft.new ≡ append_tokens draft.old (spell_expression version (mapped (expression exprs.now part) Mapping.Let (pattern_of (stored_pattern exprs.now pattern)) (expression exprs.now body)))) }
 {
     draft.keyword(Keyword::Let)?;
@@ -261,6 +275,7 @@ fn write_mapped(
     node: Mapped,
     draft: &mut Draft,
 ) -> Result<(), AllocError>
+    requires { HoldsParts exprs.now (ExprNode.Mapped node) }
     ensures { OnOk result (draft.new ≡ append_tokens draft.old (spell_expression version (node_expression exprs.now (ExprNode.Mapped node)))) }
 {
     if node.mapping == Mapping::Let {
@@ -283,6 +298,7 @@ fn write_folded(
     node: Folded,
     draft: &mut Draft,
 ) -> Result<(), AllocError>
+    requires { HoldsParts exprs.now (ExprNode.Folded node) }
     ensures { OnOk result (draft.new ≡ append_tokens draft.old (spell_expression version (node_expression exprs.now (ExprNode.Folded node)))) }
 {
     draft.keyword(folding_word(node.folding))?;
@@ -305,6 +321,8 @@ fn write_called(
     part: ExprId,
     draft: &mut Draft,
 ) -> Result<(), AllocError>
+    requires function_held { HoldsName exprs.now function }
+    requires part_held { Holds exprs.now part }
     ensures { OnOk result (draft.new ≡ append_tokens draft.old (spell_expression version (called (name_at exprs.now function) (expression exprs.now part)))) }
 {
     draft.keyword(Keyword::Call)?;
@@ -320,6 +338,7 @@ pub(crate) fn write_function(
     function: FunctionId,
     draft: &mut Draft,
 ) -> Result<(), AllocError>
+    requires { HoldsFunction exprs.now function }
     ensures { OnOk result (draft.new ≡ append_tokens draft.old (spell_function version (function_at exprs.now function))) }
 {
     write_mapping(

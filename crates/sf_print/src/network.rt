@@ -2,7 +2,7 @@
 ghost use Rattle.std.specs.Prelude.{◌≡◌, pos, OnOk, IfOk, map};
 ghost use Rattle.sf_term.specs.ParameterView.{kind_of_form};
 ghost use Rattle.sf_term.specs.Parameters.{parameters_of, binding_of};
-ghost use Rattle.sf_term.specs.Arena.{term_template, templates_of, headers_of};
+ghost use Rattle.sf_term.specs.Arena.{term_template, templates_of, headers_of, HoldsTerm};
 ghost use Rattle.sf_grammar.specs.Spelling.{spell, spell_template, spell_templates, spell_name_kind, spell_parameter, spell_listed, spell_further, version_number};
 ghost use Rattle.sf_print.specs.Canonical.{canonical_text, text_of};
 ghost use Rattle.sf_print.specs.Drafts.{append_tokens};
@@ -93,6 +93,7 @@ fn write_template(
     template: &Template,
     draft: &mut Draft,
 ) -> Result<(), AllocError>
+    requires { HoldsTerm program.now template.now.body }
     ensures { OnOk result (draft.new ≡ append_tokens draft.old (spell_template version (term_template program.now template.now))) }
 {
     draft.keyword(Keyword::Template)?;

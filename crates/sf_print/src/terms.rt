@@ -1,14 +1,13 @@
 //! Terms as they are written.
 ghost use Rattle.std.specs.Prelude.{◌≡◌, ◌<◌, OnOk, All};
-ghost use Rattle.sf_expr.specs.Arena.{name_at, literal_at};
+ghost use Rattle.sf_expr.specs.Arena.{name_at, literal_at, Holds, HoldsFunction, HoldsName, HoldsPattern};
 ghost use Rattle.sf_expr.specs.Patterns.{pattern_of};
 ghost use Rattle.sf_term.specs.declared.node.Node.TheVariants as nodes;
 ghost use Rattle.sf_term.specs.Entries.{absent_payload};
 ghost use Rattle.sf_term.specs.Trees.{named_term, without_members, sided, headed, transformed, reference, dropped, kept};
 ghost use Rattle.sf_term.specs.Trees;
-ghost use Rattle.sf_value.specs.Values.{int_keys, unit_kind};
 ghost use Rattle.sf_value.specs.KindView.{key_kind_of};
-ghost use Rattle.sf_term.specs.Arena.{tree, term_of, term_number, program_expressions, program_expression, program_function, placed_pattern, arguments_of, collection_node, collection_of, collection_tree};
+ghost use Rattle.sf_term.specs.Arena.{tree, term_of, term_number, program_expressions, program_expression, program_function, placed_pattern, arguments_of, collection_node, collection_of, collection_tree, HoldsTerm, HoldsTermParts, HoldsArgument, HoldsMembers, HoldsWhole};
 ghost use Rattle.sf_grammar.specs.Spelling.{spell_term, spell_mapping, spell_pattern, spell_value, spell_expression, spell_function, spell_listed, spell_further, spell_arguments, spell_collection, stands_initially, value_word, naming_token};
 ghost use Rattle.sf_print.specs.Drafts.{append_token, append_tokens};
 ghost use Rattle.sf_print.specs.Arguments.{spell_argument, IsWithin, ArgumentWithin, PartsWithin};
@@ -39,6 +38,7 @@ fn write_value(
     value: ExprId,
     draft: &mut Draft,
 ) -> Result<(), AllocError>
+    requires { Holds (program_expressions program.now) value }
     ensures { OnOk result (draft.new ≡ append_tokens draft.old (spell_expression version (program_expression program.now value))) }
 {
     write_expression(program.expressions(), version, value, draft)
@@ -52,6 +52,7 @@ fn write_mapped(
     function: FunctionId,
     draft: &mut Draft,
 ) -> Result<(), AllocError>
+    requires { HoldsFunction (program_expressions program.now) function }
     ensures { OnOk result (draft.new ≡ append_tokens draft.old (spell_function version (program_function program.now function))) }
 {
     write_function(program.expressions(), version, function, draft)
@@ -66,6 +67,7 @@ fn write_with_value(
     value: ExprId,
     draft: &mut Draft,
 ) -> Result<(), AllocError>
+    requires { Holds (program_expressions program.now) value }
     ensures { OnOk result (draft.new ≡ append_tokens draft.old (spell_value (stands_initially primitive) (value_word primitive) (spell_expression version (program_expression program.now value)))) }
 {
     let word = value_word(primitive);
@@ -102,6 +104,7 @@ fn write_primitive(
     primitive: Primitive,
     draft: &mut Draft,
 ) -> Result<(), AllocError>
+    requires { HoldsTermParts program.now (nodes.Primitive primitive) }
     ensures { OnOk result (draft.new ≡ append_tokens draft.old (spell_term version (term_of program.now (nodes.Primitive primitive)))) }
 {
     match primitive {
@@ -155,6 +158,7 @@ fn write_named(
     name: NameId,
     draft: &mut Draft,
 ) -> Result<(), AllocError>
+    requires { HoldsName (program_expressions program.now) name }
     ensures { OnOk result (draft.new ≡ append_tokens draft.old (spell_term version (named_term naming (name_at (program_expressions program.now) name)))) }
 {
     write_naming(naming, draft)?;
@@ -170,6 +174,7 @@ pub(crate) fn write_term(
     id: TermId,
     draft: &mut Draft,
 ) -> Result<(), AllocError>
+    requires { HoldsTerm program.now id }
     ensures { OnOk result (draft.new ≡ append_tokens draft.old (spell_term version (tree program.now id))) }
 {
     match program.node(id) {
@@ -211,6 +216,8 @@ fn write_joined(
     second: TermId,
     draft: &mut Draft,
 ) -> Result<(), AllocError>
+    requires first_held { HoldsTerm program.now first }
+    requires second_held { HoldsTerm program.now second }
     ensures { OnOk result (draft.new ≡ append_tokens draft.old (spell_term version (Trees.joined join (tree program.now first) (tree program.now second)))) }
 {
     draft.symbol(Symbol::Open)?;
@@ -231,6 +238,8 @@ fn write_headed(
     part: TermId,
     draft: &mut Draft,
 ) -> Result<(), AllocError>
+    requires value_held { Holds (program_expressions program.now) value }
+    requires part_held { HoldsTerm program.now part }
     ensures { OnOk result (draft.new ≡ append_tokens draft.old (spell_term version (headed heading (program_expression program.now value) (tree program.now part)))) }
 {
     draft.sign(heading_sign(heading))?;
@@ -251,6 +260,8 @@ fn write_transformed(
     part: TermId,
     draft: &mut Draft,
 ) -> Result<(), AllocError>
+    requires function_held { HoldsFunction (program_expressions program.now) function }
+    requires part_held { HoldsTerm program.now part }
     ensures { OnOk result (draft.new ≡ append_tokens draft.old (spell_term version (transformed (program_function program.now function) (tree program.now part)))) }
 {
     draft.symbol(Symbol::MapsFirstInput)?;
@@ -271,6 +282,8 @@ fn write_body(
     body: TermId,
     draft: &mut Draft,
 ) -> Result<(), AllocError>
+    requires pattern_held { HoldsPattern (program_expressions program.now) pattern }
+    requires body_held { HoldsTerm program.now body }
     ensures { OnOk result (draft.new ≡ append_tokens draft.old (spell_mapping (spell_pattern (pattern_of (placed_pattern program.now pattern))) (spell_term version (tree program.now body)))) }
 {
     write_pattern(program.expressions().placed(pattern), draft)?;
@@ -287,6 +300,7 @@ fn write_switching(
     switch: Switch,
     draft: &mut Draft,
 ) -> Result<(), AllocError>
+    requires { HoldsTermParts program.now (nodes.Switching switch) }
     ensures { OnOk result (draft.new ≡ append_tokens draft.old (spell_term version (term_of program.now (nodes.Switching switch)))) }
 {
     draft.keyword(switching_word(switch.form))?;
@@ -306,6 +320,7 @@ fn write_continuing(
     form: Continuation,
     draft: &mut Draft,
 ) -> Result<(), AllocError>
+    requires { HoldsTermParts program.now (nodes.Continuation form) }
     ensures { OnOk result (draft.new ≡ append_tokens draft.old (spell_term version (term_of program.now (nodes.Continuation form)))) }
 {
     draft.keyword(continuing_word(form.shown))?;
@@ -335,16 +350,6 @@ fn write_empty(
     write_type(values, version, draft)
 }
 
-/// Appends what a collection is that its program does not hold.
-#[tactic(auto, using(crate::proofs::Putting::tokens_apart))]
-fn write_absent(version: Version, draft: &mut Draft) -> Result<(), AllocError>
-    ensures { OnOk result (draft.new ≡ append_tokens draft.old (spell_collection version (without_members int_keys unit_kind))) }
-{
-    draft.keyword(Keyword::Empty)?;
-    write_keys(KeyType::Int, version, draft)?;
-    draft.keyword(Keyword::Unit)
-}
-
 /// Appends the members of a collection.
 #[cycle(term)]
 #[tactic(auto, using(crate::proofs::Putting::tokens_apart))]
@@ -355,7 +360,8 @@ fn write_gathered(
     members: CollectionId,
     draft: &mut Draft,
 ) -> Result<(), AllocError>
-    requires { PartsWithin program.now id (nodes.Gathered members) }
+    requires within { PartsWithin program.now id (nodes.Gathered members) }
+    requires members_held { HoldsWhole program.now members }
     ensures { OnOk result (draft.new ≡ append_tokens draft.old (spell_term version (term_of program.now (nodes.Gathered members)))) }
 {
     draft.keyword(Keyword::ParB)?;
@@ -372,7 +378,8 @@ fn write_releasing(
     form: Releasing,
     draft: &mut Draft,
 ) -> Result<(), AllocError>
-    requires { PartsWithin program.now id (nodes.Releasing form) }
+    requires within { PartsWithin program.now id (nodes.Releasing form) }
+    requires form_held { HoldsTermParts program.now (nodes.Releasing form) }
     ensures { OnOk result (draft.new ≡ append_tokens draft.old (spell_term version (term_of program.now (nodes.Releasing form)))) }
 {
     draft.keyword(releasing_word(form.shown))?;
@@ -397,7 +404,8 @@ fn write_editing(
     form: Editing,
     draft: &mut Draft,
 ) -> Result<(), AllocError>
-    requires { PartsWithin program.now id (nodes.Editing form) }
+    requires within { PartsWithin program.now id (nodes.Editing form) }
+    requires form_held { HoldsTermParts program.now (nodes.Editing form) }
     ensures { OnOk result (draft.new ≡ append_tokens draft.old (spell_term version (term_of program.now (nodes.Editing form)))) }
 {
     draft.keyword(editing_word(form.shown))?;
@@ -421,7 +429,9 @@ fn write_edit(
     edit: CollectionId,
     draft: &mut Draft,
 ) -> Result<(), AllocError>
-    requires { IsWithin program.now form (collection_node program.now edit) }
+    requires within { IsWithin program.now form (collection_node program.now edit) }
+    requires pattern_held { HoldsPattern (program_expressions program.now) pattern }
+    requires edit_held { HoldsWhole program.now edit }
     ensures { OnOk result (draft.new ≡ append_tokens draft.old (spell_mapping (spell_pattern (pattern_of (placed_pattern program.now pattern))) (spell_collection version (collection_tree program.now edit)))) }
 {
     write_pattern(program.expressions().placed(pattern), draft)?;
@@ -438,13 +448,11 @@ fn write_members(
     members: CollectionId,
     draft: &mut Draft,
 ) -> Result<(), AllocError>
-    requires { IsWithin program.now form (collection_node program.now members) }
+    requires within { IsWithin program.now form (collection_node program.now members) }
+    requires members_held { HoldsWhole program.now members }
     ensures { OnOk result (draft.new ≡ append_tokens draft.old (spell_collection version (collection_tree program.now members))) }
 {
-    match program.collection(members) {
-        Some(collection) => write_collection(program, version, form, collection, draft),
-        None => write_absent(version, draft),
-    }
+    write_collection(program, version, form, program.collection(members), draft)
 }
 
 /// Appends a collection that stands in a form.
@@ -457,7 +465,8 @@ fn write_collection(
     collection: &CollExpr,
     draft: &mut Draft,
 ) -> Result<(), AllocError>
-    requires { IsWithin program.now form collection.now }
+    requires within { IsWithin program.now form collection.now }
+    requires collection_held { HoldsMembers program.now collection.now }
     ensures { OnOk result (draft.new ≡ append_tokens draft.old (spell_collection version (collection_of program.now collection.now))) }
 {
     match collection {
@@ -511,6 +520,9 @@ fn write_added(
 ) -> Result<(), AllocError>
     requires members_within { IsWithin program.now form added.now.members.now }
     requires term_before { term_number added.now.term < term_number form }
+    requires members_held { HoldsMembers program.now added.now.members.now }
+    requires key_held { Holds (program_expressions program.now) added.now.key }
+    requires term_held { HoldsTerm program.now added.now.term }
     ensures { OnOk result (draft.new ≡ append_tokens draft.old (spell_collection version (Trees.added (collection_of program.now added.now.members.now) (program_expression program.now added.now.key) (tree program.now added.now.term)))) }
 {
     draft.keyword(Keyword::Add)?;
@@ -534,7 +546,9 @@ fn write_dropped(
     key: ExprId,
     draft: &mut Draft,
 ) -> Result<(), AllocError>
-    requires { IsWithin program.now form members.now }
+    requires within { IsWithin program.now form members.now }
+    requires members_held { HoldsMembers program.now members.now }
+    requires key_held { Holds (program_expressions program.now) key }
     ensures { OnOk result (draft.new ≡ append_tokens draft.old (spell_collection version (dropped (collection_of program.now members.now) (program_expression program.now key)))) }
 {
     draft.keyword(Keyword::Drop)?;
@@ -556,7 +570,9 @@ fn write_kept(
     function: FunctionId,
     draft: &mut Draft,
 ) -> Result<(), AllocError>
-    requires { IsWithin program.now form members.now }
+    requires within { IsWithin program.now form members.now }
+    requires members_held { HoldsMembers program.now members.now }
+    requires function_held { HoldsFunction (program_expressions program.now) function }
     ensures { OnOk result (draft.new ≡ append_tokens draft.old (spell_collection version (kept (collection_of program.now members.now) (program_function program.now function)))) }
 {
     draft.keyword(Keyword::Keep)?;
@@ -587,6 +603,9 @@ fn write_chosen(
 ) -> Result<(), AllocError>
     requires first_within { IsWithin program.now form chosen.now.first.now }
     requires second_within { IsWithin program.now form chosen.now.second.now }
+    requires condition_held { Holds (program_expressions program.now) chosen.now.condition }
+    requires first_held { HoldsMembers program.now chosen.now.first.now }
+    requires second_held { HoldsMembers program.now chosen.now.second.now }
     ensures { OnOk result (draft.new ≡ append_tokens draft.old (spell_collection version (Trees.chosen (program_expression program.now chosen.now.condition) (collection_of program.now chosen.now.first.now) (collection_of program.now chosen.now.second.now)))) }
 {
     draft.keyword(Keyword::If)?;
@@ -608,7 +627,9 @@ fn write_call(
     arguments: &[Argument],
     draft: &mut Draft,
 ) -> Result<(), AllocError>
-    requires { All (ArgumentWithin program.now call) arguments.now }
+    requires within { All (ArgumentWithin program.now call) arguments.now }
+    requires name_held { HoldsName (program_expressions program.now) name }
+    requires arguments_held { All (HoldsArgument program.now) arguments.now }
     ensures { OnOk result (draft.new ≡ append_tokens draft.old (spell_term version (reference (Trees.call (name_at (program_expressions program.now) name) (arguments_of program.now arguments.now))))) }
 {
     draft.name(program.expressions().name_of(name))?;
@@ -632,7 +653,8 @@ fn write_further(
     arguments: &[Argument],
     draft: &mut Draft,
 ) -> Result<(), AllocError>
-    requires { All (ArgumentWithin program.now call) arguments.now }
+    requires within { All (ArgumentWithin program.now call) arguments.now }
+    requires arguments_held { All (HoldsArgument program.now) arguments.now }
     ensures { OnOk result (draft.new ≡ append_tokens draft.old (spell_further (spell_arguments version (arguments_of program.now arguments.now)))) }
 {
     for argument in arguments {
@@ -652,7 +674,8 @@ fn write_argument(
     argument: Argument,
     draft: &mut Draft,
 ) -> Result<(), AllocError>
-    requires { ArgumentWithin program.now call argument }
+    requires within { ArgumentWithin program.now call argument }
+    requires argument_held { HoldsArgument program.now argument }
     ensures { OnOk result (draft.new ≡ append_tokens draft.old (spell_argument version program.now argument)) }
 {
     match argument {

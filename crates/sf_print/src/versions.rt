@@ -1,9 +1,9 @@
 //! Which version of a text a network takes.
 ghost use Rattle.std.specs.Prelude.{◌≡◌, All};
-ghost use Rattle.sf_expr.specs.Arena.{expression};
+ghost use Rattle.sf_expr.specs.Arena.{expression, Holds, HoldsFunction};
 ghost use Rattle.sf_term.specs.declared.node.Node.TheVariants as nodes;
 ghost use Rattle.sf_term.specs.ParameterView.{kind_of_form};
-ghost use Rattle.sf_term.specs.Arena.{tree, term_of, program_expression, program_function, templates_of, term_template, arguments_of, collection_node, collection_of, collection_tree};
+ghost use Rattle.sf_term.specs.Arena.{tree, term_of, program_expressions, program_expression, program_function, templates_of, term_template, arguments_of, collection_node, collection_of, collection_tree, HoldsTerm, HoldsTermParts, HoldsArgument, HoldsMembers, HoldsWhole};
 ghost use Rattle.sf_value.specs.KindView.{key_kind_of};
 ghost use Rattle.sf_print.specs.Versions.{are_texts, type_needs_two, literal_needs_two, expression_needs_two, function_needs_two, term_needs_two, collection_needs_two, arguments_need_two, name_kind_needs_two, template_needs_two, network_needs_two, parameters_need_two};
 ghost use Rattle.sf_print.specs.Arguments.{argument_needs_two, IsWithin, ArgumentWithin, PartsWithin};
@@ -50,6 +50,7 @@ fn constant_needs_two(constant: &Constant) -> bool
 
 /// The same of the types in the expression at an id.
 fn expression_needs_two(exprs: &Exprs, id: ExprId) -> bool
+    requires { Holds exprs.now id }
     ensures { result ≡ expression_needs_two (expression exprs.now id) }
 {
     match exprs.node(id) {
@@ -85,6 +86,7 @@ fn expression_needs_two(exprs: &Exprs, id: ExprId) -> bool
 /// The same of an expression of a program.
 #[tactic(auto, unfolding(sf_term::specs::Arena::program_expression, sf_term::specs::Arena::program_expressions))]
 fn value_needs_two(program: &Program, value: ExprId) -> bool
+    requires { Holds (program_expressions program.now) value }
     ensures { result ≡ expression_needs_two (program_expression program.now value) }
 {
     expression_needs_two(program.expressions(), value)
@@ -93,6 +95,7 @@ fn value_needs_two(program: &Program, value: ExprId) -> bool
 /// The same of a function of a program.
 #[tactic(auto, unfolding(sf_term::specs::Arena::program_expression, sf_term::specs::Arena::program_expressions, sf_term::specs::Arena::function_pattern_at, sf_term::specs::Arena::function_body_at))]
 fn function_needs_two(program: &Program, function: FunctionId) -> bool
+    requires { HoldsFunction (program_expressions program.now) function }
     ensures { result ≡ function_needs_two (program_function program.now function) }
 {
     let exprs = program.expressions();
@@ -101,6 +104,7 @@ fn function_needs_two(program: &Program, function: FunctionId) -> bool
 
 /// The same of a primitive.
 fn primitive_needs_two(program: &Program, primitive: Primitive) -> bool
+    requires { HoldsTermParts program.now (nodes.Primitive primitive) }
     ensures { result ≡ term_needs_two (term_of program.now (nodes.Primitive primitive)) }
 {
     match primitive {
@@ -119,6 +123,7 @@ fn primitive_needs_two(program: &Program, primitive: Primitive) -> bool
 /// Whether a Text key or `fresh` stands in the term at an id.
 #[cycle(needs)]
 fn term_needs_two(program: &Program, id: TermId) -> bool
+    requires { HoldsTerm program.now id }
     ensures { result ≡ term_needs_two (tree program.now id) }
 {
     match program.node(id) {
@@ -156,7 +161,8 @@ fn term_needs_two(program: &Program, id: TermId) -> bool
 /// The same of members that give way to a term.
 #[cycle(needs)]
 fn releasing_needs_two(program: &Program, id: TermId, form: Releasing) -> bool
-    requires { PartsWithin program.now id (nodes.Releasing form) }
+    requires within { PartsWithin program.now id (nodes.Releasing form) }
+    requires form_held { HoldsTermParts program.now (nodes.Releasing form) }
     ensures { result ≡ term_needs_two (term_of program.now (nodes.Releasing form)) }
 {
     members_need_two(program, id, form.members)
@@ -167,19 +173,18 @@ fn releasing_needs_two(program: &Program, id: TermId, form: Releasing) -> bool
 /// The same of the collection at an id, which stands in a form.
 #[cycle(needs)]
 fn members_need_two(program: &Program, form: TermId, members: CollectionId) -> bool
-    requires { IsWithin program.now form (collection_node program.now members) }
+    requires within { IsWithin program.now form (collection_node program.now members) }
+    requires members_held { HoldsWhole program.now members }
     ensures { result ≡ collection_needs_two (collection_tree program.now members) }
 {
-    match program.collection(members) {
-        Some(collection) => collection_needs_two(program, form, collection),
-        None => false,
-    }
+    collection_needs_two(program, form, program.collection(members))
 }
 
 /// The same of a collection that stands in a form.
 #[cycle(needs)]
 fn collection_needs_two(program: &Program, form: TermId, collection: &CollExpr) -> bool
-    requires { IsWithin program.now form collection.now }
+    requires within { IsWithin program.now form collection.now }
+    requires collection_held { HoldsMembers program.now collection.now }
     ensures { result ≡ collection_needs_two (collection_of program.now collection.now) }
 {
     match collection {
@@ -207,7 +212,8 @@ fn collection_needs_two(program: &Program, form: TermId, collection: &CollExpr) 
 /// The same of the arguments of a call.
 #[cycle(needs)]
 fn arguments_need_two(program: &Program, call: TermId, arguments: &[Argument]) -> bool
-    requires { All (ArgumentWithin program.now call) arguments.now }
+    requires within { All (ArgumentWithin program.now call) arguments.now }
+    requires arguments_held { All (HoldsArgument program.now) arguments.now }
     ensures { result ≡ arguments_need_two (arguments_of program.now arguments.now) }
 {
     for argument in arguments {
@@ -221,7 +227,8 @@ fn arguments_need_two(program: &Program, call: TermId, arguments: &[Argument]) -
 /// The same of an argument of a call.
 #[cycle(needs)]
 fn argument_needs_two(program: &Program, call: TermId, argument: Argument) -> bool
-    requires { ArgumentWithin program.now call argument }
+    requires within { ArgumentWithin program.now call argument }
+    requires argument_held { HoldsArgument program.now argument }
     ensures { result ≡ argument_needs_two program.now argument }
 {
     match argument {
@@ -259,6 +266,7 @@ fn parameters_need_two(parameters: &[Parameter]) -> bool
 /// The same of a template.
 #[tactic(auto, using(crate::proofs::Needing::parameters_need))]
 fn template_needs_two(program: &Program, template: &Template) -> bool
+    requires { HoldsTerm program.now template.now.body }
     ensures { result ≡ template_needs_two (term_template program.now template.now) }
 {
     parameters_need_two(template.parameters())

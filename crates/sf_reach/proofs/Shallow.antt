@@ -1,21 +1,18 @@
 -- How deep collections are.
-use Rattle.std.proofs.Common.{◌≡◌, ℕ, zero, suc, ◌<◌, ◌≤◌, length, List, [], ◌∷◌, get_or, Option, Some, None, Bor, ap, sym, ◌∙◌, subst, arith}
-use Rattle.std.specs.Option.{option_map, unwrap_or}
+use Rattle.std.proofs.Common.{◌≡◌, ℕ, zero, suc, ◌<◌, ◌≤◌, length, List, [], ◌∷◌, get_or, sym, subst, arith}
 use Rattle.sf_term.specs.declared.node.TermId.{TermId}
 use Rattle.sf_term.specs.declared.node.ArgumentsId.{ArgumentsId}
 use Rattle.sf_expr.specs.declared.exprs.NameId.{NameId}
 use Rattle.sf_term.specs.declared.node.Argument.{Argument}
 use Rattle.sf_term.specs.declared.node.Argument.TheVariants as arguments
 use Rattle.sf_term.specs.declared.collection.CollectionId.{CollectionId}
-use Rattle.sf_term.specs.declared.collection.CollExpr.{CollExpr}
-use Rattle.sf_term.specs.Entries.{absent_collection}
 use Rattle.sf_term.specs.declared.node.Releasing.{Releasing}
 use Rattle.sf_term.specs.declared.node.Editing.{Editing}
 use Rattle.sf_term.specs.declared.node.Node.{Node}
 use Rattle.sf_term.specs.declared.node.Node.TheVariants as nodes
 use Rattle.sf_term.specs.declared.program.Program.{Program}
 use Rattle.sf_term.specs.Trees.{term_depth, collection_depth, arguments_depth}
-use Rattle.sf_term.specs.Arena.{tree, term_node_at, term_of, arguments_of, argument_nodes, collection_tree}
+use Rattle.sf_term.specs.Arena.{term_node_at, term_of, arguments_of, argument_nodes, collection_tree}
 use Rattle.sf_term.proofs.Extended.{node_builds, tree_shallow}
 
 -- the term of a node is no deeper than terms are
@@ -51,10 +48,3 @@ pub rest_shallow : (p : Program) (v : Argument) (vs : List Argument) → argumen
 rest_shallow p (arguments.Value e) vs h = omega arith
 rest_shallow p (arguments.Process t) vs h = omega arith
 rest_shallow p (arguments.Collection c) vs h = omega arith
-
--- the collection that is found at an id, and the one that stands for none
-pub found_there : {o : Option (Bor CollExpr)} {c : Bor CollExpr} {d : CollExpr} → unwrap_or (option_map (λ (c : Bor CollExpr). c.now) o) absent_collection ≡ d → o ≡ Some c → c.now ≡ d
-found_there h is = ap (λ o. unwrap_or (option_map (λ (c : Bor CollExpr). c.now) o) absent_collection) (sym is) ∙ h
-
-pub absent_there : {o : Option (Bor CollExpr)} {d : CollExpr} → unwrap_or (option_map (λ (c : Bor CollExpr). c.now) o) absent_collection ≡ d → o ≡ None → absent_collection ≡ d
-absent_there h is = ap (λ o. unwrap_or (option_map (λ (c : Bor CollExpr). c.now) o) absent_collection) (sym is) ∙ h

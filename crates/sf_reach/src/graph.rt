@@ -1,7 +1,7 @@
 //! The calls in templates.
 ghost use Rattle.std.specs.Prelude.{◌≡◌, ◌≤◌, IfOk, OnOk, All};
 ghost use Rattle.sf_term.specs.Trees.{collection_depth, arguments_depth};
-ghost use Rattle.sf_term.specs.Arena.{ArgumentBelow, CollectionBelow, arguments_of, collection_of, collection_node, term_number};
+ghost use Rattle.sf_term.specs.Arena.{ArgumentBelow, CollectionBelow, arguments_of, collection_of, collection_node, term_number, HoldsTerm, HoldsWhole, HoldsMembers, HoldsArgument};
 ghost use Rattle.sf_reach.specs.Names.{names_of_set, program_names};
 ghost use Rattle.sf_reach.specs.Graphs.{AddsCalls, AddsMemberCalls, AddsArgumentCalls, IsGraphOf, StaysWithin};
 
@@ -50,7 +50,8 @@ fn gather(
     term: TermId,
     calls: &mut Vec<Call>,
 ) -> Result<(), AllocError>
-    requires { names_of_set names.now ≡ program_names program.now }
+    requires names { names_of_set names.now ≡ program_names program.now }
+    requires held { HoldsTerm program.now term }
     ensures { OnOk result (AddsCalls program.now term calls.old.items calls.new.items) }
 {
     match program.node(term) {
@@ -96,12 +97,10 @@ fn gather_at(
     requires names { names_of_set names.now ≡ program_names program.now }
     requires below { CollectionBelow (term_number form) (collection_node program.now members) }
     requires shallow { collection_depth (collection_of program.now (collection_node program.now members)) ≤ 64 }
+    requires held { HoldsWhole program.now members }
     ensures { OnOk result (AddsMemberCalls program.now (collection_node program.now members) calls.old.items calls.new.items) }
 {
-    match program.collection(members) {
-        Some(collection) => gather_members(program, names, form, collection, calls),
-        None => Ok(()),
-    }
+    gather_members(program, names, form, program.collection(members), calls)
 }
 
 /// Puts the calls in a collection, which a form has, behind others.
@@ -116,6 +115,7 @@ fn gather_members(
     requires names { names_of_set names.now ≡ program_names program.now }
     requires below { CollectionBelow (term_number form) collection.now }
     requires shallow { collection_depth (collection_of program.now collection.now) ≤ 64 }
+    requires held { HoldsMembers program.now collection.now }
     ensures { OnOk result (AddsMemberCalls program.now collection.now calls.old.items calls.new.items) }
 {
     match collection {
@@ -146,6 +146,7 @@ fn gather_arguments(
     requires names { names_of_set names.now ≡ program_names program.now }
     requires below { All (ArgumentBelow program.now (term_number call)) arguments.now }
     requires shallow { arguments_depth (arguments_of program.now arguments.now) ≤ 64 }
+    requires held { All (HoldsArgument program.now) arguments.now }
     ensures { OnOk result (AddsArgumentCalls program.now arguments.now calls.old.items calls.new.items) }
 {
     for argument in arguments {

@@ -11,6 +11,8 @@ use Rattle.sf_func.specs.Registries.{AnswersByName}
 use Rattle.sf_expr.specs.Expressions.{Pattern, unnamed, named, both}
 use Rattle.sf_expr.specs.Evaluation.{scope_functions, value_name, other_name, bound_in}
 use Rattle.sf_expr.specs.Meanings.{place_behind}
+use Rattle.sf_expr.specs.Numbered.{TellsName}
+use Rattle.sf_expr.specs.declared.exprs.numbers.NumberedPattern.TheVariants.{Unnamed}
 use Rattle.sf_expr.specs.Patterns.{pattern_of}
 use Rattle.sf_expr.specs.declared.exprs.NameId.{NameId}
 use Rattle.sf_expr.specs.declared.exprs.PatternId.{PatternId}
@@ -40,6 +42,12 @@ use Rattle.sf_state.specs.declared.state.Process as process_states
 use Rattle.sf_state.specs.Names.{given_value, handed_of, given_members, given_at, values_given, values_inside, values_around}
 use Rattle.sf_state.specs.Standing.{IsNames, is_empty, is_bound, is_running, is_collected, is_called, closed_over, IsProcess, Stands, AreGiven, nothing_given, value_is_given, process_is_given, members_are_given, Gathers, AreFound, IsHanded, IsFound}
 use Rattle.sf_state.specs.Machine.{Machine}
+
+-- a pattern that its numbers show to bind nothing is the one that binds nothing
+pub nothing_told : (m : ℕ) (x : Name) (p : Pattern) → TellsName m x Unnamed p → p ≡ unnamed
+nothing_told m x unnamed h = refl
+nothing_told m x (named y) h = absurd h
+nothing_told m x (both p q) h = absurd h
 
 pub functions_around : (φ : AnswersByName) (e : Environment) → scope_functions (scope_around φ e) ≡ φ
 functions_around φ empty = refl

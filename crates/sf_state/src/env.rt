@@ -1,5 +1,5 @@
 //! What names stand for.
-ghost use Rattle.std.specs.Prelude.{◌≡◌, ◌<◌, ◌≤◌, [], bytes_eq, option_map, IsTrue, IfOk, IfSome};
+ghost use Rattle.std.specs.Prelude.{◌≡◌, ℕ, ◌<◌, ◌≤◌, [], bytes_eq, option_map, IsTrue, IfOk, IfSome};
 ghost use Rattle.std.specs.Map.{lookup};
 ghost use Rattle.sf_func.specs.Registries.{AnswersByName};
 ghost use Rattle.sf_expr.specs.Arena.{stored_pattern, name_at};
@@ -30,7 +30,7 @@ ghost use Rattle.sf_state.specs.Machine.{Machine, machine};
 
 use crate::state::{Gathered, Process, State};
 use sf_code::Names;
-use sf_expr::{Exprs, NameId, NumberedPattern, Pat, PatForm, PatternId};
+use sf_expr::{Exprs, NameId, NumberedPattern, PatternId};
 use sf_law::{Binder, Mentioned, Plan, PlanId, TemplateId};
 use sf_value::{Form, Value};
 use std::alloc::{AllocError, Global};
@@ -536,21 +536,22 @@ impl Env {
         }
     }
 
-    /// These names, and inside them those of a pattern of these expressions that is bound to a value. It takes no memory
-    /// where the pattern binds nothing. The error is a want of memory, or too many owners.
+    /// These names, and inside them those of a pattern that is bound to a value. It takes no memory where the pattern binds
+    /// nothing. The error is a want of memory, or too many owners.
     #[inline(always)]
     pub fn inside(
         &self,
         alloc: Global,
-        expressions: &Exprs,
+        plan: &Plan,
         pattern: PatternId,
         value: Rc<Value>,
     ) -> Result<Env, AllocError>
-        ensures { IfOk result (λ names. (μ : Machine) → expressions.now ≡ plan_expressions μ.plan → (e : Environment) → IsNames μ self.now e →
-            IsNames μ names (bind (pattern_of (stored_pattern (plan_expressions μ.plan) pattern)) value.value e)) }
+        ensures { let p = plan.now in
+            IfOk result (λ names. (φ : AnswersByName) (e : Environment) → IsNames (machine φ p) self.now e →
+            IsNames (machine φ p) names (bind (pattern_of (stored_pattern (plan_expressions p) pattern)) value.value e)) }
     {
         let around = self.share()?;
-        if binds_nothing(expressions.placed(pattern)) {
+        if binds_nothing(plan.numbered(pattern)) {
             return Ok(around);
         }
         let binding = Rc::new(
@@ -742,12 +743,13 @@ impl Env {
 }
 
 // Whether a pattern is the one that binds nothing.
-fn binds_nothing(pattern: &Pat) -> bool
-    ensures { IsTrue result → pattern_of pattern.now ≡ unnamed }
+#[tactic(auto, using(crate::proofs::Scopes::nothing_told))]
+fn binds_nothing(pattern: &NumberedPattern) -> bool
+    ensures { IsTrue result → (m : ℕ) (x : Name) (p : Pattern) → TellsName m x pattern.now p → p ≡ unnamed }
 {
-    match pattern.form() {
-        PatForm::Unnamed => true,
-        PatForm::Name(_, _) | PatForm::Both(_, _) => false,
+    match pattern {
+        NumberedPattern::Unnamed => true,
+        NumberedPattern::Name(_) | NumberedPattern::Both(_, _) => false,
     }
 }
 

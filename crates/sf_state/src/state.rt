@@ -680,7 +680,7 @@ impl Switch {
             IfOk result (λ begun. (φ : AnswersByName) (e : Environment) → IsNames (machine φ p) names.now e →
             Stands (machine φ p) begun (body_of (pattern_of (stored_pattern (plan_expressions p) self.now.pattern)) (plan_tree p self.now.body) e payload.value) []) }
     {
-        let around = names.inside(alloc, plan.expressions(), self.pattern, payload)?;
+        let around = names.inside(alloc, plan, self.pattern, payload)?;
         Ok(State::Unborn(Process {
             term: self.body,
             names: around,
@@ -731,7 +731,7 @@ impl Continuation {
             base,
         };
         let known = names.with_process(alloc, self.name, handed)?;
-        let around = known.inside(alloc, plan.expressions(), self.pattern, payload)?;
+        let around = known.inside(alloc, plan, self.pattern, payload)?;
         Ok(State::Unborn(Process {
             term: self.body,
             names: around,
@@ -792,7 +792,7 @@ impl Releasing {
             (bind (pattern_of (stored_pattern (plan_expressions p) self.now.pattern)) payload.value (collected (name_at (plan_expressions p) self.now.name) (each_frozen ms L wait) e))) []) }
     {
         let known = names.with_frozen(alloc, self.name, &self.before, wait)?;
-        let around = known.inside(alloc, plan.expressions(), self.pattern, payload)?;
+        let around = known.inside(alloc, plan, self.pattern, payload)?;
         Ok(State::Unborn(Process {
             term: self.body,
             names: around,
@@ -817,7 +817,7 @@ impl Editing {
             IsNames (machine φ p) inside (bind (pattern_of (stored_pattern (plan_expressions p) self.now.pattern)) payload.value (collected (name_at (plan_expressions p) self.now.name) (each_frozen ms L wait) e))) }
     {
         let known = names.with_frozen(alloc, self.name, &self.members, wait)?;
-        let around = known.inside(alloc, plan.expressions(), self.pattern, payload)?;
+        let around = known.inside(alloc, plan, self.pattern, payload)?;
         Ok(around)
     }
 }

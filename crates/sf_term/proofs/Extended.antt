@@ -54,7 +54,7 @@ use Rattle.sf_term.proofs.Entered.{term-built, term-same, NeedsAreThere, MoreLis
 -- what a collection needs is there where what it names is held
 pub members_end : (p : Program) (c : CollExpr) → HoldsMembers p c
     → (stored_terms c ≤ length (entries_of p.terms)) × (stored_expressions c ≤ arena_count p.expressions) × (stored_functions c ≤ function_count p.expressions) × (stored_names c ≤ name_count p.expressions)
-unfolding program_expressions HoldsTerm HoldsExpression ProgramHoldsFunction
+unfolding program_expressions HoldsTerm
 members_end p (collections.Empty k t s) h = (omega arith, omega arith, omega arith, omega arith)
 members_end p (collections.Used k r s) h = (omega arith, omega arith, omega arith, omega (arith, name_below p.expressions k h))
 members_end p (collections.Added' a c e t s) h = let k = members_end p c h.0 in (omega (arith, k.0, h.2), omega (arith, k.1, holds_below p.expressions e h.1), k.2, k.3)
@@ -67,7 +67,7 @@ members_end p (collections.Chosen' e a c b d s) h =
 
 -- what arguments need is there where they are held
 arguments_end : (p : Program) (vs : List Argument) → All (HoldsArgument p) vs → (terms_end (term_base p) vs ≤ length (entries_of p.terms)) × (expressions_end vs ≤ arena_count p.expressions) × (collections_end vs ≤ length (collections_in p.collections.items))
-unfolding HoldsTerm HoldsExpression HoldsCollection collection_node
+unfolding program_expressions HoldsTerm HoldsCollection collection_node
 arguments_end p [] h = (omega arith, omega arith, omega arith)
 arguments_end p (arguments.Value e ∷ vs) h =
     let k = arguments_end p vs (All-tail (HoldsArgument p) _ vs h) in
@@ -83,7 +83,7 @@ arguments_end p (arguments.Collection c ∷ vs) h =
 
 -- what a node needs is there where its parts are held
 pub parts_needed : (p : Program) (n : Node) → HoldsTermParts p n → NeedsAreThere (term_base p) (entries_of p.terms) n
-unfolding program_expressions HoldsTerm HoldsExpression ProgramHoldsFunction ProgramHoldsPattern HoldsArguments argument_nodes HoldsCollection collection_node
+unfolding program_expressions HoldsTerm HoldsArguments argument_nodes HoldsCollection collection_node
 parts_needed p (nodes.Primitive (primitives.Bare k)) h = record { terms = omega arith; expressions = omega arith; functions = omega arith; patterns = omega arith; names = omega arith; constants = omega arith; arguments = omega arith; collections = omega arith }
 parts_needed p (nodes.Primitive (primitives.Never n)) h = record { terms = omega arith; expressions = omega arith; functions = omega arith; patterns = omega arith; names = omega arith; constants = omega (arith, constant_below p.expressions n h); arguments = omega arith; collections = omega arith }
 parts_needed p (nodes.Primitive (primitives.WithValue k e)) h = record { terms = omega arith; expressions = omega (arith, holds_below p.expressions e h); functions = omega arith; patterns = omega arith; names = omega arith; constants = omega arith; arguments = omega arith; collections = omega arith }
@@ -246,7 +246,7 @@ same_base old new e f = ap₂ (λ (x : Exprs) (ls : StoredLists). record { expre
 
 -- the trees stay where an entry is added
 added_keeps : (old new : Program) (entry : Entry Node) (n : ℕ) → new.expressions ≡ old.expressions → lists_of new ≡ lists_of old → Added (entries_of old.terms) (entries_of new.terms) entry n → ExtendsTrees old new
-unfolding HoldsTerm HoldsExpression ProgramHoldsFunction ProgramHoldsPattern HoldsArguments HoldsCollection program_expressions tree term_node_at term_spot_at program_expression expression_node_at expression_spot_at function_pattern_at function_body_at placed_pattern argument_nodes collection_node
+unfolding HoldsTerm HoldsArguments HoldsCollection program_expressions tree term_node_at term_spot_at program_expression expression_node_at expression_spot_at function_pattern_at function_body_at placed_pattern argument_nodes collection_node
 added_keeps old new entry n same lists added = record {
   terms = λ t h. omega (arith, added_counted _ _ _ _ added);
   nodes = λ t h. ap (λ (e : Entry Node). e.node) (other t h);
@@ -293,7 +293,7 @@ adds_added old new n d s id same lists added headers measured = record {
 
 -- the trees stay where the expressions grow
 grown_keeps : (old new : Program) → Extends old.expressions new.expressions → MoreLists (lists_of old) (lists_of new) → entries_of new.terms ≡ entries_of old.terms → ExtendsTrees old new
-unfolding HoldsTerm HoldsExpression ProgramHoldsFunction ProgramHoldsPattern HoldsArguments HoldsCollection program_expressions tree term_node_at term_spot_at program_expression expression_node_at expression_spot_at function_pattern_at function_body_at placed_pattern argument_nodes collection_node
+unfolding HoldsTerm HoldsArguments HoldsCollection program_expressions tree term_node_at term_spot_at program_expression expression_node_at expression_spot_at function_pattern_at function_body_at placed_pattern argument_nodes collection_node
 grown_keeps old new k m e = record {
   terms = λ t h. omega (arith, ap length e);
   nodes = λ t h. ap (λ es. (term_entry es t.0).node) e;
@@ -319,7 +319,7 @@ grown_keeps old new k m e = record {
 
 -- what is added to the expressions is added to the program
 pub adds_expression : (old new : Program) (id : ExprId) (n : ExprNode) (e : Expression) (s : Spot) → Adds old.expressions new.expressions id n e s → MoreLists (lists_of old) (lists_of new) → entries_of new.terms ≡ entries_of old.terms → headers_of new ≡ headers_of old → AddsExpression old new id n e s
-unfolding HoldsExpression program_expression expression_node_at expression_spot_at term_count expression_count
+unfolding program_expressions program_expression expression_node_at expression_spot_at term_count expression_count
 adds_expression old new id n e s a m same headers = record {
   within = a.within;
   fresh = a.fresh;
@@ -333,7 +333,7 @@ adds_expression old new id n e s a m same headers = record {
 
 -- a function that is added to the expressions is added to the program
 pub adds_function : (old new : Program) (f : FunctionId) (q : PlacedPattern) (b : ExprId) → AddsFunction old.expressions new.expressions f q b → MoreLists (lists_of old) (lists_of new) → entries_of new.terms ≡ entries_of old.terms → headers_of new ≡ headers_of old → AddsProgramFunction old new f q b
-unfolding ProgramHoldsFunction program_expression function_pattern_at function_body_at term_count expression_count
+unfolding program_expressions program_expression function_pattern_at function_body_at term_count expression_count
 adds_function old new f q b a m same headers = record {
   within = a.within;
   fresh = a.fresh;
@@ -378,7 +378,7 @@ adds_template old new h same m terms headers held = record {
 
 -- what shows the same
 pub unchanged : (old new : Program) → IsUnchanged old.expressions new.expressions → MoreLists (lists_of old) (lists_of new) → entries_of new.terms ≡ entries_of old.terms → headers_of new ≡ headers_of old → IsSameProgram old new
-unfolding term_count expression_count tree term_node_at term_spot_at program_expression expression_node_at expression_spot_at ProgramHoldsFunction ProgramHoldsPattern HoldsArguments HoldsCollection program_expressions function_pattern_at function_body_at placed_pattern argument_nodes collection_node
+unfolding term_count expression_count tree term_node_at term_spot_at program_expression expression_node_at expression_spot_at HoldsArguments HoldsCollection program_expressions function_pattern_at function_body_at placed_pattern argument_nodes collection_node
 unchanged old new x m terms headers = record {
   term_counted = ap length terms;
   expression_counted = x.count;
@@ -440,7 +440,7 @@ unchanged_beside x y u = record { kept = Entered.unchanged_keeps x y u; nodes = 
 
 -- a program shows the same where something is added beside its nodes
 pub put_beside : (old new : Program) → AddsBeside old.expressions new.expressions → MoreLists (lists_of old) (lists_of new) → entries_of new.terms ≡ entries_of old.terms → headers_of new ≡ headers_of old → IsSameProgram old new
-unfolding term_count expression_count tree term_node_at term_spot_at program_expression expression_node_at expression_spot_at ProgramHoldsFunction ProgramHoldsPattern HoldsArguments HoldsCollection program_expressions function_pattern_at function_body_at placed_pattern argument_nodes collection_node
+unfolding term_count expression_count tree term_node_at term_spot_at program_expression expression_node_at expression_spot_at HoldsArguments HoldsCollection program_expressions function_pattern_at function_body_at placed_pattern argument_nodes collection_node
 put_beside old new x m terms headers = record {
   term_counted = ap length terms;
   expression_counted = x.count;
@@ -466,7 +466,7 @@ put_beside old new x m terms headers = record {
 
 -- an unchanged program keeps what it held
 pub unchanged_keeps : (old new : Program) → IsSameProgram old new → ExtendsProgram old new
-unfolding HoldsTerm HoldsExpression term_count expression_count
+unfolding program_expressions HoldsTerm term_count expression_count
 unchanged_keeps old new u = keeps_of old new (record {
   terms = λ t h. omega (arith, u.term_counted);
   nodes = λ t h. u.nodes t;
@@ -552,7 +552,7 @@ below_count_holds p t h = h
 
 -- what a collection names is held where it is there
 members_held : (p : Program) (c : CollExpr) → stored_terms c ≤ length (entries_of p.terms) → stored_expressions c ≤ arena_count p.expressions → stored_functions c ≤ function_count p.expressions → stored_names c ≤ name_count p.expressions → HoldsMembers p c
-unfolding program_expressions HoldsTerm HoldsExpression ProgramHoldsFunction
+unfolding program_expressions HoldsTerm
 members_held p (collections.Empty k t s) h e f n = tt
 members_held p (collections.Used k r s) h e f n = below_name p.expressions k (omega arith)
 members_held p (collections.Added' a c j t s) h e f n = (members_held p c (omega arith) (omega arith) f n, below_holds p.expressions j (omega arith), omega arith)
@@ -568,7 +568,7 @@ whole_held p c h k = (h, members_held p (collection_node p c) k (p.arena.stored_
 
 -- arguments are held where what they need is there
 arguments_held : (p : Program) (vs : List Argument) → terms_end (term_base p) vs ≤ length (entries_of p.terms) → expressions_end vs ≤ arena_count p.expressions → collections_end vs ≤ length (collections_in p.collections.items) → All (HoldsArgument p) vs
-unfolding HoldsTerm HoldsExpression
+unfolding program_expressions HoldsTerm
 arguments_held p [] h k l = All-nil (HoldsArgument p)
 arguments_held p (arguments.Value e ∷ vs) h k l = All-cons (HoldsArgument p) _ vs (below_holds p.expressions e (omega arith)) (arguments_held p vs h (omega arith) l)
 arguments_held p (arguments.Process t ∷ vs) h k l = All-cons (HoldsArgument p) _ vs (omega arith) (arguments_held p vs (omega arith) k l)
@@ -576,7 +576,7 @@ arguments_held p (arguments.Collection c ∷ vs) h k l = All-cons (HoldsArgument
 
 -- the parts of a node are held
 pub parts_held : (p : Program) (t : TermId) → HoldsTermParts p (program_entry p t).node
-unfolding program_expressions program_entry HoldsTerm HoldsExpression ProgramHoldsFunction ProgramHoldsPattern HoldsArguments argument_nodes
+unfolding program_expressions program_entry HoldsTerm HoldsArguments argument_nodes
 parts_held p t = of_node (term_entry (entries_of p.terms) t.0).node needed
   where
     entry_needs : (t.0 < length (entries_of p.terms)) ⊎ (length (entries_of p.terms) ≤ t.0) → needs_terms (term_base p) (term_entry (entries_of p.terms) t.0).node ≤ length (entries_of p.terms)
@@ -642,11 +642,11 @@ unfolding program_expressions expression_count
 count_in p = refl
 
 pub holds_in : (p : Program) (e : ExprId) → HoldsExpression p e → Holds (program_expressions p) e
-unfolding program_expressions HoldsExpression
+unfolding program_expressions
 holds_in p e h = h
 
 pub in_holds : (p : Program) (e : ExprId) → Holds (program_expressions p) e → HoldsExpression p e
-unfolding program_expressions HoldsExpression
+unfolding program_expressions
 in_holds p e h = h
 
 pub function_at_in : (p : Program) (f : FunctionId) → function_at (program_expressions p) f ≡ program_function p f
@@ -662,11 +662,11 @@ unfolding program_expressions function_body_at
 body_in p f = refl
 
 pub function_holds_in : (p : Program) (f : FunctionId) → ProgramHoldsFunction p f → HoldsFunction (program_expressions p) f
-unfolding program_expressions ProgramHoldsFunction
+unfolding program_expressions
 function_holds_in p f h = h
 
 pub in_holds_function : (p : Program) (f : FunctionId) → HoldsFunction (program_expressions p) f → ProgramHoldsFunction p f
-unfolding program_expressions ProgramHoldsFunction
+unfolding program_expressions
 in_holds_function p f h = h
 
 pub pattern_under_in : (p : Program) (q : PatternId) → stored_pattern (program_expressions p) q ≡ placed_pattern p q
@@ -674,11 +674,11 @@ unfolding program_expressions placed_pattern
 pattern_under_in p q = refl
 
 pub pattern_holds_in : (p : Program) (q : PatternId) → ProgramHoldsPattern p q → HoldsPattern (program_expressions p) q
-unfolding program_expressions ProgramHoldsPattern
+unfolding program_expressions
 pattern_holds_in p q h = h
 
 pub in_holds_pattern : (p : Program) (q : PatternId) → HoldsPattern (program_expressions p) q → ProgramHoldsPattern p q
-unfolding program_expressions ProgramHoldsPattern
+unfolding program_expressions
 in_holds_pattern p q h = h
 
 pub unchanged_trans : (a b c : Program) → IsSameProgram a b → IsSameProgram b c → IsSameProgram a c
@@ -748,7 +748,7 @@ adds_with {I} a b c (Err f) m next n e s there u is adds = tt
 
 -- and the pattern is there
 pub pattern_there : (a b c : Program) (r : Result ExprId BuildRefusal) (q : PatternId) (p : PlacedPattern) (n : ExprNode) (e : Expression) (s : Spot) → AddsPattern a.expressions b.expressions q p → IfOk r (λ id. AddsExpression b c id n e s) → OnOk r (ProgramHoldsPattern c (next_pattern a.expressions) × (placed_pattern c (next_pattern a.expressions) ≡ p))
-unfolding ProgramHoldsPattern placed_pattern
+unfolding program_expressions placed_pattern
 pattern_there a b c (Ok id) q p n e s put adds =
     subst (λ (k : PatternId). HoldsPattern c.expressions k × (stored_pattern c.expressions k ≡ p)) put.next
     (adds.kept.trees.holds_patterns q put.within, adds.kept.trees.placed q put.within ∙ put.is)
@@ -757,7 +757,7 @@ pattern_there a b c (Err f) q p n e s put adds = tt
 -- and the pattern is there
 pub term_pattern_there : (a b c : Program) (r : Result TermId BuildRefusal) (q : PatternId) (p : PlacedPattern) (n : Node) (t : Term) (s : Spot) → q ≡ next_pattern a.expressions → HoldsPattern b.expressions q → stored_pattern b.expressions q ≡ p
     → IfOk r (λ id. AddsTerm b c id n t s) → OnOk r (ProgramHoldsPattern c (next_pattern a.expressions) × (placed_pattern c (next_pattern a.expressions) ≡ p))
-unfolding ProgramHoldsPattern placed_pattern
+unfolding program_expressions placed_pattern
 term_pattern_there a b c (Ok id) q p n t s next within is adds =
     subst (λ (k : PatternId). HoldsPattern c.expressions k × (stored_pattern c.expressions k ≡ p)) next
     (adds.kept.trees.holds_patterns q within, adds.kept.trees.placed q within ∙ is)

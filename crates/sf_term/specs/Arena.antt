@@ -59,16 +59,16 @@ unfoldable pub HoldsTerm : Program → TermId → Type 0
 HoldsTerm p t = t.0 < length (entries_of p.terms)
 
 -- a program holds an expression under an id
-unfoldable pub HoldsExpression : Program → ExprId → Type 0
-HoldsExpression p e = Holds p.expressions e
+abbrev pub HoldsExpression : Program → ExprId → Type 0
+HoldsExpression p e = Holds (program_expressions p) e
 
 -- a program holds a function under an id
-unfoldable pub ProgramHoldsFunction : Program → FunctionId → Type 0
-ProgramHoldsFunction p f = HoldsFunction p.expressions f
+abbrev pub ProgramHoldsFunction : Program → FunctionId → Type 0
+ProgramHoldsFunction p f = HoldsFunction (program_expressions p) f
 
 -- a program holds a pattern under an id, beside its functions
-unfoldable pub ProgramHoldsPattern : Program → PatternId → Type 0
-ProgramHoldsPattern p q = HoldsPattern p.expressions q
+abbrev pub ProgramHoldsPattern : Program → PatternId → Type 0
+ProgramHoldsPattern p q = HoldsPattern (program_expressions p) q
 
 -- a program holds arguments under an id
 unfoldable pub HoldsArguments : Program → ArgumentsId → Type 0

@@ -1,5 +1,4 @@
 //! Programs: terms and templates, in an arena.
-ghost use Rattle.std.specs.Option.{option_map, unwrap_or};
 ghost use Rattle.std.specs.Prelude.{◌≡◌, ◌<◌, ◌≤◌, ◌^◌, ◌+◌, ◌-◌, max, min, IfOk, IfErr, OnOk, [], length, string_bytes, All};
 ghost use Rattle.sf_lex.specs.Words.{IsName};
 ghost use Rattle.sf_expr.specs.Expressions.{variable, literal, int_literal, paired};
@@ -10,7 +9,7 @@ ghost use Rattle.sf_expr.specs.Arena.{next_name, next_constant, next_pattern, Ad
 ghost use Rattle.sf_expr.specs.declared.exprs.ExprNode.TheVariants as expressions;
 ghost use Rattle.sf_term.specs.Headers.{bodies_end};
 ghost use Rattle.sf_arena.specs.Arenas.{entries_of};
-ghost use Rattle.sf_term.specs.Entries.{AreTerms, absent_collection, collections_in};
+ghost use Rattle.sf_term.specs.Entries.{AreTerms, collections_in};
 ghost use Rattle.sf_term.specs.Names.{HasNames, AreNamed};
 ghost use Rattle.sf_term.specs.declared.node.Node.TheVariants as terms;
 ghost use Rattle.sf_term.specs.Trees.{named_term, primitive, reference, arguments_depth, collection_depth, term_depth};
@@ -68,7 +67,7 @@ impl Program {
     ghost use Rattle.sf_term.specs.Arena.{term_count, expression_count, HoldsTerm, HoldsExpression};
     ghost use Rattle.sf_term.specs.Arena.{tree, program_expression, program_entry, term_node_at, term_spot_at, term_of, term_number};
     ghost use Rattle.sf_term.specs.Arena.{program_expressions, headers_of, TermPartsBelow, HoldsTermParts};
-    ghost use Rattle.sf_term.specs.Arena.{HoldsArgument, HoldsArguments, argument_nodes, arguments_of, next_arguments};
+    ghost use Rattle.sf_term.specs.Arena.{HoldsArgument, HoldsArguments, HoldsCollection, argument_nodes, arguments_of, next_arguments};
     ghost use Rattle.sf_term.specs.Arena.{HoldsWhole, HoldsMembers, collection_node, collection_of, collection_tree, AddsCollection, AddsUsed};
     ghost use Rattle.sf_term.specs.Arena.{AddsProgramFunction, AddsTemplate, IsSameProgram, IsProgramCopy};
     ghost use Rattle.sf_term.specs.Building.{NoNames, RefusesDue, IsBuilt, BuildsTerm, BuildsExpression, HasPattern, PutsBoth};
@@ -89,31 +88,31 @@ impl Program {
         }
     }
 
-    #[tactic(auto, unfolding(crate::specs::Arena::program_entry))]
+    // The node at an id, with its depth and its place.
+    #[tactic(auto, unfolding(crate::specs::Arena::program_entry, crate::specs::Arena::HoldsTerm))]
     fn entry(&self, id: TermId) -> Entry<Node>
+        requires { HoldsTerm self.now id }
         ensures { result ≡ program_entry self.now id }
     {
         match self.terms.get(id.0 as usize) {
             Some(entry) => *entry,
-            None => Entry {
-                node: Node::Primitive(Primitive::Bare(Bare::Identity)),
-                depth: 1,
-                spot: Spot::NONE,
-            },
+            None => unreachable!(),
         }
     }
 
     /// How many terms and expressions stand one inside another in the term at an id.
     #[tactic(auto, using(crate::proofs::Extended::tree_shallow), unfolding(crate::specs::Arena::program_entry, crate::specs::Arena::tree))]
     pub fn depth(&self, id: TermId) -> u32
+        requires { HoldsTerm self.now id }
         ensures value { result ≡ term_depth (tree self.now id) }
         ensures bound { result ≤ 64 }
     {
         self.entry(id).depth
     }
 
-    #[tactic(auto, unfolding(crate::specs::Arena::program_expression, crate::specs::Arena::function_pattern_at, crate::specs::Arena::function_body_at, crate::specs::Arena::placed_pattern), using(crate::proofs::Extended::named_depth))]
+    #[tactic(auto, unfolding(crate::specs::Arena::program_expressions, crate::specs::Arena::program_expression, crate::specs::Arena::function_pattern_at, crate::specs::Arena::function_body_at, crate::specs::Arena::placed_pattern), using(crate::proofs::Extended::named_depth))]
     fn depth_with(&self, node: Node) -> u32
+        requires { HoldsTermParts self.now node }
         ensures { result ≡ min (term_depth (term_of self.now node)) (2 ^ 32 - 1) }
     {
         match node {
@@ -171,8 +170,9 @@ impl Program {
     }
 
     // How many collections, terms and expressions stand one inside another in a collection; `u32::MAX` where they are more.
-    #[tactic(auto, unfolding(crate::specs::Arena::program_expression, crate::specs::Arena::function_pattern_at, crate::specs::Arena::function_body_at))]
+    #[tactic(auto, unfolding(crate::specs::Arena::program_expressions, crate::specs::Arena::program_expression, crate::specs::Arena::function_pattern_at, crate::specs::Arena::function_body_at))]
     fn depth_of(&self, collection: &CollExpr) -> u32
+        requires { HoldsMembers self.now collection.now }
         ensures { result ≡ min (collection_depth (collection_of self.now collection.now)) (2 ^ 32 - 1) }
     {
         match collection {
@@ -202,17 +202,16 @@ impl Program {
 
     // The same of the collection at an id.
     fn depth_under(&self, id: CollectionId) -> u32
+        requires { HoldsWhole self.now id }
         ensures { result ≡ min (collection_depth (collection_tree self.now id)) (2 ^ 32 - 1) }
     {
-        match self.collection(id) {
-            Some(collection) => self.depth_of(collection),
-            None => 1,
-        }
+        self.depth_of(self.collection(id))
     }
 
     // How many terms and expressions stand one inside another in arguments; `u32::MAX` where they are more.
-    #[tactic(auto, unfolding(crate::specs::Arena::program_expression))]
+    #[tactic(auto, unfolding(crate::specs::Arena::program_expressions, crate::specs::Arena::program_expression))]
     fn depth_in(&self, arguments: &[Argument]) -> u32
+        requires { All (HoldsArgument self.now) arguments.now }
         ensures { result ≡ min (arguments_depth (arguments_of self.now arguments.now)) (2 ^ 32 - 1) }
     {
         let mut depth = 0;
@@ -417,6 +416,7 @@ impl Program {
     /// there, then with `TooDeep` where more than 64 patterns or expressions would stand one inside another, then with
     /// `BadName` where a name of its pattern is no name of the language, and with `Memory`. A refused call changes
     /// nothing.
+    #[tactic(auto, unfolding(crate::specs::Arena::program_expressions))]
     pub fn mapped(
         &mut self,
         part: ExprId,
@@ -452,6 +452,7 @@ impl Program {
     /// there, then with `TooDeep` where more than 64 patterns or expressions would stand one inside another, then with
     /// `BadName` where a name of its pattern is no name of the language, and with `Memory`. A refused call changes
     /// nothing.
+    #[tactic(auto, unfolding(crate::specs::Arena::program_expressions))]
     pub fn folded(
         &mut self,
         first: ExprId,
@@ -491,6 +492,7 @@ impl Program {
     /// `TooMany` where 100,000 expressions are there, then with `TooDeep` where more than 64 would stand one inside
     /// another, then with `BadName` where the function's name is no name of the language, and with `Memory`. A refused
     /// call changes nothing.
+    #[tactic(auto, unfolding(crate::specs::Arena::program_expressions))]
     pub fn called(
         &mut self,
         function: String,
@@ -512,6 +514,7 @@ impl Program {
     /// Adds a function, which counts as no expression. Refused with `TooDeep` where more than 64 patterns or
     /// expressions stand one inside another, then with `BadName` where a name of its pattern is no name of the
     /// language, and with `Memory`. A refused call changes nothing.
+    #[tactic(auto, unfolding(crate::specs::Arena::program_expressions))]
     pub fn function(&mut self, pattern: Pat, body: ExprId) -> Result<FunctionId, BuildRefusal>
         requires { HoldsExpression self.old body }
         ensures { let whole = Expressions.function (pattern_of pattern) (program_expression self.old body) in
@@ -825,17 +828,19 @@ impl Program {
     }
 
     /// The id of the term of a number.
-    #[tactic(auto, using(crate::proofs::Extended::few_terms))]
+    #[tactic(auto, using(crate::proofs::Extended::few_terms, crate::proofs::Extended::below_count_holds))]
     pub fn term(&self, number: usize) -> TermId
         requires { number < term_count self.now }
-        ensures { term_number result ≡ number }
+        ensures number { term_number result ≡ number }
+        ensures held { HoldsTerm self.now result }
     {
         TermId(number as u32)
     }
 
-    /// The node at an id, with the ids of its parts; the identity at an id that the program does not hold.
+    /// The node at an id, with the ids of its parts.
     #[tactic(auto, using(crate::proofs::Extended::builds, crate::proofs::Extended::parts_below, crate::proofs::Extended::parts_held), unfolding(crate::specs::Arena::program_entry, crate::specs::Arena::term_node_at))]
     pub fn node(&self, id: TermId) -> Node
+        requires { HoldsTerm self.now id }
         ensures value { result ≡ term_node_at self.now id }
         ensures builds { tree self.now id ≡ term_of self.now result }
         ensures below { TermPartsBelow self.now result (term_number id) }
@@ -844,31 +849,28 @@ impl Program {
         self.entry(id).node
     }
 
-    /// The arguments at an id, in order; none at an id that the program does not hold.
-    #[tactic(auto, unfolding(crate::specs::Arena::argument_nodes))]
+    /// The arguments at an id, in order.
+    #[tactic(auto, unfolding(crate::specs::Arena::argument_nodes, crate::specs::Arena::HoldsArguments))]
     pub fn arguments(&self, id: ArgumentsId) -> &[Argument]
+        requires { HoldsArguments self.now id }
         ensures { result.now ≡ argument_nodes self.now id }
     {
-        match self.arguments.get(id.0) {
-            Some(arguments) => arguments.items(),
-            None => &[],
-        }
+        self.arguments[id.0].items()
     }
 
-    /// The collection at an id; one without members at an id that the program does not hold.
-    #[tactic(auto, unfolding(crate::specs::Arena::collection_node))]
-    pub fn collection(&self, id: CollectionId) -> Option<&CollExpr>
-        ensures { unwrap_or (option_map (λ c. c.now) result) absent_collection ≡ collection_node self.now id }
+    /// The collection at an id.
+    #[tactic(auto, unfolding(crate::specs::Arena::collection_node, crate::specs::Arena::HoldsCollection))]
+    pub fn collection(&self, id: CollectionId) -> &CollExpr
+        requires { HoldsCollection self.now id }
+        ensures { result.now ≡ collection_node self.now id }
     {
-        match self.collections.get(id.0) {
-            Some(collection) => Some(collection),
-            None => None,
-        }
+        &self.collections[id.0]
     }
 
-    /// Where the term at an id stands in the text; `Spot::NONE` at an id that the program does not hold.
+    /// Where the term at an id stands in the text.
     #[tactic(auto, unfolding(crate::specs::Arena::program_entry, crate::specs::Arena::term_spot_at))]
     pub fn spot(&self, id: TermId) -> Spot
+        requires { HoldsTerm self.now id }
         ensures { result ≡ term_spot_at self.now id }
     {
         self.entry(id).spot

@@ -16,7 +16,7 @@ returns-in_ok-shared-in-Value g c = when_ok c.inside.result (λ inner h φ d e M
     let w = c.in_ok-shared-in-Value.shared.value in
     let name = name_at x c.args.parameter.now.name in
     value_inside (machine φ p) name c.args.bound.now inner c.in-Value.value (λ d M.
-    subst (λ b. IsNames (machine φ p) inner b) (ap (λ i. bind (pattern_of (stored_pattern x i)) w d) c.pattern.ensures ∙ ap (λ r. bind r w d) c.requires ∙ ap (λ v. known name v d) c.in_ok-shared-in-Value.ensures.ok) (h (machine φ p) c.expressions-expressions.ensures d M)) d e M (rw c.in-Value.is at G)) c.inside.ensures
+    subst (λ b. IsNames (machine φ p) inner b) (ap (λ i. bind (pattern_of (stored_pattern x i)) w d) c.pattern.ensures ∙ ap (λ r. bind r w d) c.requires ∙ ap (λ v. known name v d) c.in_ok-shared-in-Value.ensures.ok) (h φ d M)) d e M (rw c.in-Value.is at G)) c.inside.ensures
 
 pub returns-in-Process : goal.returns-in-Process
 returns-in-Process g c = when_ok c.with_process.result (λ inner h φ d e M G.

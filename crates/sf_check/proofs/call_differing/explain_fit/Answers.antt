@@ -8,7 +8,7 @@ use Rattle.sf_value.specs.Values.{Kind}
 use Rattle.sf_refusal.specs.declared.spot.Spot.{Spot}
 use Rattle.sf_term.specs.Trees.{arguments_depth}
 use Rattle.sf_term.specs.Parameters.{parameters_of}
-use Rattle.sf_term.specs.Arena.{term_number, term_spot_at, arguments_of, ArgumentBelow}
+use Rattle.sf_term.specs.Arena.{term_number, term_spot_at, arguments_of, ArgumentBelow, HoldsArgument}
 use Rattle.sf_mean.specs.Typing.{no_argument_fits}
 use Rattle.sf_expr.proofs.Bound.{on_err}
 use Rattle.sf_reach.proofs.Shallow.{first_shallow, rest_shallow}
@@ -35,6 +35,7 @@ loop-argument-init c =
     record {
       so = walk_first whole first second (fit_first (left_length c.requires.typed));
       below = All-same (ArgumentBelow p (term_number c.args.term)) _ _ first c.requires.below;
+      held = All-same (HoldsArgument p) _ _ first c.requires.arguments_held;
       shallow = subst (λ vs. arguments_depth (arguments_of p vs) ≤ 64) (sym first) c.requires.shallow;
     }
 
@@ -44,6 +45,7 @@ argument_suits-requires c =
     let step = Zip-more c.loop-argument.argument-iterator c.next.new.self _ _ c.in-Some.is c.next.ensures.steps in
     record {
       below = All-head (ArgumentBelow p (term_number c.args.term)) _ _ (subst (All (ArgumentBelow p (term_number c.args.term))) step.0 c.loop-argument.invariant.below);
+      argument_held = All-head (HoldsArgument p) _ _ (subst (All (HoldsArgument p)) step.0 c.loop-argument.invariant.held);
       shallow = λ i is. first_shallow p _ _ i is (subst (λ vs. arguments_depth (arguments_of p vs) ≤ 64) step.0 c.loop-argument.invariant.shallow);
     }
 
@@ -55,6 +57,7 @@ loop-argument-preserved c =
     record {
       so = fit_next (walk_next whole step.0 step.1 c.loop-argument.invariant.so) (subst (λ k. ArgumentFits p (context_in c.args.context.now) c.in-Some.argument.now k) c.form.ensures c.in_ok-argument_suits.ensures.ok);
       below = All-rest (ArgumentBelow p (term_number c.args.term)) _ _ _ step.0 c.loop-argument.invariant.below;
+      held = All-rest (HoldsArgument p) _ _ _ step.0 c.loop-argument.invariant.held;
       shallow = rest_shallow p _ _ (subst (λ vs. arguments_depth (arguments_of p vs) ≤ 64) step.0 c.loop-argument.invariant.shallow);
     }
 

@@ -14,7 +14,7 @@ use Rattle.sf_term.specs.declared.program.Program.{Program}
 use Rattle.sf_term.specs.ParameterView.{kind_of_form}
 use Rattle.sf_term.specs.Parameters.{binding_of, parameters_of}
 use Rattle.sf_term.specs.Trees.{arguments_depth, collection_depth}
-use Rattle.sf_term.specs.Arena.{tree, term_number, program_expressions, argument_nodes, arguments_of, collection_node, collection_of, collection_tree, ArgumentBelow, CollectionBelow}
+use Rattle.sf_term.specs.Arena.{tree, term_number, program_expressions, argument_nodes, arguments_of, collection_node, collection_of, collection_tree, ArgumentBelow, CollectionBelow, HoldsTermParts, HoldsArgument, HoldsMembers, HoldsWhole}
 use Rattle.sf_mean.specs.Contexts.{Context, names_of_values, inside_pattern}
 use Rattle.sf_mean.specs.Typing.{Takes, Collects}
 use Rattle.sf_expr.proofs.Bound.{on_err}
@@ -25,9 +25,9 @@ use Rattle.sf_check.specs.Contexts.{program_in, context_in}
 use Rattle.sf_check.specs.Breaking.{program_pattern, members_inside, ArgumentKeeps, value_keeps, process_keeps, collection_keeps, ArgumentsLeft, all_left, sequence_left, sequence_right, fan_left, fan_right, head_part, transformed_part, switch_source, switch_body, continuing_source, continuing_body, releasing_body, ReachesMembers, gathered_members, releasing_members, their_edit}
 use Rattle.sf_check.specs.Differing.{StopsBody, StopsEdit, FormDiffers, TermDiffers, CollectionDiffers, ArgumentDiffersWithin, within_value, within_process, within_members, body_pattern, body_output, edit_pattern, edit_tables, both_inputs, side_inputs, head_within, fed_output, replaced_input, transform_within, transformed_input, source_output, event_beside, switch_body_differs, observer_output, continuing_body_differs, their_observer_output, released_body_differs, event_beside_members, members_edit_differs, added_members, added_key_within, member_within, added_key, member_output, dropped_members, dropped_key_within, dropped_key, kept_members, kept_within, kept_truth, choice_within, one_members, other_members, choice_truth, choice_tables}
 use Rattle.sf_check.proofs.Terms.{switch_there, sided_there, headed_there, output_reached, left_reached, right_reached, first_reached, second_reached, loop_reached, first_term_reached, source_wants, input_wants, observer_reached}
-use Rattle.sf_reach.proofs.Shallow.{arguments_shallow, members_shallow, released_shallow, edited_shallow, first_shallow, rest_shallow, found_there, absent_there}
+use Rattle.sf_reach.proofs.Shallow.{arguments_shallow, members_shallow, released_shallow, edited_shallow, first_shallow, rest_shallow}
 use Rattle.sf_check.proofs.Arguments.{rest_length, one_less}
-use Rattle.sf_check.proofs.Members.{empty_collects, absent_collects, added_collects, dropped_collects, kept_collects, chosen_collects, their_observer_reached, their_observer_seen, editing_members_reached}
+use Rattle.sf_check.proofs.Members.{empty_collects, added_collects, dropped_collects, kept_collects, chosen_collects, their_observer_reached, their_observer_seen, editing_members_reached}
 use Rattle.sf_check.proofs.Unlike.{found_same, argument_as, walk_first, walk_next, walk_end, collection_tells}
 use Rattle.sf_check.proofs.Apart.{part_tells, members_tell, argument_tells, call_tells, form_tells, form_last, stops_last, stops_as, edit_last, exactly_as, fed_takes, watched_takes, table_made, among_outputs}
 use Rattle.sf_check.proofs.differing.+explain.Goals as goal
@@ -162,10 +162,10 @@ explain_transformed-returns t c =
 -- ## Switches
 
 pub explain-explain_basic-requires : goal.explain-explain_basic-requires
-explain-explain_basic-requires t c = (omega arith, (c.requires, (switch_there _ _ c.in-Switching.form c.in-Basic.is (sym c.node.ensures.value ∙ c.in-Switching.is), rw c.in-Switching.is at c.node.ensures.below)))
+explain-explain_basic-requires t c = (omega arith, (c.requires.fits, (switch_there _ _ c.in-Switching.form c.in-Basic.is (sym c.node.ensures.value ∙ c.in-Switching.is), (rw c.in-Switching.is at c.node.ensures.below, (c.requires.term_held, rw c.in-Switching.is at c.node.ensures.held)))))
 
 pub explain-explain_recurring-requires : goal.explain-explain_recurring-requires
-explain-explain_recurring-requires t c = (omega arith, (c.requires, (switch_there _ _ c.in-Switching.form c.in-Recurring.is (sym c.node.ensures.value ∙ c.in-Switching.is), rw c.in-Switching.is at c.node.ensures.below)))
+explain-explain_recurring-requires t c = (omega arith, (c.requires.fits, (switch_there _ _ c.in-Switching.form c.in-Recurring.is (sym c.node.ensures.value ∙ c.in-Switching.is), (rw c.in-Switching.is at c.node.ensures.below, (c.requires.term_held, rw c.in-Switching.is at c.node.ensures.held)))))
 
 pub explain_basic-returns-in_err-output : goal.explain_basic-returns-in_err-output
 explain_basic-returns-in_err-output t c = told_on _ _ c.from_residual.ensures.1 (part_tells _ _ _ _ _ c.requires.there switch_source c.in_err-output.ensures.err)
@@ -249,7 +249,7 @@ explain_argument-returns-in_ok-part-in-Process-Process-clause-ok t c =
 pub explain_argument-members_at_part-requires : goal.explain_argument-members_at_part-requires
 explain_argument-members_at_part-requires t c =
     let is = c.in-Collection-Collection.is-0 in
-    (omega arith, (omega (arith, c.nodes-in-Collection-Collection.ensures.count, c.nodes-in-Collection-Collection.ensures.small), (subst (ArgumentBelow (program_in c.args.context.now) (term_number c.args.term)) is c.requires.below, c.requires.shallow _ is)))
+    (omega arith, (omega (arith, c.nodes-in-Collection-Collection.ensures.count, c.nodes-in-Collection-Collection.ensures.small), (subst (ArgumentBelow (program_in c.args.context.now) (term_number c.args.term)) is c.requires.below, (c.requires.shallow _ is, subst (HoldsArgument (program_in c.args.context.now)) is c.requires.argument_held))))
 
 pub explain_argument-returns-in_err-members_at_part-in-Collection-Collection-clause-err : goal.explain_argument-returns-in_err-members_at_part-in-Collection-Collection-clause-err
 explain_argument-returns-in_err-members_at_part-in-Collection-Collection-clause-err t c =
@@ -285,6 +285,7 @@ explain_call-loop-argument-init t c =
     record {
       so = walk_first (ArgumentsLeft p (context_in c.args.context.now) (argument_nodes p c.args.arguments) (parameters_of c.in-Some.template.now.parameters)) first second (all_left count);
       below = All-same (ArgumentBelow p (term_number c.args.term)) _ _ first c.requires.below;
+      held = All-same (HoldsArgument p) _ _ first c.requires.arguments_held.1;
       shallow = subst (λ vs. arguments_depth (arguments_of p vs) ≤ 64) (sym first) (arguments_shallow p c.args.term _ _ (sym c.requires.there));
     }
 
@@ -292,7 +293,7 @@ pub explain_call-explain_argument-requires : goal.explain_call-explain_argument-
 explain_call-explain_argument-requires t c =
     let p = program_in c.args.context.now in
     let step = Zip-more c.loop-argument.argument-iterator c.next.new.self _ _ c.in-Some-2.is c.next.ensures.steps in
-    (omega arith, (All-head (ArgumentBelow p (term_number c.args.term)) _ _ (subst (All (ArgumentBelow p (term_number c.args.term))) step.0 c.loop-argument.invariant.below), λ i is. first_shallow p _ _ i is (subst (λ vs. arguments_depth (arguments_of p vs) ≤ 64) step.0 c.loop-argument.invariant.shallow)))
+    (omega arith, (All-head (ArgumentBelow p (term_number c.args.term)) _ _ (subst (All (ArgumentBelow p (term_number c.args.term))) step.0 c.loop-argument.invariant.below), ((λ i is. first_shallow p _ _ i is (subst (λ vs. arguments_depth (arguments_of p vs) ≤ 64) step.0 c.loop-argument.invariant.shallow)), All-head (HoldsArgument p) _ _ (subst (All (HoldsArgument p)) step.0 c.loop-argument.invariant.held))))
 
 pub explain_call-loop-argument-preserved : goal.explain_call-loop-argument-preserved
 explain_call-loop-argument-preserved t c =
@@ -303,6 +304,7 @@ explain_call-loop-argument-preserved t c =
     record {
       so = one_less (walk_next whole step.0 step.1 c.loop-argument.invariant.so) (subst (ArgumentKeeps p Γ c.in-Some-2.argument.now) c.form.ensures c.in_ok-explain_argument.ensures.ok);
       below = All-rest (ArgumentBelow p (term_number c.args.term)) _ _ _ step.0 c.loop-argument.invariant.below;
+      held = All-rest (HoldsArgument p) _ _ _ step.0 c.loop-argument.invariant.held;
       shallow = rest_shallow p _ _ (subst (λ vs. arguments_depth (arguments_of p vs) ≤ 64) step.0 c.loop-argument.invariant.shallow);
     }
 
@@ -325,6 +327,8 @@ explain_call-explain_fit-requires t c =
     record {
       typed = subst (λ vs. ArgumentsLeft p Γ vs (parameters_of c.in-Some.template.now.parameters) [] []) is typed;
       below = subst (All (ArgumentBelow p (term_number c.args.term))) is c.requires.below;
+      arguments_held = subst (All (HoldsArgument p)) is c.requires.arguments_held.1;
+      term_held = c.requires.term_held;
       shallow = subst (λ vs. arguments_depth (arguments_of p vs) ≤ 64) is (arguments_shallow p c.args.term _ _ (sym c.requires.there));
     }
 
@@ -335,13 +339,13 @@ explain_call-returns t c =
 -- ## Members
 
 pub explain_gathered-members_at_part-requires : goal.explain_gathered-members_at_part-requires
-explain_gathered-members_at_part-requires t c = (omega arith, (c.requires.fits, (c.requires.below, members_shallow (program_in c.args.context.now) c.args.term c.args.members (sym c.requires.there))))
+explain_gathered-members_at_part-requires t c = (omega arith, (c.requires.fits, (c.requires.below, (members_shallow (program_in c.args.context.now) c.args.term c.args.members (sym c.requires.there), c.requires.members_held))))
 
 pub explain_gathered-returns-in_err-members_at_part : goal.explain_gathered-returns-in_err-members_at_part
 explain_gathered-returns-in_err-members_at_part t c = told_on _ _ c.from_residual.ensures.1 (members_tell _ _ _ _ _ c.requires.there gathered_members c.in_err-members_at_part.ensures.err)
 
 pub explain_releasing-members_at_part-requires : goal.explain_releasing-members_at_part-requires
-explain_releasing-members_at_part-requires t c = (omega arith, (c.requires.fits, (c.requires.below.0, released_shallow (program_in c.args.context.now) c.args.term c.args.form (sym c.requires.there))))
+explain_releasing-members_at_part-requires t c = (omega arith, (c.requires.fits, (c.requires.below.0, (released_shallow (program_in c.args.context.now) c.args.term c.args.form (sym c.requires.there), c.requires.form_held.0))))
 
 pub explain_releasing-returns-in_err-types : goal.explain_releasing-returns-in_err-types
 explain_releasing-returns-in_err-types t c = told_on _ _ c.from_residual.ensures.1 (members_tell _ _ _ _ _ c.requires.there releasing_members c.in_err-types.ensures.err)
@@ -385,10 +389,10 @@ explain_released-returns t c =
 -- ## Edits
 
 pub explain_editing-members_at_part-requires : goal.explain_editing-members_at_part-requires
-explain_editing-members_at_part-requires t c = (omega arith, (c.in_ok-value.ensures.fits, (c.requires.below.0, (edited_shallow (program_in c.args.context.now) c.args.term c.args.form (sym c.requires.there)).0)))
+explain_editing-members_at_part-requires t c = (omega arith, (c.in_ok-value.ensures.fits, (c.requires.below.0, ((edited_shallow (program_in c.args.context.now) c.args.term c.args.form (sym c.requires.there)).0, c.requires.form_held.0))))
 
 pub explain_editing-explain_edited-requires : goal.explain_editing-explain_edited-requires
-explain_editing-explain_edited-requires t c = (omega arith, (c.in_ok-value.ensures.fits, (c.requires.below.1, (edited_shallow (program_in c.args.context.now) c.args.term c.args.form (sym c.requires.there)).1)))
+explain_editing-explain_edited-requires t c = (omega arith, (c.in_ok-value.ensures.fits, (c.requires.below.1, ((edited_shallow (program_in c.args.context.now) c.args.term c.args.form (sym c.requires.there)).1, c.requires.form_held))))
 
 pub explain_editing-returns-in_err-suited : goal.explain_editing-returns-in_err-suited
 explain_editing-returns-in_err-suited t c = told_on _ _ c.from_residual.ensures.1 (form_tells _ _ _ _ _ c.requires.there _ c.spot-spot.ensures (λ d k. event_beside_members k) c.in_err-suited.ensures.err)
@@ -423,7 +427,7 @@ explain_edited-returns t c =
 pub explain_edit_inside-explain_edit-requires : goal.explain_edit_inside-explain_edit-requires
 explain_edit_inside-explain_edit-requires t c =
     let same = sym c.in_ok-inner.ensures.program in
-    (omega arith, (c.requires.fits, (subst (λ p. CollectionBelow (term_number c.args.term) (collection_node p c.args.edit.now.form.edit)) same c.requires.below, subst (λ p. collection_depth (collection_of p (collection_node p c.args.edit.now.form.edit)) ≤ 64) same c.requires.shallow)))
+    (omega arith, (c.requires.fits, (subst (λ p. CollectionBelow (term_number c.args.term) (collection_node p c.args.edit.now.form.edit)) same c.requires.below, (subst (λ p. collection_depth (collection_of p (collection_node p c.args.edit.now.form.edit)) ≤ 64) same c.requires.shallow, subst (λ p. HoldsTermParts p (nodes.Editing c.args.edit.now.form)) same c.requires.edit_held))))
 
 pub explain_edit_inside-returns-in_err-inner : goal.explain_edit_inside-returns-in_err-inner
 explain_edit_inside-returns-in_err-inner t c = room_on _ _ c.from_residual.ensures.1
@@ -455,7 +459,7 @@ explain_edit-returns t c =
 pub members_part_within-members_at_part-requires : goal.members_part_within-members_at_part-requires
 members_part_within-members_at_part-requires t c =
     let same = sym c.in_ok-inner.ensures.program in
-    (omega arith, (c.requires.fits, (subst (λ p. CollectionBelow (term_number c.args.form) (collection_node p c.args.members)) same c.requires.below, subst (λ p. collection_depth (collection_of p (collection_node p c.args.members)) ≤ 64) same c.requires.shallow)))
+    (omega arith, (c.requires.fits, (subst (λ p. CollectionBelow (term_number c.args.form) (collection_node p c.args.members)) same c.requires.below, (subst (λ p. collection_depth (collection_of p (collection_node p c.args.members)) ≤ 64) same c.requires.shallow, subst (λ p. HoldsWhole p c.args.members) same c.requires.members_held))))
 
 pub members_part_within-returns-in_err-inner-clause-err : goal.members_part_within-returns-in_err-inner-clause-err
 members_part_within-returns-in_err-inner-clause-err t c = room_on _ _ c.from_residual.ensures.1
@@ -472,22 +476,19 @@ members_part_within-returns-clause-err t c =
 
 pub members_at_part-members_part-requires : goal.members_at_part-members_part-requires
 members_at_part-members_part-requires t c =
-    let there = found_there c.collection.ensures c.in-Some.is in
+    let there = c.collection.ensures in
     let shallow = subst (λ i. collection_depth (collection_of (program_in c.args.context.now) i) ≤ 64) (sym there) c.requires.shallow in
-    (omega (arith, shallow), (c.requires.fits, (subst (CollectionBelow (term_number c.args.form)) (sym there) c.requires.below, shallow)))
+    (omega (arith, shallow), (c.requires.fits, (subst (CollectionBelow (term_number c.args.form)) (sym there) c.requires.below, (shallow, subst (HoldsMembers (program_in c.args.context.now)) (sym there) c.requires.members_held.1))))
 
-pub members_at_part-returns-in-Some-clause-ok : goal.members_at_part-returns-in-Some-clause-ok
-members_at_part-returns-in-Some-clause-ok t c =
+pub members_at_part-returns-clause-ok : goal.members_at_part-returns-clause-ok
+members_at_part-returns-clause-ok t c =
     let p = program_in c.args.context.now in
-    subst (λ i. IfOk c.members_part.result (λ m. Collects (context_in c.args.context.now) (collection_of p i) (key_kind_of m.keys) c.args.input.now m.output)) (found_there c.collection.ensures c.in-Some.is) c.members_part.ensures.ok
+    subst (λ i. IfOk c.members_part.result (λ m. Collects (context_in c.args.context.now) (collection_of p i) (key_kind_of m.keys) c.args.input.now m.output)) c.collection.ensures c.members_part.ensures.ok
 
-pub members_at_part-returns-in-Some-clause-err : goal.members_at_part-returns-in-Some-clause-err
-members_at_part-returns-in-Some-clause-err t c =
+pub members_at_part-returns-clause-err : goal.members_at_part-returns-clause-err
+members_at_part-returns-clause-err t c =
     let p = program_in c.args.context.now in
-    subst (λ i. IfErr c.members_part.result (λ e. Explains (CollectionDiffers p (context_in c.args.context.now) i c.args.input.now) e)) (found_there c.collection.ensures c.in-Some.is) c.members_part.ensures.err
-
-pub members_at_part-returns-in-None-clause-ok : goal.members_at_part-returns-in-None-clause-ok
-members_at_part-returns-in-None-clause-ok t c = absent_collects (program_in c.args.context.now) (context_in c.args.context.now) c.args.input.now _ (absent_there c.collection.ensures c.in-None.is) c.unit.ensures
+    subst (λ i. IfErr c.members_part.result (λ e. Explains (CollectionDiffers p (context_in c.args.context.now) i c.args.input.now) e)) c.collection.ensures c.members_part.ensures.err
 
 pub members_part-returns-in_err-new-in-Empty-clause-err : goal.members_part-returns-in_err-new-in-Empty-clause-err
 members_part-returns-in_err-new-in-Empty-clause-err t c =
@@ -510,36 +511,36 @@ pub members_part-members_part-requires : goal.members_part-members_part-requires
 members_part-members_part-requires t c =
     let same = ap (λ i. collection_depth (collection_of (program_in c.args.context.now) i)) c.deref.ensures in
     let whole = ap (λ i. collection_depth (collection_of (program_in c.args.context.now) i)) c.in-Added.is in
-    (omega (arith, same, whole), (c.requires.fits, (rw c.deref.ensures ((rw c.in-Added.is at c.requires.below).0), omega (arith, same, whole, c.requires.shallow))))
+    (omega (arith, same, whole), (c.requires.fits, (rw c.deref.ensures ((rw c.in-Added.is at c.requires.below).0), (omega (arith, same, whole, c.requires.shallow), rw c.deref.ensures ((rw c.in-Added.is at c.requires.collection_held).0)))))
 
 pub members_part-members_part-requires-in-Dropped : goal.members_part-members_part-requires-in-Dropped
 members_part-members_part-requires-in-Dropped t c =
     let same = ap (λ i. collection_depth (collection_of (program_in c.args.context.now) i)) c.deref-in-Dropped.ensures in
     let whole = ap (λ i. collection_depth (collection_of (program_in c.args.context.now) i)) c.in-Dropped.is in
-    (omega (arith, same, whole), (c.requires.fits, (rw c.deref-in-Dropped.ensures ((rw c.in-Dropped.is at c.requires.below)), omega (arith, same, whole, c.requires.shallow))))
+    (omega (arith, same, whole), (c.requires.fits, (rw c.deref-in-Dropped.ensures ((rw c.in-Dropped.is at c.requires.below)), (omega (arith, same, whole, c.requires.shallow), rw c.deref-in-Dropped.ensures ((rw c.in-Dropped.is at c.requires.collection_held).0)))))
 
 pub members_part-members_part-requires-in-Kept : goal.members_part-members_part-requires-in-Kept
 members_part-members_part-requires-in-Kept t c =
     let same = ap (λ i. collection_depth (collection_of (program_in c.args.context.now) i)) c.deref-in-Kept.ensures in
     let whole = ap (λ i. collection_depth (collection_of (program_in c.args.context.now) i)) c.in-Kept.is in
-    (omega (arith, same, whole), (c.requires.fits, (rw c.deref-in-Kept.ensures ((rw c.in-Kept.is at c.requires.below)), omega (arith, same, whole, c.requires.shallow))))
+    (omega (arith, same, whole), (c.requires.fits, (rw c.deref-in-Kept.ensures ((rw c.in-Kept.is at c.requires.below)), (omega (arith, same, whole, c.requires.shallow), rw c.deref-in-Kept.ensures ((rw c.in-Kept.is at c.requires.collection_held).0)))))
 
 pub members_part-members_part-requires-in-Chosen : goal.members_part-members_part-requires-in-Chosen
 members_part-members_part-requires-in-Chosen t c =
     let same = ap (λ i. collection_depth (collection_of (program_in c.args.context.now) i)) c.deref-in-Chosen.ensures in
     let whole = ap (λ i. collection_depth (collection_of (program_in c.args.context.now) i)) c.in-Chosen.is in
-    (omega (arith, same, whole), (c.requires.fits, (rw c.deref-in-Chosen.ensures ((rw c.in-Chosen.is at c.requires.below).0), omega (arith, same, whole, c.requires.shallow))))
+    (omega (arith, same, whole), (c.requires.fits, (rw c.deref-in-Chosen.ensures ((rw c.in-Chosen.is at c.requires.below).0), (omega (arith, same, whole, c.requires.shallow), rw c.deref-in-Chosen.ensures ((rw c.in-Chosen.is at c.requires.collection_held).1)))))
 
 pub members_part-members_part-requires-in-Chosen-2 : goal.members_part-members_part-requires-in-Chosen-2
 members_part-members_part-requires-in-Chosen-2 t c =
     let same = ap (λ i. collection_depth (collection_of (program_in c.args.context.now) i)) c.deref-in-Chosen-2.ensures in
     let whole = ap (λ i. collection_depth (collection_of (program_in c.args.context.now) i)) c.in-Chosen.is in
-    (omega (arith, same, whole), (c.requires.fits, (rw c.deref-in-Chosen-2.ensures ((rw c.in-Chosen.is at c.requires.below).1), omega (arith, same, whole, c.requires.shallow))))
+    (omega (arith, same, whole), (c.requires.fits, (rw c.deref-in-Chosen-2.ensures ((rw c.in-Chosen.is at c.requires.below).1), (omega (arith, same, whole, c.requires.shallow), rw c.deref-in-Chosen-2.ensures ((rw c.in-Chosen.is at c.requires.collection_held).2)))))
 
 pub members_part-part-requires : goal.members_part-part-requires
 members_part-part-requires t c =
     let below = (rw c.in-Added.is at c.requires.below).1 in
-    (omega (arith, below), c.requires.fits)
+    (omega (arith, below), (c.requires.fits, (rw c.in-Added.is at c.requires.collection_held).2))
 
 pub members_part-returns-in_err-types-in-Added-clause-err : goal.members_part-returns-in_err-types-in-Added-clause-err
 members_part-returns-in_err-types-in-Added-clause-err t c =

@@ -15,8 +15,8 @@ use Rattle.sf_term.specs.declared.node.Node.TheVariants as nodes
 use Rattle.sf_term.specs.ParameterView.{kind_of_form}
 use Rattle.sf_term.specs.Parameters.{binding_of}
 use Rattle.sf_term.specs.Trees.{arguments_depth, collection_depth}
-use Rattle.sf_term.specs.Arena.{term_number, term_spot_at, argument_nodes, arguments_of, collection_node, collection_of, CollectionBelow, ArgumentBelow}
-use Rattle.sf_reach.proofs.Shallow.{arguments_shallow, members_shallow, released_shallow, edited_shallow, first_shallow, rest_shallow, found_there}
+use Rattle.sf_term.specs.Arena.{term_number, term_spot_at, argument_nodes, arguments_of, collection_node, collection_of, CollectionBelow, ArgumentBelow, HoldsTermParts, HoldsArgument, HoldsMembers, HoldsWhole}
+use Rattle.sf_reach.proofs.Shallow.{arguments_shallow, members_shallow, released_shallow, edited_shallow, first_shallow, rest_shallow}
 use Rattle.sf_check.specs.Contexts.{program_in, context_in}
 use Rattle.sf_mean.specs.Contexts.{NameKind}
 use Rattle.sf_operator.specs.Kinds.{same_kind}
@@ -45,68 +45,68 @@ switching_output-returns-in-Recurring t c =
 pub argument_fits-judge_members-requires : goal.argument_fits-judge_members-requires
 argument_fits-judge_members-requires t c =
     let is = c.in-Collection-Collection.is-0 in
-    (omega arith, (subst (ArgumentBelow (program_in c.args.context.now) (term_number c.args.term)) is c.requires.below, c.requires.shallow _ is))
+    (omega arith, (subst (ArgumentBelow (program_in c.args.context.now) (term_number c.args.term)) is c.requires.below, (c.requires.shallow _ is, subst (HoldsArgument (program_in c.args.context.now)) is c.requires.argument_held)))
 
 pub judge_members-members_of-requires : goal.judge_members-members_of-requires
 judge_members-members_of-requires t c =
-    let there = found_there c.collection.ensures c.in-Some.is in
+    let there = c.collection.ensures in
     let shallow = subst (λ i. collection_depth (collection_of (program_in c.args.context.now) i) ≤ 64) (sym there) c.requires.shallow in
-    (omega (arith, shallow), (subst (CollectionBelow (term_number c.args.form)) (sym there) c.requires.below, shallow))
+    (omega (arith, shallow), (subst (CollectionBelow (term_number c.args.form)) (sym there) c.requires.below, (shallow, subst (HoldsMembers (program_in c.args.context.now)) (sym there) c.requires.members_held.1)))
 
 pub members_of-members_of-requires : goal.members_of-members_of-requires
 members_of-members_of-requires t c =
     let same = ap (λ i. collection_depth (collection_of (program_in c.args.context.now) i)) c.deref.ensures in
     let whole = ap (λ i. collection_depth (collection_of (program_in c.args.context.now) i)) c.in-Added.is in
-    (omega (arith, same, whole), (rw c.deref.ensures ((rw c.in-Added.is at c.requires.below).0), omega (arith, same, whole, c.requires.shallow)))
+    (omega (arith, same, whole), (rw c.deref.ensures ((rw c.in-Added.is at c.requires.below).0), (omega (arith, same, whole, c.requires.shallow), rw c.deref.ensures ((rw c.in-Added.is at c.requires.collection_held).0))))
 
 pub members_of-members_of-requires-in-Dropped : goal.members_of-members_of-requires-in-Dropped
 members_of-members_of-requires-in-Dropped t c =
     let same = ap (λ i. collection_depth (collection_of (program_in c.args.context.now) i)) c.deref-in-Dropped.ensures in
     let whole = ap (λ i. collection_depth (collection_of (program_in c.args.context.now) i)) c.in-Dropped.is in
-    (omega (arith, same, whole), (rw c.deref-in-Dropped.ensures ((rw c.in-Dropped.is at c.requires.below)), omega (arith, same, whole, c.requires.shallow)))
+    (omega (arith, same, whole), (rw c.deref-in-Dropped.ensures ((rw c.in-Dropped.is at c.requires.below)), (omega (arith, same, whole, c.requires.shallow), rw c.deref-in-Dropped.ensures ((rw c.in-Dropped.is at c.requires.collection_held).0))))
 
 pub members_of-members_of-requires-in-Kept : goal.members_of-members_of-requires-in-Kept
 members_of-members_of-requires-in-Kept t c =
     let same = ap (λ i. collection_depth (collection_of (program_in c.args.context.now) i)) c.deref-in-Kept.ensures in
     let whole = ap (λ i. collection_depth (collection_of (program_in c.args.context.now) i)) c.in-Kept.is in
-    (omega (arith, same, whole), (rw c.deref-in-Kept.ensures ((rw c.in-Kept.is at c.requires.below)), omega (arith, same, whole, c.requires.shallow)))
+    (omega (arith, same, whole), (rw c.deref-in-Kept.ensures ((rw c.in-Kept.is at c.requires.below)), (omega (arith, same, whole, c.requires.shallow), rw c.deref-in-Kept.ensures ((rw c.in-Kept.is at c.requires.collection_held).0))))
 
 pub members_of-members_of-requires-in-Chosen : goal.members_of-members_of-requires-in-Chosen
 members_of-members_of-requires-in-Chosen t c =
     let same = ap (λ i. collection_depth (collection_of (program_in c.args.context.now) i)) c.deref-in-Chosen.ensures in
     let whole = ap (λ i. collection_depth (collection_of (program_in c.args.context.now) i)) c.in-Chosen.is in
-    (omega (arith, same, whole), (rw c.deref-in-Chosen.ensures ((rw c.in-Chosen.is at c.requires.below).0), omega (arith, same, whole, c.requires.shallow)))
+    (omega (arith, same, whole), (rw c.deref-in-Chosen.ensures ((rw c.in-Chosen.is at c.requires.below).0), (omega (arith, same, whole, c.requires.shallow), rw c.deref-in-Chosen.ensures ((rw c.in-Chosen.is at c.requires.collection_held).1))))
 
 pub members_of-members_of-requires-in-Chosen-2 : goal.members_of-members_of-requires-in-Chosen-2
 members_of-members_of-requires-in-Chosen-2 t c =
     let same = ap (λ i. collection_depth (collection_of (program_in c.args.context.now) i)) c.deref-in-Chosen-2.ensures in
     let whole = ap (λ i. collection_depth (collection_of (program_in c.args.context.now) i)) c.in-Chosen.is in
-    (omega (arith, same, whole), (rw c.deref-in-Chosen-2.ensures ((rw c.in-Chosen.is at c.requires.below).1), omega (arith, same, whole, c.requires.shallow)))
+    (omega (arith, same, whole), (rw c.deref-in-Chosen-2.ensures ((rw c.in-Chosen.is at c.requires.below).1), (omega (arith, same, whole, c.requires.shallow), rw c.deref-in-Chosen-2.ensures ((rw c.in-Chosen.is at c.requires.collection_held).2))))
 
 pub members_of-judge-requires : goal.members_of-judge-requires
-members_of-judge-requires t c = let below = (rw c.in-Added.is at c.requires.below).1 in omega (arith, below)
+members_of-judge-requires t c = let below = (rw c.in-Added.is at c.requires.below).1 in (omega (arith, below), (rw c.in-Added.is at c.requires.collection_held).2)
 
 pub gathered_output-judge_members-requires : goal.gathered_output-judge_members-requires
-gathered_output-judge_members-requires t c = (omega arith, (c.requires.below, members_shallow (program_in c.args.context.now) c.args.term c.args.members (sym c.requires.there)))
+gathered_output-judge_members-requires t c = (omega arith, (c.requires.below, (members_shallow (program_in c.args.context.now) c.args.term c.args.members (sym c.requires.there), c.requires.members_held)))
 
 pub releasing_output-judge_members-requires : goal.releasing_output-judge_members-requires
-releasing_output-judge_members-requires t c = (omega arith, (c.requires.below.0, released_shallow (program_in c.args.context.now) c.args.term c.args.form (sym c.requires.there)))
+releasing_output-judge_members-requires t c = (omega arith, (c.requires.below.0, (released_shallow (program_in c.args.context.now) c.args.term c.args.form (sym c.requires.there), c.requires.form_held.0)))
 
 pub editing_output-judge_members-requires : goal.editing_output-judge_members-requires
-editing_output-judge_members-requires t c = (omega arith, (c.requires.below.0, (edited_shallow (program_in c.args.context.now) c.args.term c.args.form (sym c.requires.there)).0))
+editing_output-judge_members-requires t c = (omega arith, (c.requires.below.0, ((edited_shallow (program_in c.args.context.now) c.args.term c.args.form (sym c.requires.there)).0, c.requires.form_held.0)))
 
 pub editing_output-edited_types-requires : goal.editing_output-edited_types-requires
-editing_output-edited_types-requires t c = (omega arith, (c.requires.below.1, (edited_shallow (program_in c.args.context.now) c.args.term c.args.form (sym c.requires.there)).1))
+editing_output-edited_types-requires t c = (omega arith, (c.requires.below.1, ((edited_shallow (program_in c.args.context.now) c.args.term c.args.form (sym c.requires.there)).1, c.requires.form_held)))
 
 pub edit_within-edit_types-requires : goal.edit_within-edit_types-requires
 edit_within-edit_types-requires t c =
     let same = sym c.in_ok-inner.ensures.program in
-    (omega arith, (subst (λ p. CollectionBelow (term_number c.args.term) (collection_node p c.args.edit.now.form.edit)) same c.requires.below, subst (λ p. collection_depth (collection_of p (collection_node p c.args.edit.now.form.edit)) ≤ 64) same c.requires.shallow))
+    (omega arith, (subst (λ p. CollectionBelow (term_number c.args.term) (collection_node p c.args.edit.now.form.edit)) same c.requires.below, (subst (λ p. collection_depth (collection_of p (collection_node p c.args.edit.now.form.edit)) ≤ 64) same c.requires.shallow, subst (λ p. HoldsTermParts p (nodes.Editing c.args.edit.now.form)) same c.requires.edit_held)))
 
 pub members_within-judge_members-requires : goal.members_within-judge_members-requires
 members_within-judge_members-requires t c =
     let same = sym c.in_ok-inner.ensures.program in
-    (omega arith, (subst (λ p. CollectionBelow (term_number c.args.form) (collection_node p c.args.members)) same c.requires.below, subst (λ p. collection_depth (collection_of p (collection_node p c.args.members)) ≤ 64) same c.requires.shallow))
+    (omega arith, (subst (λ p. CollectionBelow (term_number c.args.form) (collection_node p c.args.members)) same c.requires.below, (subst (λ p. collection_depth (collection_of p (collection_node p c.args.members)) ≤ 64) same c.requires.shallow, subst (λ p. HoldsWhole p c.args.members) same c.requires.members_held)))
 
 pub argument_fits-returns-in_ok-given-in-Collection-Collection : goal.argument_fits-returns-in_ok-given-in-Collection-Collection
 argument_fits-returns-in_ok-given-in-Collection-Collection t c =
@@ -140,6 +140,7 @@ call_output-loop-argument-init t c =
     record {
       so = so_first first second;
       below = All-same (ArgumentBelow p (term_number c.args.term)) _ _ first c.requires.below;
+      held = All-same (HoldsArgument p) _ _ first c.requires.arguments_held.1;
       shallow = subst (λ vs. arguments_depth (arguments_of p vs) ≤ 64) (sym first) (arguments_shallow p c.args.term _ _ (sym c.requires.there));
     }
 
@@ -147,7 +148,7 @@ pub call_output-argument_fits-requires : goal.call_output-argument_fits-requires
 call_output-argument_fits-requires t c =
     let p = program_in c.args.context.now in
     let step = Zip-more c.loop-argument.argument-iterator c.next.new.self _ _ c.in-Some-2.is c.next.ensures.steps in
-    (omega arith, (All-head (ArgumentBelow p (term_number c.args.term)) _ _ (subst (All (ArgumentBelow p (term_number c.args.term))) step.0 c.loop-argument.invariant.below), λ i is. first_shallow p _ _ i is (subst (λ vs. arguments_depth (arguments_of p vs) ≤ 64) step.0 c.loop-argument.invariant.shallow)))
+    (omega arith, (All-head (ArgumentBelow p (term_number c.args.term)) _ _ (subst (All (ArgumentBelow p (term_number c.args.term))) step.0 c.loop-argument.invariant.below), ((λ i is. first_shallow p _ _ i is (subst (λ vs. arguments_depth (arguments_of p vs) ≤ 64) step.0 c.loop-argument.invariant.shallow)), (c.requires.term_held, All-head (HoldsArgument p) _ _ (subst (All (HoldsArgument p)) step.0 c.loop-argument.invariant.held)))))
 
 pub call_output-loop-argument-preserved : goal.call_output-loop-argument-preserved
 call_output-loop-argument-preserved t c =
@@ -157,6 +158,7 @@ call_output-loop-argument-preserved t c =
     record {
       so = so_next c.loop-argument.fit c.in_ok-fit.field-0 c.loop-argument.invariant.so step.0 step.1 answer;
       below = All-rest (ArgumentBelow p (term_number c.args.term)) _ _ _ step.0 c.loop-argument.invariant.below;
+      held = All-rest (HoldsArgument p) _ _ _ step.0 c.loop-argument.invariant.held;
       shallow = rest_shallow p _ _ (subst (λ vs. arguments_depth (arguments_of p vs) ≤ 64) step.0 c.loop-argument.invariant.shallow);
     }
 

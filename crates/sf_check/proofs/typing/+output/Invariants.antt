@@ -2,7 +2,7 @@ use Rattle.std.proofs.Common.{◌+◌, ◌*◌, ◌≤◌, All}
 use Rattle.std.specs.Iterator.Adapters.{zip_first, zip_second}
 use Rattle.std.specs.Slice.Iter.{iter_rest}
 use Rattle.sf_term.specs.Trees.{collection_depth, arguments_depth}
-use Rattle.sf_term.specs.Arena.{term_number, term_spot_at, argument_nodes, arguments_of, collection_of, ArgumentBelow}
+use Rattle.sf_term.specs.Arena.{term_number, term_spot_at, argument_nodes, arguments_of, collection_of, ArgumentBelow, HoldsArgument}
 use Rattle.sf_term.specs.Parameters.{parameters_of}
 use Rattle.sf_check.specs.Contexts.{program_in, context_in}
 use Rattle.sf_check.proofs.Calls.{SoFar}
@@ -106,5 +106,6 @@ invariant-call_output-loop-argument l =
     record {
       so : SoFar (program_in l.context) (term_spot_at (program_in l.context) l.term) (context_in l.context) (argument_nodes (program_in l.context) l.fn.arguments) (parameters_of l.template.parameters) left (parameters_of (iter_rest (zip_second l.argument-iterator))) l.fit;
       below : All (ArgumentBelow (program_in l.context) (term_number l.term)) left;
+      held : All (HoldsArgument (program_in l.context)) left;
       shallow : arguments_depth (arguments_of (program_in l.context) left) ≤ 64;
     }

@@ -1,6 +1,8 @@
 use Rattle.std.proofs.Common.{◌≡◌, Bool, true, false, ℕ, ◌<◌, List, [], ◌∷◌, ◌++◌, length, take, get_or, not, refl, sym, ap, subst, ◌∙◌, true≢false, arith}
 use Rattle.std.specs.Prelude.{if◌then◌else◌, is_some, bytes_eq, Vec}
-use Rattle.std.specs.List.{list_any}
+use Rattle.std.specs.List.{All, list_any}
+use Rattle.std.proofs.lemmas.List.Elements.{All-nil, All-push}
+use Rattle.sf_expr.specs.Arena.{HoldsName}
 use Rattle.std.specs.Borrow.{Bor}
 use Rattle.std.specs.declared.alloc.Global.{Global}
 use Rattle.std.proofs.lemmas.List.{take_more}
@@ -18,6 +20,7 @@ pub loop-name-init : goal.loop-name-init
 loop-name-init c = record {
   same = ap (names_by_id c.args.exprs.now) c.new-own.ensures.items ∙ sym (ap names_seen c.new-seen.ensures.empty);
   bound = λ y h. absurd cc;
+  held = subst (All (HoldsName c.args.exprs.now)) (sym c.new-own.ensures.items) (All-nil (HoldsName c.args.exprs.now));
   none = λ h. c.new-own.ensures.items;
 }
 
@@ -29,6 +32,10 @@ own_kept old k own false is_new new e h = h
 own_passed : (old : List NameId) (k : NameId) (own : List NameId) (seen is_new : Bool) → is_new ≡ not seen → is_new ≡ false → own ≡ old → own ≡ (if seen then old else old ++ k ∷ [])
 own_passed old k own true is_new new e h = h
 own_passed old k own false is_new new e h = absurd (true≢false (sym new ∙ e))
+
+own_held : (P : NameId → Type 0) (old : List NameId) (k : NameId) (seen : Bool) → All P old → P k → All P (if seen then old else old ++ k ∷ [])
+own_held P old k true h p = h
+own_held P old k false h p = All-push P old k h p
 
 pub loop-name-preserved : goal.loop-name-preserved
 loop-name-preserved c =
@@ -50,6 +57,7 @@ loop-name-preserved c =
     record {
       same = ap (names_by_id x) own ∙ once_seen x old k c.loop-name.seen.keys c.insert.new.self.keys c.name_of.result seen c.name_of.ensures keys c.loop-name.invariant.same;
       bound = subst (λ ks. BindAsMany (named_each (names_by_id x ks)) (named_each (names_seen c.insert.new.self.keys))) (sym (take_more c.args.names.now i none inside)) (one_more x (take i c.args.names.now) k (named_each (names_seen c.insert.new.self.keys)) before here);
+      held = subst (All (HoldsName x)) (sym own) (own_held (HoldsName x) old k seen c.loop-name.invariant.held (c.requires i none inside));
       none = λ h. absurd (let empty : length c.args.names.now ≡ 0 = ap length h in omega (arith, inside, empty));
     }
 

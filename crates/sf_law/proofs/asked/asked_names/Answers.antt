@@ -1,6 +1,4 @@
-use Rattle.std.proofs.Common.{◌∙◌, ap, subst, arith}
-use Rattle.sf_expr.specs.Arena.{name_at}
-use Rattle.sf_law.specs.Mentioned.{AddsOnly}
+use Rattle.std.proofs.Common.{subst, arith}
 use Rattle.sf_law.specs.Asking.{IsLack}
 use Rattle.sf_law.specs.Arena.{plan_expressions, plan_headers, plan_node_at, IsEnough}
 use Rattle.sf_law.proofs.Enough.{any_asked, none_only, next_only}

@@ -27,3 +27,6 @@ returns-in-Continuation-clause-same c = rw (c.in-Continuation.is, c.plan_continu
 
 pub returns-in_ok-named-in-Named-clause-coded : goal.returns-in_ok-named-in-Named-clause-coded
 returns-in_ok-named-in-Named-clause-coded c = c.in_ok-named-in-Named.ensures.coded _
+
+pub returns-in_ok-named-in-Named-clause-beside : goal.returns-in_ok-named-in-Named-clause-beside
+returns-in_ok-named-in-Named-clause-beside c = c.in_ok-named-in-Named.ensures.beside _

@@ -49,3 +49,8 @@ returns-in-Headed-clause-ok c =
     let held = rw c.in-Headed.is at c.requires.held in
     let part = part_of c.args.program.now c.args.plan.now c.args.plans.now c.requires.plans c.in-Headed.part below c.plan_of-in-Headed.ensures in
     rw c.in-Headed.is (ok_then c.with_head.result (λ a h. heading_rewritten c.args.program.now c.args.plan.now c.with_head.new.plan c.in-Headed.value c.requires.kept held.0 part h) c.with_head.ensures.ok)
+
+pub with_head-requires-clause-value : goal.with_head-requires-clause-value
+with_head-requires-clause-value c =
+    let held = rw c.in-Headed.is at c.requires.held in
+    c.requires.kept.holds c.in-Headed.value held.0

@@ -5,4 +5,4 @@ use Rattle.sf_optimise.proofs.Made.{makes_held}
 use Rattle.sf_optimise.proofs.optimising.with_head.Goals as goal
 
 pub returns-in-Initialized-clause-ok : goal.returns-in-Initialized-clause-ok
-returns-in-Initialized-clause-ok c = ok_then c.headed.result (λ a h. makes_held (plan_heading c.requires.normal) unchanged h) c.headed.ensures.ok
+returns-in-Initialized-clause-ok c = ok_then c.headed.result (λ a h. makes_held (plan_heading c.requires.part.normal) unchanged h) c.headed.ensures.ok

@@ -2,7 +2,7 @@ use Rattle.std.proofs.Common.{◌≡◌, List, length, ◌-◌, take, drop, sym,
 use Rattle.std.specs.List.{All}
 use Rattle.std.proofs.lemmas.Result.{on_ok_weaker}
 use Rattle.sf_expr.specs.Arena.{name_at}
-use Rattle.sf_term.specs.Arena.{program_expressions, arguments_of}
+use Rattle.sf_term.specs.Arena.{program_expressions, arguments_of, HoldsArgument}
 use Rattle.sf_lex.specs.declared.symbol.Symbol.TheVariants as symbols
 use Rattle.sf_lex.specs.Tokens.{name, symbol}
 use Rattle.sf_grammar.specs.Spelling.{spell_further, spell_listed, spell_arguments}
@@ -47,13 +47,13 @@ write_further-returns t c =
 pub write_term-write_call-requires : goal.write_term-write_call-requires
 write_term-write_call-requires t c =
     let p = c.args.program.now in
-    (omega arith, subst (λ (vs : List Argument). All (ArgumentWithin p c.args.id) vs) (sym c.arguments-arguments.ensures) (parts_within p c.args.id (nodes.Call c.in-Call.name c.in-Call.arguments) c.in-Call.ensures.below c.in-Call.ensures.builds))
+    (omega arith, (subst (λ (vs : List Argument). All (ArgumentWithin p c.args.id) vs) (sym c.arguments-arguments.ensures) (parts_within p c.args.id (nodes.Call c.in-Call.name c.in-Call.arguments) c.in-Call.ensures.below c.in-Call.ensures.builds), (c.in-Call.ensures.held.0, subst (λ (vs : List Argument). All (HoldsArgument p) vs) (sym c.arguments-arguments.ensures) c.in-Call.ensures.held.2)))
 
 pub write_term-write_gathered-requires : goal.write_term-write_gathered-requires
-write_term-write_gathered-requires t c = (omega arith, parts_within c.args.program.now c.args.id (nodes.Gathered c.in-Gathered.members) c.in-Gathered.ensures.below c.in-Gathered.ensures.builds)
+write_term-write_gathered-requires t c = (omega arith, (parts_within c.args.program.now c.args.id (nodes.Gathered c.in-Gathered.members) c.in-Gathered.ensures.below c.in-Gathered.ensures.builds, c.in-Gathered.ensures.held))
 
 pub write_term-write_releasing-requires : goal.write_term-write_releasing-requires
-write_term-write_releasing-requires t c = (omega arith, parts_within c.args.program.now c.args.id (nodes.Releasing c.in-Releasing.form) c.in-Releasing.ensures.below c.in-Releasing.ensures.builds)
+write_term-write_releasing-requires t c = (omega arith, (parts_within c.args.program.now c.args.id (nodes.Releasing c.in-Releasing.form) c.in-Releasing.ensures.below c.in-Releasing.ensures.builds, c.in-Releasing.ensures.held))
 
 pub write_term-write_editing-requires : goal.write_term-write_editing-requires
-write_term-write_editing-requires t c = (omega arith, parts_within c.args.program.now c.args.id (nodes.Editing c.in-Editing.form) c.in-Editing.ensures.below c.in-Editing.ensures.builds)
+write_term-write_editing-requires t c = (omega arith, (parts_within c.args.program.now c.args.id (nodes.Editing c.in-Editing.form) c.in-Editing.ensures.below c.in-Editing.ensures.builds, c.in-Editing.ensures.held))

@@ -1,15 +1,14 @@
-use Rattle.std.proofs.Common.{◌≡◌, ◌≤◌, All, [], ◌++◌, arith, ◌∙◌, Some, None, sym, ap, subst, inl, inr}
+use Rattle.std.proofs.Common.{◌≤◌, All, [], ◌++◌, arith, ◌∙◌, Some, None, sym, ap, subst, inl, inr}
 use Rattle.std.proofs.lemmas.Result.{on_ok_weaker}
 use Rattle.sf_expr.specs.Arena.{name_at}
 use Rattle.std.proofs.lemmas.List.{append-nil}
 use Rattle.sf_term.specs.Trees.{arguments_depth, collection_depth}
-use Rattle.sf_term.specs.Arena.{term_number, arguments_of, collection_of, ArgumentBelow, CollectionBelow, TermPartsBelow}
-use Rattle.sf_term.specs.declared.node.Argument.TheVariants as arguments
+use Rattle.sf_term.specs.Arena.{term_number, arguments_of, collection_of, ArgumentBelow, CollectionBelow, TermPartsBelow, HoldsTermParts, HoldsMembers, HoldsArgument}
 use Rattle.sf_term.specs.declared.node.Node.TheVariants as nodes
 use Rattle.sf_reach.specs.Order.{CallsInOrder, in_primitive, in_named, in_joined, in_sided, in_headed, in_transformed, in_switching, in_continuing, in_gathered, in_releasing, in_editing, MemberCalls, in_empty, in_used, in_added, in_dropped, in_kept, in_chosen}
-use Rattle.sf_reach.specs.Graphs.{AddsMemberCalls, AddsArgumentCalls}
-use Rattle.sf_reach.proofs.Shallow.{arguments_shallow, members_shallow, released_shallow, edited_shallow, argument_shallow, found_there, absent_there}
-use Rattle.sf_reach.proofs.Gathered.{adds_none, adds_one, adds_two, adds_members, adds_members_and, adds_into, adds_both, adds_nothing, name_found, adds_found, adds_absent, no_argument, adds_value, adds_process, adds_collection}
+use Rattle.sf_reach.specs.Graphs.{AddsArgumentCalls}
+use Rattle.sf_reach.proofs.Shallow.{arguments_shallow, members_shallow, released_shallow, edited_shallow, argument_shallow}
+use Rattle.sf_reach.proofs.Gathered.{adds_none, adds_one, adds_two, adds_members, adds_members_and, adds_into, adds_both, name_found, adds_found, adds_absent, no_argument, adds_value, adds_process, adds_collection}
 use Rattle.sf_reach.proofs.graph.+gathering.Goals as goal
 use Rattle.sf_reach.proofs.graph.+gathering.Goals.{gather-in-Some+in_ok-push-in-Call, gather-in_default, gather_arguments-in-Process+in_ok-gather-in-Process, gather_arguments-in-Collection+in_ok-gather_at-in-Collection, gather_arguments-in-Value}
 
@@ -35,10 +34,10 @@ gather-returns-after-get_index_of t c =
     let own = subst (λ vs. AddsArgumentCalls p vs mid new) c.arguments.ensures h in
     elim c.match-get_index_of.branch [
       | gather-in-Some+in_ok-push-in-Call w ↦
-          adds_found p c.args.term name c.in-Call.arguments is old mid new x w.spot-spot.result w.in-Some.callee named w.spot-spot.ensures (name_found p c.args.names.now x (Some w.in-Some.callee) c.requires w.in-Some.ensures.index)
+          adds_found p c.args.term name c.in-Call.arguments is old mid new x w.spot-spot.result w.in-Some.callee named w.spot-spot.ensures (name_found p c.args.names.now x (Some w.in-Some.callee) c.requires.names w.in-Some.ensures.index)
           (ap (λ v. v.items) w.calls-is ∙ w.in_ok-push-in-Call.ensures.items) own
       | gather-in_default w ↦
-          adds_absent p c.args.term name c.in-Call.arguments is old mid new x named (name_found p c.args.names.now x None c.requires w.in_default.ensures.index) (ap (λ v. v.items) w.calls-is) own
+          adds_absent p c.args.term name c.in-Call.arguments is old mid new x named (name_found p c.args.names.now x None c.requires.names w.in_default.ensures.index) (ap (λ v. v.items) w.calls-is) own
     ]) c.gather_arguments.ensures
 
 pub gather-returns-in_ok-gather-in-Joined : goal.gather-returns-in_ok-gather-in-Joined
@@ -82,22 +81,23 @@ gather-gather_arguments-requires t c =
     let p = c.args.program.now in
     let is = sym c.in-Call.is ∙ c.node.ensures.value in
     let below = subst (λ n. TermPartsBelow p n (term_number c.args.term)) c.in-Call.is c.node.ensures.below in
-    (omega arith, (c.requires, (subst (All (ArgumentBelow p (term_number c.args.term))) (sym c.arguments.ensures) below, subst (λ vs. arguments_depth (arguments_of p vs) ≤ 64) (sym c.arguments.ensures) (arguments_shallow p c.args.term c.in-Call.name c.in-Call.arguments is))))
+    let held = subst (HoldsTermParts p) c.in-Call.is c.node.ensures.held in
+    (omega arith, (c.requires.names, (subst (All (ArgumentBelow p (term_number c.args.term))) (sym c.arguments.ensures) below, (subst (λ vs. arguments_depth (arguments_of p vs) ≤ 64) (sym c.arguments.ensures) (arguments_shallow p c.args.term c.in-Call.name c.in-Call.arguments is), subst (All (HoldsArgument p)) (sym c.arguments.ensures) held.2))))
 
 pub gather-gather_at-requires : goal.gather-gather_at-requires
 gather-gather_at-requires t c =
     let p = c.args.program.now in
-    (omega arith, (c.requires, (subst (λ n. TermPartsBelow p n (term_number c.args.term)) c.in-Gathered.is c.node.ensures.below, members_shallow p c.args.term c.in-Gathered.members (sym c.in-Gathered.is ∙ c.node.ensures.value))))
+    (omega arith, (c.requires.names, (subst (λ n. TermPartsBelow p n (term_number c.args.term)) c.in-Gathered.is c.node.ensures.below, (members_shallow p c.args.term c.in-Gathered.members (sym c.in-Gathered.is ∙ c.node.ensures.value), subst (HoldsTermParts p) c.in-Gathered.is c.node.ensures.held))))
 
 pub gather-gather_at-requires-in-Editing : goal.gather-gather_at-requires-in-Editing
 gather-gather_at-requires-in-Editing t c =
     let p = c.args.program.now in
-    (omega arith, (c.requires, ((subst (λ n. TermPartsBelow p n (term_number c.args.term)) c.in-Editing.is c.node.ensures.below).0, (edited_shallow p c.args.term c.in-Editing.form (sym c.in-Editing.is ∙ c.node.ensures.value)).0)))
+    (omega arith, (c.requires.names, ((subst (λ n. TermPartsBelow p n (term_number c.args.term)) c.in-Editing.is c.node.ensures.below).0, ((edited_shallow p c.args.term c.in-Editing.form (sym c.in-Editing.is ∙ c.node.ensures.value)).0, (subst (HoldsTermParts p) c.in-Editing.is c.node.ensures.held).0))))
 
 pub gather-gather_at-requires-in-Releasing : goal.gather-gather_at-requires-in-Releasing
 gather-gather_at-requires-in-Releasing t c =
     let p = c.args.program.now in
-    (omega arith, (c.requires, ((subst (λ n. TermPartsBelow p n (term_number c.args.term)) c.in-Releasing.is c.node.ensures.below).0, released_shallow p c.args.term c.in-Releasing.form (sym c.in-Releasing.is ∙ c.node.ensures.value))))
+    (omega arith, (c.requires.names, ((subst (λ n. TermPartsBelow p n (term_number c.args.term)) c.in-Releasing.is c.node.ensures.below).0, (released_shallow p c.args.term c.in-Releasing.form (sym c.in-Releasing.is ∙ c.node.ensures.value), (subst (HoldsTermParts p) c.in-Releasing.is c.node.ensures.held).0))))
 
 pub gather-returns-in-Gathered : goal.gather-returns-in-Gathered
 gather-returns-in-Gathered t c =
@@ -120,48 +120,44 @@ gather-returns-in_ok-gather_at-in-Releasing t c =
 
 pub gather_at-gather_members-requires : goal.gather_at-gather_members-requires
 gather_at-gather_members-requires t c =
-    let there = found_there c.collection.ensures c.in-Some.is in
+    let there = c.collection.ensures in
     let shallow = subst (λ i. collection_depth (collection_of c.args.program.now i) ≤ 64) (sym there) c.requires.shallow in
-    (omega (arith, shallow), (c.requires.names, (subst (CollectionBelow (term_number c.args.form)) (sym there) c.requires.below, shallow)))
-
-pub gather_at-returns-in-None : goal.gather_at-returns-in-None
-gather_at-returns-in-None t c =
-    subst (λ i. AddsMemberCalls c.args.program.now i c.args.calls.now.items c.args.calls.now.items) (absent_there c.collection.ensures c.in-None.is) ([], in_empty, sym (append-nil c.args.calls.now.items))
+    (omega (arith, shallow), (c.requires.names, (subst (CollectionBelow (term_number c.args.form)) (sym there) c.requires.below, (shallow, subst (HoldsMembers c.args.program.now) (sym there) c.requires.held.1))))
 
 pub gather_members-gather_members-requires : goal.gather_members-gather_members-requires
 gather_members-gather_members-requires t c =
     let same = ap (λ i. collection_depth (collection_of c.args.program.now i)) c.deref.ensures in
     let whole = ap (λ i. collection_depth (collection_of c.args.program.now i)) c.in-Added.is in
-    (omega (arith, same, whole), (c.requires.names, (rw c.deref.ensures ((rw c.in-Added.is at c.requires.below).0), omega (arith, same, whole, c.requires.shallow))))
+    (omega (arith, same, whole), (c.requires.names, (rw c.deref.ensures ((rw c.in-Added.is at c.requires.below).0), (omega (arith, same, whole, c.requires.shallow), rw c.deref.ensures ((rw c.in-Added.is at c.requires.held).0)))))
 
 pub gather_members-gather-requires : goal.gather_members-gather-requires
 gather_members-gather-requires t c =
     let below = (rw c.in-Added.is at c.requires.below).1 in
-    (omega (arith, below), c.requires.names)
+    (omega (arith, below), (c.requires.names, (rw c.in-Added.is at c.requires.held).2))
 
 pub gather_members-gather_members-requires-in-Dropped : goal.gather_members-gather_members-requires-in-Dropped
 gather_members-gather_members-requires-in-Dropped t c =
     let same = ap (λ i. collection_depth (collection_of c.args.program.now i)) c.deref-in-Dropped.ensures in
     let whole = ap (λ i. collection_depth (collection_of c.args.program.now i)) c.in-Dropped.is in
-    (omega (arith, same, whole), (c.requires.names, (rw c.deref-in-Dropped.ensures ((rw c.in-Dropped.is at c.requires.below)), omega (arith, same, whole, c.requires.shallow))))
+    (omega (arith, same, whole), (c.requires.names, (rw c.deref-in-Dropped.ensures ((rw c.in-Dropped.is at c.requires.below)), (omega (arith, same, whole, c.requires.shallow), rw c.deref-in-Dropped.ensures ((rw c.in-Dropped.is at c.requires.held).0)))))
 
 pub gather_members-gather_members-requires-in-Kept : goal.gather_members-gather_members-requires-in-Kept
 gather_members-gather_members-requires-in-Kept t c =
     let same = ap (λ i. collection_depth (collection_of c.args.program.now i)) c.deref-in-Kept.ensures in
     let whole = ap (λ i. collection_depth (collection_of c.args.program.now i)) c.in-Kept.is in
-    (omega (arith, same, whole), (c.requires.names, (rw c.deref-in-Kept.ensures ((rw c.in-Kept.is at c.requires.below)), omega (arith, same, whole, c.requires.shallow))))
+    (omega (arith, same, whole), (c.requires.names, (rw c.deref-in-Kept.ensures ((rw c.in-Kept.is at c.requires.below)), (omega (arith, same, whole, c.requires.shallow), rw c.deref-in-Kept.ensures ((rw c.in-Kept.is at c.requires.held).0)))))
 
 pub gather_members-gather_members-requires-in-Chosen : goal.gather_members-gather_members-requires-in-Chosen
 gather_members-gather_members-requires-in-Chosen t c =
     let same = ap (λ i. collection_depth (collection_of c.args.program.now i)) c.deref-in-Chosen.ensures in
     let whole = ap (λ i. collection_depth (collection_of c.args.program.now i)) c.in-Chosen.is in
-    (omega (arith, same, whole), (c.requires.names, (rw c.deref-in-Chosen.ensures ((rw c.in-Chosen.is at c.requires.below).0), omega (arith, same, whole, c.requires.shallow))))
+    (omega (arith, same, whole), (c.requires.names, (rw c.deref-in-Chosen.ensures ((rw c.in-Chosen.is at c.requires.below).0), (omega (arith, same, whole, c.requires.shallow), rw c.deref-in-Chosen.ensures ((rw c.in-Chosen.is at c.requires.held).1)))))
 
 pub gather_members-gather_members-requires-in-Chosen-2 : goal.gather_members-gather_members-requires-in-Chosen-2
 gather_members-gather_members-requires-in-Chosen-2 t c =
     let same = ap (λ i. collection_depth (collection_of c.args.program.now i)) c.deref-in-Chosen-2.ensures in
     let whole = ap (λ i. collection_depth (collection_of c.args.program.now i)) c.in-Chosen.is in
-    (omega (arith, same, whole), (c.requires.names, (rw c.deref-in-Chosen-2.ensures ((rw c.in-Chosen.is at c.requires.below).1), omega (arith, same, whole, c.requires.shallow))))
+    (omega (arith, same, whole), (c.requires.names, (rw c.deref-in-Chosen-2.ensures ((rw c.in-Chosen.is at c.requires.below).1), (omega (arith, same, whole, c.requires.shallow), rw c.deref-in-Chosen-2.ensures ((rw c.in-Chosen.is at c.requires.held).2)))))
 
 pub gather_members-returns-in-Empty : goal.gather_members-returns-in-Empty
 gather_members-returns-in-Empty t c = rw c.in-Empty.is ([], in_empty, sym (append-nil c.args.calls.now.items))
@@ -208,7 +204,7 @@ pub gather_arguments-gather_at-requires : goal.gather_arguments-gather_at-requir
 gather_arguments-gather_at-requires t c =
     let p = c.args.program.now in
     let i = c.loop-argument.argument-index in
-    (omega arith, (c.requires.names, (subst (ArgumentBelow p (term_number c.args.call)) c.in-Collection.is (c.requires.below i _ c.loop-argument-test.true), argument_shallow p c.args.arguments.now i _ _ c.loop-argument-test.true c.in-Collection.is c.requires.shallow)))
+    (omega arith, (c.requires.names, (subst (ArgumentBelow p (term_number c.args.call)) c.in-Collection.is (c.requires.below i _ c.loop-argument-test.true), (argument_shallow p c.args.arguments.now i _ _ c.loop-argument-test.true c.in-Collection.is c.requires.shallow, subst (HoldsArgument p) c.in-Collection.is (c.requires.held i _ c.loop-argument-test.true)))))
 
 pub gather_arguments-loop-argument-preserved : goal.gather_arguments-loop-argument-preserved
 gather_arguments-loop-argument-preserved t c =

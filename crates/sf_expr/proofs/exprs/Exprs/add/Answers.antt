@@ -12,8 +12,6 @@ invariant_of-self c =
       closed = functions_grown _ _ x.functions.items (more_put _ _ _ c.add.result c.add.ensures.ok c.add.ensures.err) x.closed;
       valued = x.valued;
       shallow = x.shallow;
-      nothing = x.nothing;
-      none = x.none;
     }
 
 pub returns-in-Ok-clause-ok : goal.returns-in-Ok-clause-ok

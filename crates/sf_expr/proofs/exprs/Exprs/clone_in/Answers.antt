@@ -1,5 +1,5 @@
-use Rattle.std.proofs.Common.{◌∙◌, List, ap, subst, sym}
-use Rattle.sf_expr.specs.Expressions.{Literal, none_literal}
+use Rattle.std.proofs.Common.{◌∙◌, List, subst, sym}
+use Rattle.sf_expr.specs.Expressions.{Literal}
 use Rattle.sf_expr.specs.Entries.{AreValued, AreShallowPatterns}
 use Rattle.sf_expr.specs.Patterns.{PlacedPattern}
 use Rattle.sf_expr.proofs.Entered.{unchanged, arena_same, same_sides}
@@ -17,8 +17,6 @@ invariant_of-result c =
       valued = subst (λ (ls : List Literal). AreValued ls) (sym constants) x.valued;
       shallow = subst (λ (ps : List PlacedPattern). AreShallowPatterns ps) (sym patterns) x.shallow;
       closed = same.1;
-      nothing = c.unnamed.ensures;
-      none = c.no_event.ensures ∙ ap none_literal c.unit.ensures;
     }
 
 pub returns : goal.returns

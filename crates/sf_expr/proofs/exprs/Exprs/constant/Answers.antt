@@ -10,8 +10,6 @@ invariant_of-self c =
       valued = literals_put x.constants.items c.push.new.self.items _ _ c.push.ensures.items x.valued c.form-valued.ensures.valued;
       closed = x.closed;
       shallow = x.shallow;
-      nothing = x.nothing;
-      none = x.none;
     }
 
 pub returns-in_err-push-clause-err : goal.returns-in_err-push-clause-err

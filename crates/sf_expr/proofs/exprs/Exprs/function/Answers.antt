@@ -12,8 +12,6 @@ invariant_of-self c =
       closed = functions_put _ x.functions.items c.push.new.self.items (record { pattern = c.args.pattern; body = c.args.body }) _ c.push.ensures.items x.closed c.requires (omega (arith, c.depth.ensures));
       valued = x.valued;
       shallow = x.shallow;
-      nothing = x.nothing;
-      none = x.none;
     }
 
 pub returns-in_err-push-clause-err : goal.returns-in_err-push-clause-err

@@ -11,8 +11,6 @@ invariant_of-self c =
       closed = x.closed;
       valued = x.valued;
       shallow = x.shallow;
-      nothing = x.nothing;
-      none = x.none;
     }
 
 pub returns-in_err-push-clause-err : goal.returns-in_err-push-clause-err

@@ -1,11 +1,11 @@
-use Rattle.std.proofs.Common.{List, ◌∙◌, ap, sym, subst, length}
+use Rattle.std.proofs.Common.{List, sym, subst, length}
 use Rattle.sf_arena.specs.declared.entry.Entry.{Entry}
 use Rattle.sf_arena.specs.Arenas.{entries_of}
 use Rattle.sf_expr.specs.declared.exprs.ExprNode.{ExprNode}
 use Rattle.sf_expr.specs.declared.stored.StoredFunction.{StoredFunction}
 use Rattle.sf_expr.specs.Entries.{IsArena, AreFunctions, AreValued, AreShallowPatterns}
 use Rattle.sf_expr.specs.Patterns.{PlacedPattern}
-use Rattle.sf_expr.specs.Expressions.{Literal, none_literal}
+use Rattle.sf_expr.specs.Expressions.{Literal}
 use Rattle.sf_expr.proofs.Entered.{arena_empty, functions_empty, literals_empty, patterns_empty}
 use Rattle.sf_expr.proofs.exprs.Exprs.new.Goals as goal
 
@@ -15,6 +15,4 @@ invariant_of-result c = record {
   closed = subst (λ (fs : List StoredFunction). AreFunctions (length (entries_of c.new.result)) fs) (sym c.new-5.ensures.items) (functions_empty _);
   shallow = subst (λ (ps : List PlacedPattern). AreShallowPatterns ps) (sym c.new-4.ensures.items) patterns_empty;
   valued = subst (λ (ls : List Literal). AreValued ls) (sym c.new-3.ensures.items) literals_empty;
-  nothing = c.unnamed.ensures;
-  none = c.no_event.ensures ∙ ap none_literal c.unit.ensures;
 }

@@ -10,8 +10,6 @@ invariant_of-self c =
       shallow = patterns_put x.patterns.items c.push.new.self.items _ _ c.push.ensures.items x.shallow (omega (arith, c.depth.ensures));
       valued = x.valued;
       closed = x.closed;
-      nothing = x.nothing;
-      none = x.none;
     }
 
 pub returns-in_err-push-clause-err : goal.returns-in_err-push-clause-err

@@ -1,7 +1,6 @@
-use Rattle.std.proofs.Common.{◌∙◌, ap, subst, IsTrue, ⊎_elim}
+use Rattle.std.proofs.Common.{subst, IsTrue, ⊎_elim}
 use Rattle.std.proofs.lemmas.Result.{on_ok_weaker}
-use Rattle.sf_expr.specs.declared.exprs.Exprs.{Exprs}
-use Rattle.sf_expr.specs.Arena.{function_at, name_at}
+use Rattle.sf_expr.specs.Arena.{function_at}
 use Rattle.sf_code.specs.Around.{patterns_around}
 use Rattle.sf_law.specs.Arena.{plan_expressions, plan_expression_at}
 use Rattle.sf_law.specs.Mentioned.{is_mentioned}

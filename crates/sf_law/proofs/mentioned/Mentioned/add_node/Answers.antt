@@ -1,11 +1,4 @@
-use Rattle.std.proofs.Common.{sym, ap, ◌∙◌, subst}
-use Rattle.std.specs.Prelude.{◌≢◌}
 use Rattle.std.proofs.lemmas.Result.{on_ok_weaker}
-use Rattle.sf_value.specs.Values.{Name}
-use Rattle.sf_expr.specs.declared.exprs.Exprs.{Exprs}
-use Rattle.sf_expr.specs.Patterns.{PlacedPattern, pattern_of}
-use Rattle.sf_expr.specs.Arena.{name_at, stored_pattern}
-use Rattle.sf_coincidence.specs.Mentions.{BindsOthers}
 use Rattle.sf_law.proofs.Naming.{ok_both}
 use Rattle.sf_law.proofs.Covering.{covers_primitive, covers_headed, covers_transformed, covers_continuing, covers_gathered, covers_pipeline}
 use Rattle.sf_law.proofs.mentioned.Mentioned.add_node.Goals as goal

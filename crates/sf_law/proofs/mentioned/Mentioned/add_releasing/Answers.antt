@@ -1,10 +1,3 @@
-use Rattle.std.proofs.Common.{sym, ap, ◌∙◌, subst}
-use Rattle.std.specs.Prelude.{◌≢◌}
-use Rattle.sf_value.specs.Values.{Name}
-use Rattle.sf_expr.specs.declared.exprs.Exprs.{Exprs}
-use Rattle.sf_expr.specs.Patterns.{PlacedPattern, pattern_of}
-use Rattle.sf_expr.specs.Arena.{name_at, stored_pattern}
-use Rattle.sf_coincidence.specs.Mentions.{BindsOthers}
 use Rattle.sf_law.proofs.Naming.{ok_both}
 use Rattle.sf_law.proofs.Covering.{covers_releasing}
 use Rattle.sf_law.proofs.mentioned.Mentioned.add_releasing.Goals as goal

@@ -1,9 +1,7 @@
-use Rattle.std.proofs.Common.{false, cond, IsTrue, refl, sym, ◌∙◌, ap, subst}
-use Rattle.std.specs.Prelude.{Some, None, slice_index_or}
-use Rattle.sf_expr.specs.declared.exprs.Exprs.{Exprs}
+use Rattle.std.proofs.Common.{false, IsTrue, refl, sym, ◌∙◌, ap, subst}
+use Rattle.std.specs.Prelude.{slice_index_or}
 use Rattle.sf_expr.specs.Arena.{name_at}
 use Rattle.sf_law.specs.Headers.{PlanHeader, no_header}
-use Rattle.sf_law.specs.Mentioned.{is_mentioned}
 use Rattle.sf_law.specs.Asking.{start_asked, arguments_asked, is_asked, IsLack}
 use Rattle.sf_law.specs.Arena.{plan_expressions, plan_headers}
 use Rattle.sf_law.proofs.Enough.{start_lack}

@@ -11,7 +11,7 @@ invariant_of-self-2 c =
     let p = c.args.self.now in
     record {
       told = p.told;
-      arena = arena_put p.expressions p.templates.items p.nodes.items c.push.new.self.items c.args.node _ c.push.ensures.items p.arena c.requires.held c.requires.whole c.requires.coded c.requires.called;
+      arena = arena_put p.expressions p.templates.items p.nodes.items c.push.new.self.items c.args.node _ c.push.ensures.items p.arena c.requires.held c.requires.whole c.requires.coded c.requires.called c.requires.beside;
       enough = λ i. any_asked p.expressions p.templates.items (node_among c.push.new.self.items i);
       few = few_put p.nodes.items c.push.new.self.items c.args.node _ p.mentions.items c.push.ensures.items p.few;
       covered = covered_put p.expressions p.nodes.items c.push.new.self.items c.args.node _ p.mentions.items c.push.ensures.items p.few p.covered;

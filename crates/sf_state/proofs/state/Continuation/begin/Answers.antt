@@ -13,4 +13,4 @@ pub returns : goal.returns
 returns c = λ φ e P L N A began.
     let p = c.args.plan.now in
     let base : IsTrue (plan_asks p (name_at (plan_expressions p) c.args.self.now.name)) → IsProcess (machine φ p) c.in_ok-base.base (Lives.base (frozen P L c.args.wait)) = λ asked. subst (IsProcess (machine φ p) c.in_ok-base.base) (sym (frozen_base P L c.args.wait ∙ began)) (c.in_ok-base.ensures asked φ e N) in
-    itself (unborn (is_closure (alike_itself _) (c.in_ok-around.ensures (machine φ p) c.expressions.ensures _ (c.in_ok-known.ensures (machine φ p) e _ N (c.in_ok-frozen.ensures (machine φ p) P L A, base)))))
+    itself (unborn (is_closure (alike_itself _) (c.in_ok-around.ensures φ _ (c.in_ok-known.ensures (machine φ p) e _ N (c.in_ok-frozen.ensures (machine φ p) P L A, base)))))

@@ -4,4 +4,4 @@ use Rattle.sf_state.specs.Machine.{machine}
 use Rattle.sf_state.proofs.state.Switch.begin.Goals as goal
 
 pub returns : goal.returns
-returns c = λ φ e N. itself (unborn (is_closure (alike_itself _) (c.in_ok-around.ensures (machine φ c.args.plan.now) c.expressions.ensures e N)))
+returns c = λ φ e N. itself (unborn (is_closure (alike_itself _) (c.in_ok-around.ensures φ e N)))

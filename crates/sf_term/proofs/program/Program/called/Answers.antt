@@ -1,13 +1,13 @@
 use Rattle.std.proofs.Common.{refl, arith}
 use Rattle.sf_expr.specs.declared.exprs.NameId.{NameId}
 use Rattle.sf_expr.specs.declared.exprs.ExprNode.TheVariants as expressions
-use Rattle.sf_term.specs.Arena.{program_expressions, expression_count, program_expression, HoldsExpression}
+use Rattle.sf_term.specs.Arena.{program_expressions, expression_count, program_expression}
 use Rattle.sf_term.proofs.Extended.{expression_follows}
 use Rattle.sf_term.proofs.Refused.{builds_none, itself}
 use Rattle.sf_term.proofs.program.Program.called.Goals as goal
 
 pub add_expression-requires : goal.add_expression-requires
-unfolding program_expressions HoldsExpression
+unfolding program_expressions
 add_expression-requires c = (c.in_ok-name.ensures.ok.within, c.in_ok-name.ensures.ok.kept.holds c.args.part c.requires)
 
 pub returns-in_err-name : goal.returns-in_err-name

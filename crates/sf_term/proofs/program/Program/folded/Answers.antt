@@ -1,13 +1,13 @@
 use Rattle.std.proofs.Common.{refl, arith}
 use Rattle.sf_expr.specs.declared.exprs.PatternId.{PatternId}
 use Rattle.sf_expr.specs.declared.exprs.ExprNode.TheVariants as expressions
-use Rattle.sf_term.specs.Arena.{program_expressions, expression_count, program_expression, HoldsExpression}
+use Rattle.sf_term.specs.Arena.{program_expressions, expression_count, program_expression}
 use Rattle.sf_term.proofs.Extended.{expression_follows, pattern_there, unchanged_keeps}
 use Rattle.sf_term.proofs.Refused.{builds_none, itself}
 use Rattle.sf_term.proofs.program.Program.folded.Goals as goal
 
 pub add_expression-requires : goal.add_expression-requires
-unfolding program_expressions HoldsExpression
+unfolding program_expressions
 add_expression-requires c =
     let kept = (unchanged_keeps _ _ c.in_ok-pattern.ensures.same).trees in
     (kept.expressions c.args.first c.requires.first_held, kept.expressions c.args.second c.requires.second_held, c.in_ok-pattern.ensures.ok.within, kept.expressions c.args.body c.requires.body_held)

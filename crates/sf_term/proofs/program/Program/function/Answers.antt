@@ -1,6 +1,6 @@
 use Rattle.std.proofs.Common.{refl, arith}
 use Rattle.sf_arena.specs.Arenas.{entries_of}
-use Rattle.sf_term.specs.Arena.{lists_of, headers_of, program_expression, HoldsExpression}
+use Rattle.sf_term.specs.Arena.{lists_of, headers_of, program_expression, program_expressions}
 use Rattle.sf_term.proofs.Entered.{arena_with, function_grown_by, same_lists}
 use Rattle.sf_term.proofs.Extended.{adds_function, unchanged, same_self}
 use Rattle.sf_term.proofs.Refused.{builds_none, still_room}
@@ -11,7 +11,7 @@ unfolding program_expression
 returns-in_err-room c = builds_none _ _ _ _ _ _ c.from_residual.result _ c.from_residual.ensures.1 c.in_err-room.ensures refl (omega (arith, c.max-depth.ensures, c.depth.ensures, c.depth-2.ensures.value)) c.has_names.ensures (same_self c.args.self.now)
 
 pub function-requires : goal.function-requires
-unfolding HoldsExpression
+unfolding program_expressions
 function-requires c = c.requires
 
 pub invariant_of-self : goal.invariant_of-self

@@ -1,8 +1,8 @@
-use Rattle.sf_term.specs.Arena.{program_expressions, program_expression, HoldsExpression}
+use Rattle.sf_term.specs.Arena.{program_expressions, program_expression}
 use Rattle.sf_term.proofs.program.Program.pair.Goals as goal
 
 pub add_expression-requires : goal.add_expression-requires
-unfolding program_expressions HoldsExpression
+unfolding program_expressions
 add_expression-requires c = (c.requires.first_held, c.requires.second_held)
 
 pub returns : goal.returns

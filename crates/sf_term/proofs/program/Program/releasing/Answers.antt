@@ -2,13 +2,13 @@ use Rattle.std.proofs.Common.{arith}
 use Rattle.sf_expr.specs.declared.exprs.NameId.{NameId}
 use Rattle.sf_expr.specs.declared.exprs.PatternId.{PatternId}
 use Rattle.sf_term.specs.declared.node.Node.TheVariants as nodes
-use Rattle.sf_term.specs.Arena.{program_expressions, term_count, ProgramHoldsPattern}
+use Rattle.sf_term.specs.Arena.{program_expressions, term_count}
 use Rattle.sf_term.proofs.Extended.{releasing_made, term_follows, both_there, unchanged_keeps, collection_at_kept}
 use Rattle.sf_term.proofs.Refused.{builds_none, itself}
 use Rattle.sf_term.proofs.program.Program.releasing.Goals as goal
 
 pub add-requires : goal.add-requires
-unfolding program_expressions ProgramHoldsPattern
+unfolding program_expressions
 add-requires c =
     let put = c.in_ok-name.ensures.ok in
     let kept = (unchanged_keeps c.args.self.now _ c.in_ok-name.ensures.same).trees in

@@ -1,13 +1,13 @@
 use Rattle.std.proofs.Common.{arith}
 use Rattle.sf_expr.specs.declared.exprs.PatternId.{PatternId}
 use Rattle.sf_term.specs.declared.node.Node.TheVariants as nodes
-use Rattle.sf_term.specs.Arena.{program_expressions, term_count, ProgramHoldsPattern}
+use Rattle.sf_term.specs.Arena.{program_expressions, term_count}
 use Rattle.sf_term.proofs.Extended.{switch_made, term_follows, term_pattern_there, unchanged_keeps}
 use Rattle.sf_term.proofs.Refused.{builds_none, itself}
 use Rattle.sf_term.proofs.program.Program.switching.Goals as goal
 
 pub add-requires : goal.add-requires
-unfolding program_expressions ProgramHoldsPattern
+unfolding program_expressions
 add-requires c =
     let kept = (unchanged_keeps _ _ c.in_ok-pattern.ensures.same).trees in
     (kept.terms c.args.source c.requires.source_held, c.in_ok-pattern.ensures.ok.within, kept.terms c.args.body c.requires.body_held)
