@@ -92,7 +92,6 @@ fn explain_pair(
 ) -> Result<(), Blame>
     requires there { node_at (exprs_in context.now) id ≡ ExprNode.Pair first second }
     requires below { PartsBelow (ExprNode.Pair first second) (id_number id) }
-    requires held { Holds (exprs_in context.now) id }
     requires parts_held { HoldsParts (exprs_in context.now) (ExprNode.Pair first second) }
     ensures { IfErr result (λ b. Explains (ExpressionDiffers (exprs_in context.now) (types_around context.now) id) b) }
 {
