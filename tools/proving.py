@@ -102,7 +102,7 @@ class Lane:
         workspace = self.workspace
         if crate in workspace.programs:
             # (its status is that of the program without words)
-            _, said = rt(["run"], workspace.folder(crate), say)
+            _, said = rt(["run", "--jobs", str(jobs)], workspace.folder(crate), say)
             return int(not os.access(workspace.out(crate, crate), os.X_OK)), said
         for it in workspace.below[crate] - self.read:
             self.take(it, "rlib")

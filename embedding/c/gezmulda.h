@@ -42,9 +42,10 @@ typedef struct gezmulda_engine {
 
 /*
  * Puts a run of the network that a text is into a handle that holds nothing: GEZMULDA_DONE; or GEZMULDA_REFUSED where the text is
- * refused or memory runs out, and the handle holds nothing still. It says what probes read where `probes` is true.
+ * refused or memory runs out, and the handle holds nothing still. It says what probes read where `probes` is true. What the text is
+ * refused for is written as by `gezmulda_check`, or `Memory`.
  */
-uint8_t gezmulda_make(const uint8_t *net, size_t net_length, bool probes, gezmulda_engine *engine);
+uint8_t gezmulda_make(const uint8_t *net, size_t net_length, bool probes, gezmulda_engine *engine, uint8_t *out, size_t room, size_t *given);
 
 /*
  * Feeds a piece of its input to the run in a handle. What that gives is kept in the handle until it is taken, and `waiting` says how
@@ -52,6 +53,12 @@ uint8_t gezmulda_make(const uint8_t *net, size_t net_length, bool probes, gezmul
  * GEZMULDA_DONE while the run goes on; or GEZMULDA_FAULT or GEZMULDA_BAD_LINE once it has ended, and then nothing changes it any more.
  */
 uint8_t gezmulda_feed(gezmulda_engine *engine, const uint8_t *piece, size_t piece_length, size_t *waiting);
+
+/*
+ * Ends the input of the run in a handle: what was fed behind the last line feed is its last line. What that gives is kept until it is
+ * taken, and `waiting` says how many bytes wait. The answer is how the run ended, and nothing changes it any more.
+ */
+uint8_t gezmulda_finish(gezmulda_engine *engine, size_t *waiting);
 
 /* Takes what waits in a handle: as much as the room takes is written there, and no longer waits. Answers how many bytes that are. */
 size_t gezmulda_take(gezmulda_engine *engine, uint8_t *room, size_t room_length);

@@ -16,6 +16,8 @@ import threading
 from typing import NamedTuple
 
 DONE, FAULT, BAD_LINE, REFUSED, NO_ROOM = 0, 3, 4, 5, 6
+# A rule with its place is shorter than this.
+REFUSAL = 64
 BESIDE = os.path.join(os.path.dirname(os.path.abspath(__file__)), "..", "out")
 
 
@@ -39,11 +41,12 @@ def opened():
     library.gezmulda_check.argtypes = [bytes_in, size, ctypes.c_char_p, size, ctypes.POINTER(size)]
     library.gezmulda_play.restype = library.gezmulda_check.restype = ctypes.c_uint8
     handle = ctypes.POINTER(Handle)
-    library.gezmulda_make.argtypes = [bytes_in, size, ctypes.c_bool, handle]
+    library.gezmulda_make.argtypes = [bytes_in, size, ctypes.c_bool, handle, ctypes.c_char_p, size, ctypes.POINTER(size)]
     library.gezmulda_feed.argtypes = [handle, bytes_in, size, ctypes.POINTER(size)]
+    library.gezmulda_finish.argtypes = [handle, ctypes.POINTER(size)]
     library.gezmulda_take.argtypes = [handle, ctypes.c_char_p, size]
     library.gezmulda_free.argtypes = [handle]
-    library.gezmulda_make.restype = library.gezmulda_feed.restype = ctypes.c_uint8
+    library.gezmulda_make.restype = library.gezmulda_feed.restype = library.gezmulda_finish.restype = ctypes.c_uint8
     library.gezmulda_take.restype, library.gezmulda_free.restype = size, None
     return library
 
@@ -71,8 +74,7 @@ def play(network, lines, probes=False):
 def refusal(network):
     """The rule that a text breaks and the place where it does, as "C5 BarePre 2:31". None where it is accepted without stored functions."""
     network = network.encode()
-    # A rule with its place is shorter than this.
-    out, given = ctypes.create_string_buffer(64), ctypes.c_size_t()
+    out, given = ctypes.create_string_buffer(REFUSAL), ctypes.c_size_t()
     status = LIBRARY.gezmulda_check(network, len(network), out, len(out), given)
     return None if status == DONE else out.raw[: given.value].decode()
 
@@ -87,18 +89,31 @@ class Engine:
         """A run at its start, of the network that a text is, which calls no stored functions. ValueError says what it is refused for."""
         text = network.encode()
         self.end, self.thread, self.handle = None, threading.get_ident(), Handle()
-        if LIBRARY.gezmulda_make(text, len(text), probes, self.handle) != DONE:
+        out, given = ctypes.create_string_buffer(REFUSAL), ctypes.c_size_t()
+        if LIBRARY.gezmulda_make(text, len(text), probes, self.handle, out, len(out), given) != DONE:
             self.handle = None
-            raise ValueError(refusal(network) or "Memory")
+            raise ValueError(out.raw[: given.value].decode())
 
     def feed(self, piece):
         """Feeds a piece of the input, and answers what it gives. A line is played once its line feed is there. After the end it gives nothing."""
         self.look()
         piece, waiting = piece.encode(), ctypes.c_size_t()
         status = LIBRARY.gezmulda_feed(self.handle, piece, len(piece), waiting)
-        room = ctypes.create_string_buffer(max(waiting.value, 1))
-        taken = LIBRARY.gezmulda_take(self.handle, room, waiting.value)
-        self.end = status or None
+        if status != DONE:
+            self.end = status
+        return self.take(waiting.value)
+
+    def finish(self):
+        """Ends the input, whose last line may have no line feed, and answers what that gives. Nothing comes after it."""
+        self.look()
+        waiting = ctypes.c_size_t()
+        self.end = LIBRARY.gezmulda_finish(self.handle, waiting)
+        return self.take(waiting.value)
+
+    def take(self, waiting):
+        """What waits, which is so many bytes."""
+        room = ctypes.create_string_buffer(max(waiting, 1))
+        taken = LIBRARY.gezmulda_take(self.handle, room, waiting)
         return room.raw[:taken].decode()
 
     def close(self):

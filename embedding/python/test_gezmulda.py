@@ -84,6 +84,20 @@ class Engines(unittest.TestCase):
         with Engine(AVERAGE) as engine:
             self.assertEqual([engine.feed(piece) for piece in ("0 1", "0\n20 2", "0\n")], ["", "> 0 5\n", "> 20 15\n"])
 
+    def test_the_last_line_needs_no_line_feed(self):
+        with Engine(AVERAGE) as engine:
+            self.assertEqual((engine.feed("0 10\n20 20"), engine.finish()), ("> 0 5\n", "> 20 15\n"))
+            self.assertEqual((engine.end, engine.feed("20 30\n"), engine.finish(), engine.end), (DONE, "", "", DONE))
+
+    def test_the_last_line_may_end_a_run_otherwise(self):
+        with Engine(AVERAGE) as engine:
+            self.assertEqual((engine.feed("0 10\n20 x"), engine.finish(), engine.end), ("> 0 5\n", "! line 2 BadValue\n", BAD_LINE))
+            self.assertEqual((engine.finish(), engine.end), ("", BAD_LINE))
+
+    def test_an_input_may_be_empty(self):
+        with Engine(AVERAGE) as engine:
+            self.assertEqual((engine.finish(), engine.end), ("", DONE))
+
     def test_nothing_comes_behind_the_end(self):
         with Engine("network 1;\ntemplate main(): Int ~> Int = arr x => (10 div x);\n") as engine:
             self.assertEqual(engine.feed("0 5\n1 0\n1 2\n"), "> 0 2\n! 1 DivideByZero\n")

@@ -6,12 +6,12 @@ use mir.Syntax.{Ty}
 use Rattle.std.specs.contracts.impls.GlobalAllocator.TheImpl.{ghosts}
 use Rattle.std.specs.Coded.{Coded, coded_option}
 use Rattle.std.specs.Box.Ownership.{box_owns}
-use Rattle.sf_refusal.specs.Refusals.{OrMemory}
+use Rattle.sf_refusal.specs.Refusals.{OrMemory, refusal_text}
 use Rattle.sf_refusal.specs.declared.refusal.Refusal.{Refusal}
 use Rattle.sf_term.specs.Trees.{Template}
 use Rattle.sf_mean.specs.Meaning.{Network}
 use Rattle.sf_accept.specs.Refusals.{IsRefusedFor}
-use Rattle.sf_session.specs.Feeding.{IsStarted, IsLive, IsFed, HasEnded, IsTaken, session_waiting, session_status}
+use Rattle.sf_session.specs.Feeding.{IsStarted, IsLive, IsFed, IsPlayed, HasEnded, IsTaken, session_waiting, session_status}
 use Rattle.sf_session.specs.declared.session.Session.{Session}
 use Rattle.sf_session.specs.contracts.session.Session.{the_row}
 
@@ -28,13 +28,13 @@ abbrev pub owns_at : Ptr → Option Session → Fml
 owns_at p None = ftrue
 owns_at p (Some s) = box_owns freeable the_row p s
 
--- A handle was to be given a run of the network that this text is: it holds one at its start, with the status 0; or it holds
--- nothing, with the status 5, where the text is refused or memory is wanting.
-pub data MakesRun (probes : Bool) (net : List ℕ) : ℕ → Option Session → Type 0 where
-  started : {s : Session} → IsStarted probes net s → MakesRun probes net 0 (Some s)
-  refused : {r : Refusal} → OrMemory (IsRefusedFor [] net) r → MakesRun probes net 5 None
+-- A handle was to be given a run of the network that this text is: it holds one at its start, with the status 0, and nothing
+-- is said; or it holds nothing, with the status 5, and what is said is what the text is refused for.
+pub data MakesRun (probes : Bool) (net : List ℕ) : ℕ → List ℕ → Option Session → Type 0 where
+  started : {s : Session} → IsStarted probes net s → MakesRun probes net 0 [] (Some s)
+  refused : {r : Refusal} → OrMemory (IsRefusedFor [] net) r → MakesRun probes net 5 (refusal_text r) None
 
--- a handle holds a run
+-- a handle holds a run, which plays a network while it goes on
 abbrev pub HoldsRun : Option Session → Type 0
 HoldsRun None = ⊥
 HoldsRun (Some s) = IsLive s
@@ -43,6 +43,11 @@ HoldsRun (Some s) = IsLive s
 abbrev pub HoldsFed : Bool → Network → Template → List ℕ → List ℕ → Option Session → Type 0
 HoldsFed probes n m fed given None = ⊥
 HoldsFed probes n m fed given (Some s) = IsFed probes n m fed given s
+
+-- a handle holds a run of this network whose whole input was this, and from which so much was taken
+abbrev pub HoldsPlayed : Bool → Network → Template → List ℕ → List ℕ → Option Session → Type 0
+HoldsPlayed probes n m whole given None = ⊥
+HoldsPlayed probes n m whole given (Some s) = IsPlayed probes n m whole given s
 
 -- a handle holds a run that has ended
 abbrev pub HoldsEnded : Option Session → Type 0

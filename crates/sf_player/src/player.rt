@@ -82,13 +82,13 @@ impl<F: Holds + Drop> Player<F> {
         requires { count ≤ length (gathered self.old) }
         ensures { IsForgotten count self.old self.new }
     {
-        let left = self.out.len() - count;
-        self.out.rotate_left(count);
-        self.out.truncate(left);
+        let len = self.out.len();
+        self.out.copy_within(count..len, 0);
+        self.out.truncate(len - count);
     }
 
-    /// Plays what is left at the end of the input.
-    pub(crate) fn finish(&mut self) -> Option<Stop>
+    /// Plays what is left at the end of the input. How the run stops, if it doesn't end with its input.
+    pub fn finish(&mut self) -> Option<Stop>
         requires { IsPlaying self.old }
         ensures { (probes : Bool) (n : Network) (m : Template) (read written : List ℕ)
             → Played probes n m read written self.old → EndsInput probes n m read written result self.new }

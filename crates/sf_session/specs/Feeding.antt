@@ -7,33 +7,32 @@ use Rattle.sf_accept.specs.Refusals.{IsAcceptedText}
 use Rattle.sf_lines.specs.Lines.{Splits, lines_of}
 use Rattle.sf_player.specs.Scripts.{Moment, at_start, LeadsTo}
 use Rattle.sf_player.specs.Telling.{RunGives}
-use Rattle.sf_player.specs.Stops.{stop_end}
 use Rattle.sf_player.specs.Statuses.{status_of}
-use Rattle.sf_player.specs.Playing.{Played, gathered, line_of_stop}
+use Rattle.sf_player.specs.Playing.{Played, IsPlaying, gathered}
 use Rattle.sf_player.specs.declared.end.PlayEnd.{PlayEnd}
-use Rattle.sf_player.specs.declared.stop.Stop.{Stop}
 use Rattle.sf_session.specs.Alone.{alone}
+use Rattle.sf_session.specs.Phases.{phase_end, phase_line}
+use Rattle.sf_session.specs.declared.phase.Phase.TheVariants.{Running}
 use Rattle.sf_session.specs.declared.session.Session.{Session}
 
 -- what waits to be taken
 abbrev pub session_waiting : Session → List ℕ
-session_waiting s = gathered s.player ++ drop s.told (line_of_stop s.stop)
-
--- how a run ended by a stop, if there is one
-abbrev pub end_by : Option Stop → Option PlayEnd
-end_by None = None
-end_by (Some x) = Some (stop_end x)
+session_waiting s = drop s.handed (gathered s.player) ++ drop s.told (phase_line s.phase)
 
 -- the status of a run that goes on or has ended
-abbrev pub status_by : Option Stop → ℕ
+abbrev pub status_by : Option PlayEnd → ℕ
 status_by None = 0
-status_by (Some x) = status_of (stop_end x)
+status_by (Some e) = status_of e
 
 abbrev pub session_status : Session → ℕ
-session_status s = status_by s.stop
+session_status s = status_by (phase_end s.phase)
 
 abbrev pub HasEnded : Session → Type 0
-HasEnded s = s.stop ≢ None
+HasEnded s = s.phase ≢ Running
+
+-- A session that goes on plays a network.
+abbrev pub IsLive : Session → Type 0
+IsLive s = s.phase ≡ Running → IsPlaying s.player
 
 module _ (probes : Bool) (n : Network) (m : Template) where
   -- What a run has said that was fed so much: while it goes on, what the complete lines give; once it has ended, all that
@@ -44,19 +43,22 @@ module _ (probes : Bool) (n : Network) (m : Template) where
     in_all : {e : PlayEnd}
         → ((left : List ℕ) → RunGives probes n m (lines_of (fed ++ left)) said e) → HasSaid fed said (Some e)
 
+  -- The player of a session has played what was fed, and has still gathered the last of what was taken.
+  pub record HandsOn (fed given : List ℕ) (s : Session) : Type 0 where
+    pub written : List ℕ
+    pub taken : given ≡ written ++ take s.handed (gathered s.player)
+    pub played : Played probes n m fed written s.player
+
   -- So much was fed to a session and so much was taken from it, and it goes on from there.
   pub record IsFed (fed given : List ℕ) (s : Session) : Type 0 where
-    pub said : HasSaid fed (given ++ session_waiting s) (end_by s.stop)
-    pub plays : s.stop ≡ None → Played probes n m fed given s.player
+    pub said : HasSaid fed (given ++ session_waiting s) (phase_end s.phase)
+    pub plays : s.phase ≡ Running → HandsOn fed given s
 
--- A session of some network was fed something.
-pub record IsLive (s : Session) : Type 0 where
-  pub probes : Bool
-  pub n : Network
-  pub m : Template
-  pub fed : List ℕ
-  pub given : List ℕ
-  pub is : IsFed probes n m fed given s
+  -- This was the whole input of a session, and so much was taken from it. With what waits that is all that its lines give.
+  pub record IsPlayed (whole given : List ℕ) (s : Session) : Type 0 where
+    pub e : PlayEnd
+    pub ends : phase_end s.phase ≡ Some e
+    pub gives : RunGives probes n m (lines_of whole) (given ++ session_waiting s) e
 
 -- A session was fed nothing. Its network is that of this text.
 pub record IsStarted (probes : Bool) (net : List ℕ) (s : Session) : Type 0 where
@@ -71,4 +73,4 @@ pub record IsTaken (old : Session) (count : ℕ) (room : List ℕ) (new : Sessio
   pub most : count ≡ min (length (session_waiting old)) (length room)
   pub written : take count room ≡ take count (session_waiting old)
   pub left : session_waiting new ≡ drop count (session_waiting old)
-  pub stop : new.stop ≡ old.stop
+  pub phase : new.phase ≡ old.phase

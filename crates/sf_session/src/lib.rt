@@ -2,6 +2,7 @@
 #![tactic(auto)]
 
 mod nothing;
+mod phase;
 mod room;
 mod session;
 

@@ -5,6 +5,9 @@
 use std::ffi::c_void;
 use std::ptr;
 
+/// A rule with its place is shorter than this.
+const REFUSAL: usize = 64;
+
 extern "C" {
     fn gezmulda_play(
         net: *const u8,
@@ -25,7 +28,15 @@ extern "C" {
         given: *mut usize,
     ) -> u8;
 
-    fn gezmulda_make(net: *const u8, net_length: usize, probes: bool, handle: *mut Handle) -> u8;
+    fn gezmulda_make(
+        net: *const u8,
+        net_length: usize,
+        probes: bool,
+        handle: *mut Handle,
+        out: *mut u8,
+        room: usize,
+        given: *mut usize,
+    ) -> u8;
 
     fn gezmulda_feed(
         handle: *mut Handle,
@@ -33,6 +44,8 @@ extern "C" {
         piece_length: usize,
         waiting: *mut usize,
     ) -> u8;
+
+    fn gezmulda_finish(handle: *mut Handle, waiting: *mut usize) -> u8;
 
     fn gezmulda_take(handle: *mut Handle, room: *mut u8, room_length: usize) -> usize;
 
@@ -86,8 +99,7 @@ pub fn play(net: &str, input: &str, probes: bool) -> Played {
 /// Says whether a text is a network that is accepted without stored functions. The error is the rule that it breaks and the
 /// place where it does, as in `C5 BarePre 2:31`.
 pub fn check(net: &str) -> Result<(), String> {
-    // A rule with its place is shorter than this.
-    let mut out = vec![0; 64];
+    let mut out = vec![0; REFUSAL];
     let mut given = 0;
     // As for a run.
     let status = unsafe {
@@ -119,11 +131,24 @@ impl Engine {
         let mut handle = Handle {
             held: ptr::null_mut(),
         };
-        // The handle holds nothing, and is our own.
-        let status = unsafe { gezmulda_make(net.as_ptr(), net.len(), probes, &mut handle) };
+        let mut out = vec![0; REFUSAL];
+        let mut given = 0;
+        // The handle holds nothing, and is our own; so are `out` and `given`.
+        let status = unsafe {
+            gezmulda_make(
+                net.as_ptr(),
+                net.len(),
+                probes,
+                &mut handle,
+                out.as_mut_ptr(),
+                out.len(),
+                &mut given,
+            )
+        };
+        out.truncate(given);
         match end_of(status) {
             End::Done => Ok(Engine { handle, end: None }),
-            _ => Err(check(net).err().unwrap_or_else(|| "Memory".to_owned())),
+            _ => Err(String::from_utf8(out).expect("a refusal is a text")),
         }
     }
 
@@ -131,16 +156,36 @@ impl Engine {
     /// asked for. A line is played once its line feed is there. After the end it gives nothing.
     pub fn feed(&mut self, piece: &str) -> String {
         let mut waiting = 0;
-        // The handle holds a run, which nothing else uses, and each length is that of what its pointer points to.
-        let (status, said) = unsafe {
-            let handle = &mut self.handle;
-            let status = gezmulda_feed(handle, piece.as_ptr(), piece.len(), &mut waiting);
-            let mut said = vec![0; waiting];
-            let taken = gezmulda_take(handle, said.as_mut_ptr(), said.len());
-            said.truncate(taken);
-            (status, said)
+        // The handle holds a run, which nothing else uses, and the length is that of the piece.
+        let status = unsafe {
+            gezmulda_feed(
+                &mut self.handle,
+                piece.as_ptr(),
+                piece.len(),
+                &mut waiting,
+            )
         };
-        self.end = Some(end_of(status)).filter(|end| *end != End::Done);
+        if end_of(status) != End::Done {
+            self.end = Some(end_of(status));
+        }
+        self.take(waiting)
+    }
+
+    /// Ends the input, whose last line may have no line feed, and answers what that gives. Nothing comes after it.
+    pub fn finish(&mut self) -> String {
+        let mut waiting = 0;
+        // The handle holds a run, which nothing else uses.
+        let status = unsafe { gezmulda_finish(&mut self.handle, &mut waiting) };
+        self.end = Some(end_of(status));
+        self.take(waiting)
+    }
+
+    /// What waits, which is so many bytes.
+    fn take(&mut self, waiting: usize) -> String {
+        let mut said = vec![0; waiting];
+        // The handle holds a run, which nothing else uses, and the length is that of the room.
+        let taken = unsafe { gezmulda_take(&mut self.handle, said.as_mut_ptr(), said.len()) };
+        said.truncate(taken);
         String::from_utf8(said).expect("lines are texts")
     }
 

@@ -121,6 +121,25 @@ fn an_engine_plays_a_line_once_it_is_complete() {
 }
 
 #[test]
+fn the_last_line_of_an_engine_needs_no_line_feed() {
+    let mut engine = average();
+    assert_eq!(engine.feed("0 10\n20 20"), "> 0 5\n");
+    assert_eq!(engine.finish(), "> 20 15\n");
+    assert_eq!(engine.end(), Some(End::Done));
+    assert_eq!(engine.feed("20 30\n"), "");
+    assert_eq!(engine.finish(), "");
+    assert_eq!(engine.end(), Some(End::Done));
+}
+
+#[test]
+fn the_last_line_of_an_engine_may_be_refused() {
+    let mut engine = average();
+    assert_eq!(engine.feed("0 10\n20 x"), "> 0 5\n");
+    assert_eq!(engine.finish(), "! line 2 BadValue\n");
+    assert_eq!(engine.end(), Some(End::BadLine));
+}
+
+#[test]
 fn nothing_comes_behind_the_end_of_an_engine() {
     let net = "network 1;\ntemplate main(): Int ~> Int = arr x => (10 div x);\n";
     let mut engine = Engine::new(net, false).unwrap();

@@ -5,7 +5,7 @@ use Rattle.sf_check.specs.Accepting.{accepted_program, checked_main}
 use Rattle.sf_accept.specs.Refusals.{IsAcceptedText}
 use Rattle.sf_player.proofs.Refusing.{main_found}
 use Rattle.sf_session.specs.Alone.{alone}
-use Rattle.sf_session.proofs.Fed.{fed_on}
+use Rattle.sf_session.proofs.Fed.{fed_on, hands_all}
 use Rattle.sf_session.proofs.session.Session.new.Goals as goal
 
 pub returns-in_default-clause-refused : goal.returns-in_default-clause-refused
@@ -21,7 +21,7 @@ returns-in-Ok-new-clause-started c =
       main = checked_main checked;
       accepted = accepted;
       runs = main_found checked accepted.accepted;
-      fresh = fed_on _ refl (c.in-Ok-new.ensures (alone templates) (checked_main checked) c.in-Ok.ensures.runs).0;
+      fresh = fed_on _ refl (hands_all _ refl (c.in-Ok-new.ensures (alone templates) (checked_main checked) c.in-Ok.ensures.runs).0);
     }
 
 pub returns-clause-refused : goal.returns-clause-refused
