@@ -53,6 +53,7 @@ pub extern "C" fn gezmulda_feed(
     requires { HoldsRun handle.old.session }
     ensures feeds { (probes : Bool) (n : Network) (m : Template) (fed given : List ℕ)
         → HoldsFed probes n m fed given handle.old.session → HoldsFed probes n m (fed ++ piece.now) given handle.new.session }
+    ensures live { HoldsRun handle.new.session }
     ensures ended { HoldsEnded handle.old.session → handle.new.session ≡ handle.old.session }
     ensures waiting { waiting.new ≡ length (waiting_held handle.new.session) }
     ensures status { result ≡ status_held handle.new.session }
@@ -72,6 +73,7 @@ pub extern "C" fn gezmulda_finish(alloc: Global, handle: &mut Handle, waiting: &
     requires { HoldsRun handle.old.session }
     ensures finishes { (probes : Bool) (n : Network) (m : Template) (fed given : List ℕ)
         → HoldsFed probes n m fed given handle.old.session → HoldsPlayed probes n m fed given handle.new.session }
+    ensures live { HoldsRun handle.new.session }
     ensures ended { HoldsEnded handle.old.session → handle.new.session ≡ handle.old.session }
     ensures waiting { waiting.new ≡ length (waiting_held handle.new.session) }
     ensures status { result ≡ status_held handle.new.session }
@@ -94,6 +96,7 @@ pub extern "C" fn gezmulda_take(alloc: Global, handle: &mut Handle, room: &mut [
         → HoldsFed probes n m fed given handle.old.session → HoldsFed probes n m fed (given ++ take result room.new) handle.new.session }
     ensures played { (probes : Bool) (n : Network) (m : Template) (whole given : List ℕ)
         → HoldsPlayed probes n m whole given handle.old.session → HoldsPlayed probes n m whole (given ++ take result room.new) handle.new.session }
+    ensures live { HoldsRun handle.old.session → HoldsRun handle.new.session }
 {
     let mut run = handle.take(alloc);
     let taken = run.take(room);

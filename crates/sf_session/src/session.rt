@@ -37,6 +37,7 @@ impl Session {
     /// `read_accepted` refuses where there are no functions; `Memory` says nothing of the text.
     pub fn new(alloc: Global, net: &[u8], probes: bool) -> Result<Session, Refusal>
         ensures started { IfOk result (IsStarted probes net.now) }
+        ensures live { IfOk result IsLive }
         ensures refused { IfErr result (OrMemory (IsRefusedFor [] net.now)) }
     {
         let functions = Registry::new(alloc);
@@ -60,6 +61,7 @@ impl Session {
         requires { IsLive self.old }
         ensures feeds { (probes : Bool) (n : Network) (m : Template) (fed given : List ℕ)
             → IsFed probes n m fed given self.old → IsFed probes n m (fed ++ piece.now) given self.new }
+        ensures live { IsLive self.new }
         ensures ended { HasEnded self.old → self.new ≡ self.old }
     {
         let Phase::Running = self.phase else {
@@ -76,6 +78,7 @@ impl Session {
         requires { IsLive self.old }
         ensures finishes { (probes : Bool) (n : Network) (m : Template) (fed given : List ℕ)
             → IsFed probes n m fed given self.old → IsPlayed probes n m fed given self.new }
+        ensures live { IsLive self.new }
         ensures ended { HasEnded self.old → self.new ≡ self.old }
     {
         let Phase::Running = self.phase else {
@@ -106,6 +109,7 @@ impl Session {
             → IsFed probes n m fed given self.old → IsFed probes n m fed (given ++ take result room.new) self.new }
         ensures played { (probes : Bool) (n : Network) (m : Template) (whole given : List ℕ)
             → IsPlayed probes n m whole given self.old → IsPlayed probes n m whole (given ++ take result room.new) self.new }
+        ensures live { IsLive self.old → IsLive self.new }
     {
         let taken = self.copy_out(room);
         let of_gathered = taken.min(self.player.gathered().len() - self.handed);

@@ -5,6 +5,7 @@ use Rattle.sf_session.proofs.session.Session.feed.Goals as goal
 pub returns-in_default : goal.returns-in_default
 returns-in_default c = record {
   feeds = λ probes n m fed given F. feeds_ended c.args.self.now c.args.piece.now c.in_default.not-Running F;
+  live = c.requires;
   ended = λ e. refl;
 }
 
@@ -22,3 +23,8 @@ pub returns-in_default-feed-clause-feeds : goal.returns-in_default-feed-clause-f
 returns-in_default-feed-clause-feeds c = λ probes n m fed given F.
     feeds_fed fed c.args.piece.now c.forget_taken.new.self.player _ (c.forget_taken.ensures.phase ∙ c.in-Running.is) c.forget_taken.ensures.handed
     (c.in_default-feed.ensures probes n m fed given (all_written c.forget_taken.new.self c.forget_taken.ensures.forgotten (F.plays c.in-Running.is)))
+
+pub returns-in_default-feed-clause-live : goal.returns-in_default-feed-clause-live
+returns-in_default-feed-clause-live c =
+    let P = forgotten_plays c.args.self.now.handed c.forget_taken.ensures.forgotten (c.requires c.in-Running.is) in
+    λ runs. record { probes = P.probes; n = P.n; m = P.m; read = _; written = P.written; played = (c.in_default-feed.ensures P.probes P.n P.m P.read P.written P.played).played }

@@ -6,6 +6,7 @@ use Rattle.sf_session.proofs.session.Session.finish.Goals.{in-Some, in-None}
 pub returns-in_default : goal.returns-in_default
 returns-in_default c = record {
   finishes = λ probes n m fed given F. finishes_ended c.args.self.now c.in_default.not-Running F;
+  live = c.requires;
   ended = λ e. refl;
 }
 

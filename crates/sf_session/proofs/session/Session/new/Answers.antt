@@ -26,3 +26,9 @@ returns-in-Ok-new-clause-started c =
 
 pub returns-clause-refused : goal.returns-clause-refused
 returns-clause-refused c = no_memory
+
+pub returns-in-Ok-new-clause-live : goal.returns-in-Ok-new-clause-live
+returns-in-Ok-new-clause-live c =
+    let checked = c.in_ok-checked.checked in
+    let n = alone (templates_of (accepted_program checked)) in
+    λ runs. record { probes = c.args.probes; n = n; m = checked_main checked; read = []; written = []; played = (c.in-Ok-new.ensures n (checked_main checked) c.in-Ok.ensures.runs).0 }

@@ -22,3 +22,6 @@ returns-clause-fed c = λ probes n m fed given F.
 
 pub returns-clause-played : goal.returns-clause-played
 returns-clause-played c = λ probes n m whole given P. takes_played P (returns-clause-taken c)
+
+pub returns-clause-live : goal.returns-clause-live
+returns-clause-live c = λ live. live
