@@ -1,6 +1,6 @@
 -- What code stands for.
-use Rattle.std.specs.Prelude.{string_bytes}
 use Rattle.sf_value.specs.Values.{number}
+use Rattle.sf_func.specs.Callees.{callee_name}
 use Rattle.sf_operator.specs.declared.operator.Operator.TheVariants.{Arithmetic}
 use Rattle.sf_code.specs.declared.code.Code as declared
 use Rattle.sf_code.specs.declared.code.Code.TheVariants as codes
@@ -19,4 +19,4 @@ code_of (codes.NumberWith o n p) = operation (constant (number n)) (Arithmetic o
 code_of (codes.Conditional' a i b j c k) = conditional (code_of i) (code_of j) (code_of k)
 code_of (codes.Mapped' a i m b j) = mapped (code_of i) m (code_of j)
 code_of (codes.Folded' a i o b j c k) = folded (code_of i) o (code_of j) (code_of k)
-code_of (codes.Called' g a i) = called (string_bytes g) (code_of i)
+code_of (codes.Called' f a i) = called (callee_name f) (code_of i)

@@ -1,5 +1,6 @@
 //! Code.
 use crate::place::Place;
+use sf_func::Callee;
 use sf_operator::{Arithmetic, Folding, Mapping, Operator, Unary};
 use sf_value::Value;
 
@@ -27,6 +28,6 @@ pub enum Code {
     Mapped(Box<Code>, Mapping, Box<Code>),
     /// A form on two values with a function.
     Folded(Box<Code>, Folding, Box<Code>, Box<Code>),
-    /// A call of a stored function, by its name, on its argument.
-    Called(String, Box<Code>),
+    /// A call of a stored function on its argument.
+    Called(Callee, Box<Code>),
 }

@@ -16,6 +16,7 @@ use crate::code::Code;
 use crate::pattern::FramePattern;
 use crate::place::Patterns;
 use sf_expr::{Constant, ExprId, ExprNode, Exprs, Folded, Mapped, NameId, PatternId};
+use sf_func::Callee;
 use sf_operator::{Operator, number_in};
 use sf_value::Value;
 use std::alloc::{AllocError, Global};
@@ -247,7 +248,7 @@ fn called(
 {
     let part = boxed(alloc, exprs, part, patterns)?;
     let function = String::from_str(alloc, exprs.name_of(function))?;
-    Ok(Code::Called(function, part))
+    Ok(Code::Called(Callee::new(function), part))
 }
 
 /// The code of a constant: what it is worth. It takes no memory.

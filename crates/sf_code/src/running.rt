@@ -15,6 +15,7 @@ ghost use Rattle.sf_operator.specs.Operations.{truth_held, of_comparison, unary_
 ghost use Rattle.sf_operator.specs.Operations;
 ghost use Rattle.sf_code.specs.FrameView.{found_value};
 ghost use Rattle.sf_expr.specs.Evaluation.{granted};
+ghost use Rattle.sf_func.specs.Callees.{callee_name};
 ghost use Rattle.sf_func.specs.Meaning.{Applied};
 ghost use Rattle.sf_code.specs.Numbers.{AnswersNumber, AnswersTruth};
 ghost use Rattle.sf_value.specs.View.{key_of, keyed_rows};
@@ -26,7 +27,7 @@ ghost use Rattle.sf_operator.specs.declared.operator.Mapping.TheVariants as mapp
 use crate::argument::next_argument;
 use crate::code::Code;
 use crate::frames::{Found, Frames};
-use sf_func::{FunctionFault, Holds};
+use sf_func::{Callee, FunctionFault, Holds};
 use sf_operator::{
     Arithmetic, Comparison, EvalFault, Folding, Logic, Mapping, Operator, Unary, calculate, copied,
     decide, is_true, number_in, operate, operate_on, payload_in, rows_in,
@@ -78,7 +79,7 @@ pub(crate) fn run<F: Holds>(
         Code::Folded(first, Folding::Fold, second, body) => {
             fold(alloc, first, second, body, frames, functions)
         }
-        Code::Called(function, part) => { called(alloc, function, part, frames, functions) }
+        Code::Called(callee, part) => { called(alloc, callee, part, frames, functions) }
     }
 }
 
@@ -660,15 +661,15 @@ fn fold_rows<F: Holds>(
 #[inline(never)]
 fn called<F: Holds>(
     alloc: Global,
-    function: &str,
+    callee: &Callee,
     part: &Code,
     frames: &Frames,
     functions: &F,
 ) -> Result<Value, EvalFault>
-    ensures { Evaluates result (Running.run (trees.called (function.now) (code_of part.now)) (frames_of frames.now) (F.answers functions.now)) }
+    ensures { Evaluates result (Running.run (trees.called (callee_name callee.now) (code_of part.now)) (frames_of frames.now) (F.answers functions.now)) }
 {
     let value = run(alloc, part, frames, functions)?;
-    answered(functions.call(alloc, function, &value))
+    answered(functions.call(alloc, callee, &value))
 }
 
 /// What a function answered, or its refusal as a fault.

@@ -1,6 +1,6 @@
 -- What a look-up in a registry finds.
 use Rattle.std.proofs.Common.{◌≡◌, ◌≢◌, ℕ, List, [], ◌∷◌, ◌++◌, map, Bool, true, false, cond, Option, Some, None, is_some, refl, sym, ap, ◌∙◌, subst, true≢false, Bor, String, HashMap, string_bytes}
-use Rattle.std.specs.Option.{option_map, option_copied}
+use Rattle.std.specs.Option.{option_map, option_copied, option_and_then}
 use Rattle.std.specs.Str.{bytes_eq}
 use Rattle.std.specs.Map.{lookup}
 use Rattle.std.specs.declared.alloc.Global.{Global}
@@ -62,6 +62,11 @@ module _ {K X : Type 0} (test : K → Bool) where
         | true ↦ λ h. absurd (true≢false (ap is_some h))
         | false ↦ λ h. last_found es last h there
       ]) is
+
+-- the entry of a key is what is found by its name
+pub found_there : {X Z : Type 0} (f : X → Option Z) (es : List (String Global × X)) (k : String Global) (name : List ℕ) (e : X) → string_bytes k ≡ name → lookup (λ j. bytes_eq (string_bytes k) (string_bytes j)) es ≡ Some e
+    → f e ≡ option_and_then f (lookup (λ j. bytes_eq name (string_bytes j)) es)
+found_there f es k name e same is = sym (ap (option_and_then f) (subst (λ n. lookup (λ j. bytes_eq n (string_bytes j)) es ≡ Some e) same is))
 
 -- ## A new entry
 

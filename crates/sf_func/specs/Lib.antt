@@ -4,3 +4,4 @@ pub mod Registries
 pub mod Signatures
 pub mod Storing
 pub mod Arithmetic
+pub mod Callees

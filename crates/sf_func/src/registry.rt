@@ -1,5 +1,6 @@
 //! Functions by name.
 ghost use Rattle.std.specs.Prelude.{◌≡◌, ◌≢◌, Option, OnOk, IfOk, IfErr, IfSome, IfNone, [], ◌∷◌, ◌++◌};
+ghost use Rattle.sf_func.specs.Callees.{callee_name};
 ghost use Rattle.sf_func.specs.Signatures.{named_types, signatures_in};
 ghost use Rattle.sf_func.specs.Storing.{stored_answers};
 ghost use Rattle.std.specs.Option.{option_map, option_and_then};
@@ -9,6 +10,7 @@ ghost use Rattle.sf_func.specs.Numbers.{on_number, on_numbers};
 ghost use Rattle.sf_func.specs.Registries.{FunctionTypes, TypesByName, AnswersByName, KeepsTypes, KeepTheirTypes, types_shown, types_of, registered_types, answers_in, types_named, HasRoomFor, IsCause};
 
 use crate::adapter::{OnNumber, OnNumbers};
+use crate::callee::Callee;
 use crate::function::{Function, FunctionFault};
 use crate::signatures::{Signature, Signatures};
 use crate::stored::{Answers, Stored};
@@ -82,9 +84,9 @@ pub trait Holds {
     fn types_of<'r>(&'r self, name: &str) -> Option<(&'r Ty, &'r Ty)>
         ensures { option_map (λ t. types_shown t.0.now t.1.now) result ≡ types_named name.now (types self.now) };
 
-    /// What the function of that name answers to an argument. It is refused where there is none of that name.
-    fn call(&self, alloc: Global, name: &str, value: &Value) -> Result<Value, FunctionFault>
-        ensures { Applied (answers self.now name.now value.now) result };
+    /// What the function of the callee's name answers to an argument. It is refused where there is none of that name.
+    fn call(&self, alloc: Global, callee: &Callee, value: &Value) -> Result<Value, FunctionFault>
+        ensures { Applied (answers self.now (callee_name callee.now) value.now) result };
 }
 
 impl Holds for Registry {
@@ -99,8 +101,8 @@ impl Holds for Registry {
         }
     }
 
-    fn call(&self, alloc: Global, name: &str, value: &Value) -> Result<Value, FunctionFault> {
-        match self.find(name) {
+    fn call(&self, alloc: Global, callee: &Callee, value: &Value) -> Result<Value, FunctionFault> {
+        match self.called(callee) {
             Some(entry) => entry.apply(alloc, value),
             None => Err(FunctionFault::Refused),
         }
@@ -167,6 +169,23 @@ impl Registry {
         ensures answers { (d : Data) → option_and_then (λ e. ⟦<Entry as Answers>⟧.answers e.now d) result ≡ ⟦<Registry as Holds>⟧.answers self.now name.now d }
     {
         self.entries.get(name)
+    }
+
+    // The function that is called: where it was found the last time, if it stands there, else where its name is found.
+    #[inline(always)]
+    fn called(&self, callee: &Callee) -> Option<&Entry>
+        ensures { (d : Data) → option_and_then (λ e. ⟦<Entry as Answers>⟧.answers e.now d) result ≡ ⟦<Registry as Holds>⟧.answers self.now (callee_name callee.now) d }
+    {
+        let name = callee.name();
+        if let Some((key, entry)) = self.entries.get_index(callee.place()) {
+            if key.as_str() == name {
+                return Some(entry);
+            }
+        }
+        if let Some(place) = self.entries.get_index_of(name) {
+            callee.found(place);
+        }
+        self.find(name)
     }
 
     /// The types of its functions by name.

@@ -2,7 +2,7 @@
 ghost use Rattle.std.specs.Prelude.{[]};
 ghost use Rattle.sf_session.specs.Alone.{no_answers};
 
-use sf_func::{FunctionFault, Holds};
+use sf_func::{Callee, FunctionFault, Holds};
 use sf_value::{Ty, Value};
 use std::alloc::Global;
 
@@ -19,7 +19,12 @@ impl Holds for NoFunctions {
         None
     }
 
-    fn call(&self, _alloc: Global, _name: &str, _value: &Value) -> Result<Value, FunctionFault> {
+    fn call(
+        &self,
+        _alloc: Global,
+        _callee: &Callee,
+        _value: &Value,
+    ) -> Result<Value, FunctionFault> {
         Err(FunctionFault::Refused)
     }
 }
