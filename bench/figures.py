@@ -2,7 +2,8 @@
 
     python3 bench/figures.py          writes them, from the sources and from bench/figures.json
     python3 bench/figures.py gate     runs ./test before, and keeps the processor time of each crate's checks in bench/figures.json
-    python3 bench/figures.py first    the same of ./sfplay --prove, in a checkout where nothing is built
+    python3 bench/figures.py first    the same of ./sfplay --prove, in a checkout where nothing is built; without it, README.md has what the gate took
+                                      for the proofs of the program
     python3 bench/figures.py speed    runs bench/instructions.py, keys.py, large.py, run.py, compare.py and stack.py, and writes what they print too
 
 Words after `gate` and `first` are the command that is run in place of ./test or ./sfplay --prove (what it doesn't check keeps its figures);
@@ -96,6 +97,8 @@ def measure(what, words):
     for figures in (kept["functions"], kept["gate"], kept["first"]):
         for crate in {*figures} - {*crates()}:
             del figures[crate]
+    if what == "gate":
+        kept["program"] = round(sum(kept["gate"].get(crate, {}).get("proofs", 0) for crate in below("sfplay")))
     if not words:
         kept["elapsed"][what] = round(time.time() - began)
         kept["processors"] = len(os.sched_getaffinity(0))
@@ -116,6 +119,20 @@ def crates():
     """The crates in the order of crates.txt."""
     with open(os.path.join(TOP, "crates.txt")) as file:
         return [line.partition(":")[0].split()[0] for line in file if ":" in line.partition("#")[0]]
+
+
+def below(crate):
+    """A crate and those that it stands on."""
+    with open(os.path.join(TOP, "crates.txt")) as file:
+        lines = (line.partition("#")[0].partition(":") for line in file)
+        stands_on = {name.split()[0]: words.split() for name, colon, words in lines if colon}
+    found, left = set(), [crate]
+    while left:
+        crate = left.pop()
+        if crate in stands_on and crate not in found:
+            found.add(crate)
+            left += stands_on[crate]
+    return found
 
 
 def is_test(path):
@@ -216,9 +233,12 @@ def main():
     kept = load()
     write("docs/ARCHITECTURE.md", "figures", all_figures(kept))
     write("docs/ARCHITECTURE.md", "names", all_names())
-    for name, what in (("docs/ARCHITECTURE.md", "gate"), ("README.md", "first")):
-        if what in kept["elapsed"]:
-            write(name, what, took(kept, what))
+    if "gate" in kept["elapsed"]:
+        write("docs/ARCHITECTURE.md", "gate", took(kept, "gate"))
+    if "first" in kept["elapsed"]:
+        write("README.md", "first", took(kept, "first"))
+    elif "program" in kept:
+        write("README.md", "first", f"{kept['program'] / 60:.0f} minutes of processor time")
     return status
 
 

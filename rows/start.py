@@ -65,7 +65,7 @@ exit 3
 NETWORK = "network 1;\nthe network;\n"
 PLAYED = f"a b.--plain.{NETWORK}0 1\n"
 TRIED = f"network.--plain.{NETWORK}0 1\n"
-PROVE = "./sfplay --prove builds the proved program (34 minutes on 4 processors in an earlier state)"
+PROVE = "./sfplay --prove builds the proved program (75 minutes of processor time)"
 NOT_PROVED = f"sfplay: this answer is not proved yet: rt try gives it from the sources, in about a minute; {PROVE}, which is then played at once\n"
 NOT_A_TERMINAL = f"sfplay: only the proved program answers the lines of a terminal, and it is not built yet: {PROVE}\n"
 TOO_LONG = f"sfplay: only the proved program answers more than 64 MiB of input, and it is not built yet: {PROVE}\n"
@@ -81,7 +81,7 @@ class Repository:
         for crate in ("low", "high", "sfplay", "sftypes", "apart"):
             for part in ("src", "specs", "proofs"):
                 self.write(f"crates/{crate}/{part}/lib.rt", "")
-        figures = '{"elapsed": {"first": 2051}, "processors": 4}'
+        figures = '{"program": 4500}'
         texts = {"crates.txt": CRATES, "program": PROGRAM, "bin/rt": RT, "elsewhere/a b": NETWORK, "bench/figures.json": figures}
         for name, text in texts.items():
             self.write(name, text)

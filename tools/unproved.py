@@ -17,10 +17,10 @@ OF_RT = ("checked: ", "interpreter: ", "run=")
 
 
 def first_run(top):
-    """How long it took to prove and build the program, when that was measured."""
+    """How long it took to prove the program, when that was measured."""
     with open(os.path.join(top, "bench", "figures.json")) as file:
         kept = json.load(file)
-    return f"{kept['elapsed']['first'] / 60:.0f} minutes on {kept['processors']} processors in an earlier state"
+    return f"{kept['program'] / 60:.0f} minutes of processor time"
 
 
 def tried(crate, command, lines):
