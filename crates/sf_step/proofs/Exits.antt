@@ -33,8 +33,8 @@ use Rattle.sf_step.specs.Answering.{Rel, Spent, Within, StopsFor, faults, large,
 use Rattle.sf_begin.specs.Beginning.{is_awake, Prepared, primitive_prepared, live_prepared, switch_prepared, continuing_prepared, BeginsAs, begins_itself, gathering_prepared}
 use Rattle.sf_step.proofs.Costs.{memory_exit, counts, begin_stops}
 use Rattle.sf_step.proofs.First.{recalled}
-use Rattle.sf_step.specs.Sampling.{PartSteps, StateSteps, CountedSteps, Waiting, WaitingSteps}
-use Rattle.sf_step.proofs.Parts.{counted, then_on, with_change, over_spent, both_spent, fails_alike, over_fails, change_fails, then_fails, rest_fails, spent_within, answered, failed}
+use Rattle.sf_step.specs.Sampling.{PartSteps, StateSteps, CountedSteps, Waiting, WaitingSteps, GivesApart}
+use Rattle.sf_step.proofs.Parts.{counted, then_on, with_change, over_spent, both_spent, fails_alike, over_fails, change_fails, then_fails, rest_fails, spent_within, answered, failed, apart_as}
 use Rattle.sf_step.proofs.Forms.{left_and, right_and, single_gives, gave_outputs, form_alike, join_alike, wrap_alike, wraps_on}
 use Rattle.sf_step.specs.Routing.{left_input, right_input, part_input, wrap_value, kept_after}
 use Rattle.sf_step.specs.Stepping.{EachCostsAtLeast, Steps, stepped, faulted_so, too_large, no_memory}
@@ -65,6 +65,11 @@ module _ (μ : Machine) where
   pub late_memory : {l l' : Live} {s : Step} {v : Data} {n n' n'' : Meter} {inside : ℕ} {f : Fault} → LiveSteps μ l s (Ok (l', v)) n n' inside → entered_of n'' ≡ entered_of n' → meter_height n'' ≡ meter_height n' → f ≡ Memory
       → LiveSteps μ l s (Err f) n n'' inside
   late_memory hs en hn e m depth t P L R = let w = answered (hs m depth t P L R) in memory_exit e (spent_within (single_gives net P _) w.given w.spent en hn)
+
+  -- the same of a state
+  pub late_part : {a a' : State} {s : Step} {v : Data} {m n n' : Meter} {depth : ℕ} {f : Fault} → StateSteps μ a s (Ok (a', v)) m n depth → entered_of n' ≡ entered_of n → meter_height n' ≡ meter_height n → f ≡ Memory
+      → StateSteps μ a s (Err f) m n' depth
+  late_part hs en hn e P L A = let w = answered (hs P L A) in memory_exit e (spent_within (single_gives net P _) w.given w.spent en hn)
 
   module _ {A : Type 0} (W : Waiting A) {names : Env} {k : A} {s : Step} {n n' : Meter} {inside : ℕ} where
     -- the same of a switch of some kind
@@ -209,6 +214,13 @@ module _ (μ : Machine) where
   -- such a state counts, and steps
   pub counted_steps : (a : State) (s : Step) (r : Result (State × Data) Fault) {m n n' : Meter} {depth inside : ℕ} → Ticks m n depth inside → IsPrepared a → CountedSteps μ a s r n n' inside → StateSteps μ a s r m n' depth
   counted_steps a s r {m = m} {n' = n'} {depth = depth} t f h = lift_steps μ a s r m n' depth (λ P L A. h m depth t P L (f P s L A))
+
+  -- what a node gives that is taken apart, a state over it gives
+  pub live_apart : {at at' : _} (names : Env) (l l' : Live) (s : Step) {m n n' : Meter} {depth inside : ℕ} {f : Fault} {r : _} → Ticks m n depth inside
+      → GivesApart (λ g. LiveSteps μ l s g n n' inside) l' f r → GivesApart (λ g. StateSteps μ (Alive' names at l) s g m n' depth) (Alive' names at' l') f r
+  live_apart {at' = at'} names l l' s t h = apart_as
+      (λ y S. counted_steps _ s _ t (live_is names l) (live_counted {A = Step} {E = Step} at' names l l' s y (Ok s) Memory S))
+      (λ S. counted_steps _ s _ t (live_is names l) (live_counted {A = Step} {E = Step} at' names l l' s (first_input s []) (Err s) _ S)) h
 
   -- ## The first sample
 

@@ -1,15 +1,23 @@
 -- Parts that are stepped one after another.
-use Rattle.std.proofs.Common.{◌≡◌, ℕ, ◌+◌, ◌≤◌, ◌++◌, Result, Ok, Err, sym, ap, ◌∙◌, subst, append_assoc, arith, ◌⊎◌, inl, inr}
+use Rattle.std.proofs.Common.{◌≡◌, ℕ, ◌+◌, ◌≤◌, ◌++◌, Result, Ok, Err, sym, ap, ◌∙◌, subst, append_assoc, arith, ◌⊎◌, inl, inr, Option}
 use Rattle.std.specs.Prelude.{IsErr}
-use Rattle.sf_value.specs.Values.{Data}
+use Rattle.std.specs.Option.{option_map}
+use Rattle.std.specs.declared.rc.Rc.{Rc}
+use Rattle.std.specs.declared.alloc.Global.{Global}
+use Rattle.sf_value.specs.Values.{Data, first_of, second_of}
+use Rattle.sf_value.specs.declared.value.Value.{Value}
 use Rattle.sf_value.specs.declared.value.Pair.{Pair}
 use Rattle.sf_value.specs.declared.fault.ValueFault.{ValueFault}
 use Rattle.sf_value.specs.declared.fault.Fault.{Fault}
+use Rattle.sf_value.specs.declared.fault.Fault.TheVariants.{Memory}
 use Rattle.sf_expr.specs.Evaluation.{Evaluated}
+use Rattle.sf_mean.specs.Formulas.{occurring}
 use Rattle.sf_mean.specs.Meaning.{Readings, Outcome, gave, faulted, answered_by, combined, outcome_value, Cost, count, height, both_costs, over}
 use Rattle.sf_meter.specs.declared.meter.Meter.{Meter}
-use Rattle.sf_meter.specs.Meters.{entered_of, meter_height, readings, Ticks, left_or}
+use Rattle.sf_meter.specs.declared.meter.Stop.{Stop}
+use Rattle.sf_meter.specs.Meters.{entered_of, meter_height, meter_fault, readings, Ticks, left_or}
 use Rattle.sf_step.specs.Answering.{Rel, Spent, AtMost, Within, StopsFor, faults, large, memory, Answers, answers, fails}
+use Rattle.sf_step.specs.Sampling.{GivesApart, apart, stopped, TakenApart, halved, not_granted}
 
 -- one outcome at most
 pub data Single (R : Rel) : Type 0 where
@@ -170,6 +178,38 @@ failed (fails h) = h
 pub pass_exit : {A B E : Type 0} {view : B → Data} {after : B → Type 0} {R : Rel} {m n : Meter} {depth : ℕ} {f : Fault} (r : Result A E) (b : B) → IsErr r → StopsFor R f m n depth → Answers view after R (left_or r b f) m n depth
 pass_exit (Ok a) b e h = absurd cc
 pass_exit (Err q) b e h = fails h
+
+-- ## What is taken apart
+
+-- what a step gave that was taken apart
+pub record Apart {A : Type 0} (Steps : Result (A × Data) Fault → Type 0) (a : A) (x : Data) (o : Option (Rc Value Global)) : Type 0 where
+  pub y : Data
+  pub steps : Steps (Ok (a, y))
+  pub first : x ≡ first_of y
+  pub event : option_map (λ r. r.value) o ≡ occurring (second_of y)
+
+pub gives_value : {A : Type 0} {Steps : Result (A × Data) Fault → Type 0} {a : A} {f : Fault} {x : Data} {o : Option (Rc Value Global)} → GivesApart Steps a f (Ok (x, o)) → Apart Steps a x o
+gives_value (apart {y = y} S e h) = record { y = y; steps = S; first = e; event = h }
+
+pub gives_no_value : {A : Type 0} {Steps : Result (A × Data) Fault → Type 0} {a : A} {f : Fault} {e : Stop} → GivesApart Steps a f (Err e) → Steps (Err f)
+gives_no_value (stopped S) = S
+
+-- a `?` that passes a failure on
+pub stops_apart : {A : Type 0} {Steps : Result (A × Data) Fault → Type 0} {a : A} {f : Fault} {r : Result (Value × Option (Rc Value Global)) Stop} → IsErr r → Steps (Err f) → GivesApart Steps a f r
+stops_apart {r = Ok x} e S = absurd cc
+stops_apart {r = Err q} e S = stopped S
+
+-- steps of one thing are steps of another
+pub apart_as : {A B : Type 0} {S : Result (A × Data) Fault → Type 0} {T : Result (B × Data) Fault → Type 0} {a : A} {b : B} {f : Fault} {r : Result (Value × Option (Rc Value Global)) Stop}
+    → ((y : Data) → S (Ok (a, y)) → T (Ok (b, y))) → (S (Err f) → T (Err f)) → GivesApart S a f r → GivesApart T b f r
+apart_as h k (apart {y = y} s e o) = apart (h y s) e o
+apart_as h k (stopped s) = stopped (k s)
+
+-- what was given whole is taken apart
+pub taken : {A : Type 0} (Steps : Result (A × Data) Fault → Meter → Type 0) {a : A} {y : Data} {n n' : Meter} {r : Result (Value × Option (Rc Value Global)) Stop}
+    → Steps (Ok (a, y)) n → (entered_of n' ≡ entered_of n → meter_height n' ≡ meter_height n → meter_fault n' ≡ Memory → Steps (Err (meter_fault n')) n') → TakenApart y n n' r → GivesApart (λ s. Steps s n') a (meter_fault n') r
+taken Steps {a = a} {y = y} h k (halved same e o) = apart (subst (λ m. Steps (Ok (a, y)) m) (sym same) h) e o
+taken Steps h k (not_granted en hn q) = stopped (k en hn q)
 
 -- what is written to is the halves of the pair: its node, or a copy
 pub own_halves : {a b : Pair} → (a ≡ b) ⊎ (a ≡ b) → a ≡ b

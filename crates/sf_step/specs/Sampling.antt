@@ -1,12 +1,16 @@
 -- What the steps of a cycle answer: of states, of members, and of what waits for an event.
 use Rattle.std.specs.Prelude.{◌≡◌, ℕ, ◌≤◌, List, ◌∷◌, Option, Some, None, Result, Ok, Err, Vec}
+use Rattle.std.specs.Option.{option_map}
+use Rattle.std.specs.declared.rc.Rc.{Rc}
 use Rattle.std.specs.declared.alloc.Global.{Global}
 use Rattle.sf_value.specs.declared.value.Value.{Value}
-use Rattle.sf_value.specs.Values.{Data, table}
+use Rattle.sf_value.specs.Values.{Data, table, first_of, second_of}
 use Rattle.sf_value.specs.View.{keyed_rows}
 use Rattle.sf_value.specs.declared.fault.Fault.{Fault}
+use Rattle.sf_value.specs.declared.fault.Fault.TheVariants.{Memory}
 use Rattle.sf_term.specs.Trees.{Term}
 use Rattle.sf_mean.specs.Lives.{Step, Life, Process, closure, Environment, Members, first_input}
+use Rattle.sf_mean.specs.Formulas.{occurring}
 use Rattle.sf_mean.specs.Meaning.{Gives, Each}
 use Rattle.sf_state.specs.declared.state.State.{State}
 use Rattle.sf_state.specs.declared.state.Gathered.{Gathered}
@@ -18,7 +22,8 @@ use Rattle.sf_state.specs.Held.{gathered_holding}
 use Rattle.sf_state.specs.Standing.{IsNames, Stands, Waits, WaitsContinuation, WaitsGathered, Gathers, EachStands, StandsAmong, keys_in}
 use Rattle.sf_state.specs.Machine.{Machine, machine_network}
 use Rattle.sf_meter.specs.declared.meter.Meter.{Meter}
-use Rattle.sf_meter.specs.Meters.{meter_height, Ticks}
+use Rattle.sf_meter.specs.declared.meter.Stop.{Stop}
+use Rattle.sf_meter.specs.Meters.{entered_of, meter_height, meter_fault, Ticks}
 use Rattle.sf_step.specs.Answering.{Answers}
 use Rattle.sf_begin.specs.Beginning.{Prepared}
 
@@ -34,6 +39,17 @@ StateSteps μ a s result m n depth = (P : Process) (L : Life) → Stands μ a P 
 abbrev pub left_beside : {A E : Type 0} → Result (Option State) E → A → Data → Fault → Result ((Option State × A) × Data) Fault
 left_beside (Ok o) s d f = Ok ((o, s), d)
 left_beside (Err e) s d f = Err f
+
+-- What a step gives whose value is taken apart: the first part of that, and the payload of the event beside it, if it occurs; or
+-- the fault that stands in the meter.
+pub data GivesApart {A : Type 0} (Steps : Result (A × Data) Fault → Type 0) (a : A) (f : Fault) : Result (Value × Option (Rc Value Global)) Stop → Type 0 where
+  apart : {x y : Data} {o : Option (Rc Value Global)} → Steps (Ok (a, y)) → x ≡ first_of y → option_map (λ r. r.value) o ≡ occurring (second_of y) → GivesApart Steps a f (Ok (x, o))
+  stopped : {e : Stop} → Steps (Err f) → GivesApart Steps a f (Err e)
+
+-- How a value is taken apart that was given whole: nothing is counted, and what stops is a want of memory.
+pub data TakenApart (y : Data) (n n' : Meter) : Result (Value × Option (Rc Value Global)) Stop → Type 0 where
+  halved : {x : Data} {o : Option (Rc Value Global)} → n' ≡ n → x ≡ first_of y → option_map (λ r. r.value) o ≡ occurring (second_of y) → TakenApart y n n' (Ok (x, o))
+  not_granted : {e : Stop} → entered_of n' ≡ entered_of n → meter_height n' ≡ meter_height n → meter_fault n' ≡ Memory → TakenApart y n n' (Err e)
 
 -- what switches of a kind wait for, and the lives that they have led
 abbrev pub Waiting : Type 0 → Type 1

@@ -9,7 +9,7 @@ ghost use Rattle.sf_state.specs.Machine.{machine};
 ghost use Rattle.sf_meter.specs.Meters.{kept, left_or, entered_of, meter_height, meter_fault};
 ghost use Rattle.sf_step.specs.Answering.{LiveSteps};
 ghost use Rattle.sf_begin.specs.Contexts.{context_machine, dt_in};
-ghost use Rattle.sf_step.specs.Sampling.{StateSteps, SwitchSteps, ContinuationSteps, GatheringSteps, MembersSteps, EachSteps, MemberSteps, CountedSteps, left_beside, left_with};
+ghost use Rattle.sf_step.specs.Sampling.{GivesApart, TakenApart, StateSteps, SwitchSteps, ContinuationSteps, GatheringSteps, MembersSteps, EachSteps, MemberSteps, CountedSteps, left_beside, left_with};
 ghost use Rattle.sf_step.specs.Edits.{HaveStepped, HaveTurned, EditSteps, DraftSteps, held_as_made, left_noted};
 ghost use Rattle.sf_step.specs.Stepping.{Steps};
 ghost use Rattle.sf_step.specs.Routing.{observation_of};
@@ -898,8 +898,7 @@ fn step_basic<R: Holds>(
         (left_beside result switch.new value.new (meter_fault meter.new)) meter.old meter.new inside }
 {
     let output = granted!(meter, value.clone_in(context.alloc));
-    step_state(context, &mut switch.running, inside, value, meter)?;
-    let (old, occurring) = granted!(meter, value_and_payload(context.alloc, value));
+    let (old, occurring) = step_apart(context, &mut switch.running, inside, value, meter)?;
     *value = old;
     match occurring {
         None => Ok(None),
@@ -913,6 +912,164 @@ fn step_basic<R: Holds>(
             Ok(Some(body))
         }
     }
+}
+
+// The next sample of a part whose value is taken apart: the first part of that, and the payload of the event beside it, if it
+// occurs. It leaves a number in the value's place. Two parts on one input give both without a pair.
+#[cycle(step)]
+#[inline(always)]
+fn step_apart<R: Holds>(
+    context: &SampleContext<R>,
+    state: &mut State,
+    depth: u64,
+    value: &mut Value,
+    meter: &mut Meter,
+) -> Result<(Value, Option<Rc<Value>>), Stop>
+    ensures { GivesApart (λ gives. StateSteps (context_machine R.answers context.now) state.old (step (dt_in context.now) value.old) gives meter.old meter.new depth)
+        state.new (meter_fault meter.new) result }
+{
+    match state {
+        State::Live(_, node) => {
+            let inside = meter.tick(depth)?;
+            step_node_apart(context, node, inside, value, meter)
+        }
+        _ => {
+            step_state(context, state, depth, value, meter)?;
+            taken_apart(context.alloc, value, meter)
+        }
+    }
+}
+
+// The same of a node, which has been counted.
+#[cycle(step)]
+#[inline(always)]
+fn step_node_apart<R: Holds>(
+    context: &SampleContext<R>,
+    node: &mut Rc<Live>,
+    inside: u64,
+    value: &mut Value,
+    meter: &mut Meter,
+) -> Result<(Value, Option<Rc<Value>>), Stop>
+    ensures { GivesApart (λ gives. LiveSteps (context_machine R.answers context.now) node.old.value (step (dt_in context.now) value.old) gives meter.old meter.new inside)
+        node.new.value (meter_fault meter.new) result }
+{
+    match Rc::get_mut(node) {
+        Some(live) => step_live_apart(context, live, inside, value, meter),
+        None => {
+            step_node_copy(context, node, inside, value, meter)?;
+            taken_apart(context.alloc, value, meter)
+        }
+    }
+}
+
+// The same of the node's content, which is its own.
+#[cycle(step)]
+#[inline(always)]
+fn step_live_apart<R: Holds>(
+    context: &SampleContext<R>,
+    live: &mut Live,
+    inside: u64,
+    value: &mut Value,
+    meter: &mut Meter,
+) -> Result<(Value, Option<Rc<Value>>), Stop>
+    ensures { GivesApart (λ gives. LiveSteps (context_machine R.answers context.now) live.old (step (dt_in context.now) value.old) gives meter.old meter.new inside)
+        live.new (meter_fault meter.new) result }
+{
+    match live {
+        Live::Join(join, left, right) => match join {
+            Join::InSequence => step_sequence_apart(context, left, right, inside, value, meter),
+            Join::InParallel => step_parallel_apart(context, left, right, inside, value, meter),
+            Join::FannedOut => step_fan_apart(context, left, right, inside, value, meter),
+        },
+        _ => step_whole(context, live, inside, value, meter),
+    }
+}
+
+// The same of two parts, the right one on the value of the left one.
+#[cycle(step)]
+#[inline(never)]
+fn step_sequence_apart<R: Holds>(
+    context: &SampleContext<R>,
+    left: &mut State,
+    right: &mut State,
+    inside: u64,
+    value: &mut Value,
+    meter: &mut Meter,
+) -> Result<(Value, Option<Rc<Value>>), Stop>
+    ensures { GivesApart (λ gives. LiveSteps (context_machine R.answers context.now) (Live.Join Join.InSequence left.old right.old) (step (dt_in context.now) value.old) gives meter.old meter.new inside)
+        (Live.Join Join.InSequence left.new right.new) (meter_fault meter.new) result }
+{
+    step_state(context, left, inside, value, meter)?;
+    step_apart(context, right, inside, value, meter)
+}
+
+// The same of two parts side by side.
+#[cycle(step)]
+#[inline(never)]
+fn step_parallel_apart<R: Holds>(
+    context: &SampleContext<R>,
+    left: &mut State,
+    right: &mut State,
+    inside: u64,
+    value: &mut Value,
+    meter: &mut Meter,
+) -> Result<(Value, Option<Rc<Value>>), Stop>
+    ensures { GivesApart (λ gives. LiveSteps (context_machine R.answers context.now) (Live.Join Join.InParallel left.old right.old) (step (dt_in context.now) value.old) gives meter.old meter.new inside)
+        (Live.Join Join.InParallel left.new right.new) (meter_fault meter.new) result }
+{
+    step_parallel(context, left, right, inside, value, meter)?;
+    taken_apart(context.alloc, value, meter)
+}
+
+// The same of what gives its value whole.
+#[cycle(step)]
+#[inline(never)]
+fn step_whole<R: Holds>(
+    context: &SampleContext<R>,
+    live: &mut Live,
+    inside: u64,
+    value: &mut Value,
+    meter: &mut Meter,
+) -> Result<(Value, Option<Rc<Value>>), Stop>
+    ensures { GivesApart (λ gives. LiveSteps (context_machine R.answers context.now) live.old (step (dt_in context.now) value.old) gives meter.old meter.new inside)
+        live.new (meter_fault meter.new) result }
+{
+    step_live(context, live, inside, value, meter)?;
+    taken_apart(context.alloc, value, meter)
+}
+
+// The same of two parts on one input.
+#[cycle(step)]
+#[inline(never)]
+fn step_fan_apart<R: Holds>(
+    context: &SampleContext<R>,
+    left: &mut State,
+    right: &mut State,
+    inside: u64,
+    value: &mut Value,
+    meter: &mut Meter,
+) -> Result<(Value, Option<Rc<Value>>), Stop>
+    ensures { GivesApart (λ gives. LiveSteps (context_machine R.answers context.now) (Live.Join Join.FannedOut left.old right.old) (step (dt_in context.now) value.old) gives meter.old meter.new inside)
+        (Live.Join Join.FannedOut left.new right.new) (meter_fault meter.new) result }
+{
+    let mut first = granted!(meter, value.clone_in(context.alloc));
+    step_state(context, left, inside, &mut first, meter)?;
+    step_state(context, right, inside, value, meter)?;
+    let second = mem::replace(value, Value::int(0));
+    Ok((first, payload_of(second)))
+}
+
+// What a part gave, taken apart.
+#[inline(always)]
+fn taken_apart(
+    alloc: Global,
+    value: &mut Value,
+    meter: &mut Meter,
+) -> Result<(Value, Option<Rc<Value>>), Stop>
+    ensures { TakenApart value.old meter.old meter.new result }
+{
+    let halves = granted!(meter, value_and_payload(alloc, value));
+    Ok(halves)
 }
 
 // The same of a recurring switch: its event stands beside its input, which goes without it to what runs. That is stepped at

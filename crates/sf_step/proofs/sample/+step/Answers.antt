@@ -5,6 +5,7 @@ use Rattle.sf_value.specs.Values.{Data, table, pair, first_of, second_of}
 use Rattle.sf_value.specs.View.{keyed_rows}
 use Rattle.std.specs.Vec.{with_items}
 use Rattle.std.proofs.lemmas.List.{with_items_is}
+use Rattle.sf_state.specs.declared.state.Live.TheVariants.{Join as LJoin}
 use Rattle.sf_state.specs.declared.state.Wrap.TheVariants.{First, Second, Loop, Initialized, Replaced, Followed}
 use Rattle.sf_term.specs.declared.form.Join.TheVariants.{InSequence, InParallel, FannedOut}
 use Rattle.sf_value.specs.declared.value.Pair.{Pair}
@@ -22,12 +23,13 @@ use Rattle.sf_step.specs.declared.turning.Turn.{Turn}
 use Rattle.sf_step.specs.declared.turning.Turn.TheVariants.{Stays, Begins}
 use Rattle.sf_begin.specs.Drafting.{drafted, all_changed}
 use Rattle.sf_step.proofs.Costs.{memory_exit, early_memory}
-use Rattle.sf_step.specs.Sampling.{StateSteps, EachSteps}
+use Rattle.sf_step.specs.Answering.{LiveSteps, fails}
+use Rattle.sf_step.specs.Sampling.{StateSteps, EachSteps, apart, stopped}
 use Rattle.sf_step.specs.Routing.{observation_of}
 use Rattle.sf_state.proofs.Copies.{list_follows}
-use Rattle.sf_step.proofs.Parts.{pass_exit, failed, own_halves}
+use Rattle.sf_step.proofs.Parts.{pass_exit, failed, own_halves, gives_value, gives_no_value, stops_apart, apart_as, taken}
 use Rattle.sf_step.proofs.Stages.{StagesStep, continues_first, continues_next, continues_fails, continues_last, pipeline_steps, pipeline_fails}
-use Rattle.sf_step.proofs.Exits.{ticked_by, tick_fails, first_memory, join_left_fails, join_right_fails, join_steps, join_last, wrap_fails, wrap_steps, wrap_faults, wrap_last, late_memory, late_waiting, waits_alike, primitive_counted, live_counted, own_steps, primitive_is, live_is, awake_is, counted_steps, first_counted, begun_steps, begun_runs, begun_fails}
+use Rattle.sf_step.proofs.Exits.{ticked_by, tick_fails, first_memory, join_left_fails, join_right_fails, join_steps, join_last, wrap_fails, wrap_steps, wrap_faults, wrap_last, late_memory, late_part, late_waiting, waits_alike, primitive_counted, live_counted, own_steps, primitive_is, live_is, awake_is, counted_steps, live_apart, first_counted, begun_steps, begun_runs, begun_fails}
 use Rattle.sf_step.proofs.Recurring.{run_fails, run_memory, new_fails, new_runs, runs_alone}
 use Rattle.sf_step.proofs.Switches.{source_fails, switch_memory, switch_waits_on, body_fails, body_takes_over}
 use Rattle.sf_step.proofs.Continuation.{runs_alike, kept_fails, kept_memory, observer_fails, observer_memory, keeps_on, kept_body_fails, continuation_takes_over, some_occurs, none_occurs}
@@ -207,43 +209,142 @@ step_switch-returns-in_err-step_recurring-in-Recurring g t c = λ m depth t T e 
 pub step_basic-returns-in-Err : goal.step_basic-returns-in-Err
 step_basic-returns-in-Err g t c = λ m depth t T e L N W. early_memory (context_machine g.R.Holds.answers c.args.context.now) t c.stop.ensures.entered c.stop.ensures.height c.stop.ensures.fault
 
-pub step_basic-returns-in_err-step_state : goal.step_basic-returns-in_err-step_state
-step_basic-returns-in_err-step_state g t c = λ m depth t T e L N W.
-    pass_beside (context_machine g.R.Holds.answers c.args.context.now) _ _ _ c.from_residual.ensures.0 (source_fails (context_machine g.R.Holds.answers c.args.context.now) c.args.names.now c.args.switch.now (observation_of c.args.switch.now.form) c.requires.form (step c.args.context.now.dt c.args.value.now) c.args.meter.now c.step_state.new.meter c.args.inside
-    _ c.in_err-step_state.ensures m depth t T e L N W)
-
-pub step_basic-returns-in-Err-value_and_payload : goal.step_basic-returns-in-Err-value_and_payload
-step_basic-returns-in-Err-value_and_payload g t c = λ m depth t T e L N W.
-    memory_exit c.stop-in-Err-value_and_payload.ensures.fault (switch_memory (context_machine g.R.Holds.answers c.args.context.now) c.args.names.now c.args.switch.now (observation_of c.args.switch.now.form) c.requires.form (step c.args.context.now.dt c.args.value.now) c.args.meter.now c.step_state.new.meter c.args.inside
-    c.step_state.new.state c.step_state.new.value c.in_ok-step_state.ensures _ c.stop-in-Err-value_and_payload.ensures.entered c.stop-in-Err-value_and_payload.ensures.height m depth t T e L N W)
+pub step_basic-returns-in_err-old : goal.step_basic-returns-in_err-old
+step_basic-returns-in_err-old g t c = λ m depth t T e L N W.
+    pass_beside (context_machine g.R.Holds.answers c.args.context.now) _ _ _ c.from_residual.ensures.0 (source_fails (context_machine g.R.Holds.answers c.args.context.now) c.args.names.now c.args.switch.now (observation_of c.args.switch.now.form) c.requires.form (step c.args.context.now.dt c.args.value.now) c.args.meter.now c.step_apart.new.meter c.args.inside
+    _ (gives_no_value c.in_err-old.ensures) m depth t T e L N W)
 
 pub step_basic-returns-in-None : goal.step_basic-returns-in-None
 step_basic-returns-in-None g t c =
-    let y = c.step_state.new.value in
-    switch_waits_on (context_machine g.R.Holds.answers c.args.context.now) c.args.names.now c.args.switch.now (observation_of c.args.switch.now.form) c.requires.form (step c.args.context.now.dt c.args.value.now) c.args.meter.now c.step_state.new.meter c.args.inside
-    c.step_state.new.state y c.in_ok-step_state.ensures (none_occurs _ c.in-Ok-value_and_payload.value.1 (second_of y) c.in-Ok-value_and_payload.ensures.1 c.in-None.is)
-    c.in-Ok-value_and_payload.value.0 c.in-Ok-value_and_payload.ensures.0 _ refl
+    let h = gives_value c.in_ok-old.ensures in
+    switch_waits_on (context_machine g.R.Holds.answers c.args.context.now) c.args.names.now c.args.switch.now (observation_of c.args.switch.now.form) c.requires.form (step c.args.context.now.dt c.args.value.now) c.args.meter.now c.step_apart.new.meter c.args.inside
+    c.step_apart.new.state h.y h.steps (none_occurs _ c.in_ok-old.occurring (second_of h.y) h.event c.in-None.is)
+    c.in_ok-old.old h.first _ refl
 
 pub step_basic-returns-in-Err-begin : goal.step_basic-returns-in-Err-begin
 step_basic-returns-in-Err-begin g t c = λ m depth t T e L N W.
-    memory_exit c.stop-in-Err-begin.ensures.fault (switch_memory (context_machine g.R.Holds.answers c.args.context.now) c.args.names.now c.args.switch.now (observation_of c.args.switch.now.form) c.requires.form (step c.args.context.now.dt c.args.value.now) c.args.meter.now c.step_state.new.meter c.args.inside
-    c.step_state.new.state c.step_state.new.value c.in_ok-step_state.ensures _ c.stop-in-Err-begin.ensures.entered c.stop-in-Err-begin.ensures.height m depth t T e L N W)
+    let h = gives_value c.in_ok-old.ensures in
+    memory_exit c.stop-in-Err-begin.ensures.fault (switch_memory (context_machine g.R.Holds.answers c.args.context.now) c.args.names.now c.args.switch.now (observation_of c.args.switch.now.form) c.requires.form (step c.args.context.now.dt c.args.value.now) c.args.meter.now c.step_apart.new.meter c.args.inside
+    c.step_apart.new.state h.y h.steps _ c.stop-in-Err-begin.ensures.entered c.stop-in-Err-begin.ensures.height m depth t T e L N W)
 
 pub step_basic-returns-in_err-body-in-Some : goal.step_basic-returns-in_err-body-in-Some
 step_basic-returns-in_err-body-in-Some g t c = λ m depth t T e L N W.
-    let y = c.step_state.new.value in
-    pass_beside (context_machine g.R.Holds.answers c.args.context.now) _ _ _ c.from_residual-in_err-body-in-Some.ensures.0 (body_fails (context_machine g.R.Holds.answers c.args.context.now) c.args.names.now c.args.switch.now (observation_of c.args.switch.now.form) c.requires.form (step c.args.context.now.dt c.args.value.now) c.args.meter.now c.step_state.new.meter c.args.inside
-    c.step_state.new.state y c.in_ok-step_state.ensures c.in-Some.payload.value (some_occurs _ c.in-Ok-value_and_payload.value.1 c.in-Some.payload (second_of y) c.in-Ok-value_and_payload.ensures.1 c.in-Some.is)
+    let h = gives_value c.in_ok-old.ensures in
+    pass_beside (context_machine g.R.Holds.answers c.args.context.now) _ _ _ c.from_residual-in_err-body-in-Some.ensures.0 (body_fails (context_machine g.R.Holds.answers c.args.context.now) c.args.names.now c.args.switch.now (observation_of c.args.switch.now.form) c.requires.form (step c.args.context.now.dt c.args.value.now) c.args.meter.now c.step_apart.new.meter c.args.inside
+    c.step_apart.new.state h.y h.steps c.in-Some.payload.value (some_occurs _ c.in_ok-old.occurring c.in-Some.payload (second_of h.y) h.event c.in-Some.is)
     c.in-Ok-begin.value (c.in-Ok-begin.ensures (g.R.Holds.answers c.args.context.now.functions.now)) c.step_begun.new.meter _ (rw c.in-Ok.ensures at c.in_err-body-in-Some.ensures) m depth t T e L N W)
 
 pub step_basic-returns-in_ok-body-in-Some : goal.step_basic-returns-in_ok-body-in-Some
 step_basic-returns-in_ok-body-in-Some g t c =
-    let y = c.step_state.new.value in
-    body_takes_over (context_machine g.R.Holds.answers c.args.context.now) c.args.names.now c.args.switch.now (observation_of c.args.switch.now.form) c.requires.form (step c.args.context.now.dt c.args.value.now) c.args.meter.now c.step_state.new.meter c.args.inside
-    c.step_state.new.state y c.in_ok-step_state.ensures c.in-Some.payload.value (some_occurs _ c.in-Ok-value_and_payload.value.1 c.in-Some.payload (second_of y) c.in-Ok-value_and_payload.ensures.1 c.in-Some.is)
+    let h = gives_value c.in_ok-old.ensures in
+    body_takes_over (context_machine g.R.Holds.answers c.args.context.now) c.args.names.now c.args.switch.now (observation_of c.args.switch.now.form) c.requires.form (step c.args.context.now.dt c.args.value.now) c.args.meter.now c.step_apart.new.meter c.args.inside
+    c.step_apart.new.state h.y h.steps c.in-Some.payload.value (some_occurs _ c.in_ok-old.occurring c.in-Some.payload (second_of h.y) h.event c.in-Some.is)
     c.in-Ok-begin.value (c.in-Ok-begin.ensures (g.R.Holds.answers c.args.context.now.functions.now)) c.step_begun.new.meter
-    c.in_ok-body-in-Some.body c.in_ok-body-in-Some.output _ (rw c.shown_by.ensures at c.show.ensures ∙ ap (λ d. switched_value (observation_of c.args.switch.now.form) d c.in_ok-body-in-Some.output) c.in-Ok-value_and_payload.ensures.0) _
+    c.in_ok-body-in-Some.body c.in_ok-body-in-Some.output _ (rw c.shown_by.ensures at c.show.ensures ∙ ap (λ d. switched_value (observation_of c.args.switch.now.form) d c.in_ok-body-in-Some.output) h.first) _
     (rw c.in-Ok.ensures at c.in_ok-body-in-Some.ensures)
+
+-- ## step_fan_apart
+
+pub step_fan_apart-returns-in-Err : goal.step_fan_apart-returns-in-Err
+step_fan_apart-returns-in-Err g t c = stopped (λ m depth t P L R. early_memory (context_machine g.R.Holds.answers c.args.context.now) t c.stop.ensures.entered c.stop.ensures.height c.stop.ensures.fault)
+
+pub step_fan_apart-returns-in_err-step_state : goal.step_fan_apart-returns-in_err-step_state
+step_fan_apart-returns-in_err-step_state g t c =
+    stops_apart c.from_residual.ensures.0 (λ m depth t P L R. fails (join_left_fails (context_machine g.R.Holds.answers c.args.context.now) FannedOut c.args.left.now c.args.right.now c.args.meter.now c.step_state.new.meter c.args.inside c.args.context.now.dt c.args.value.now c.in-Ok.value c.in-Ok.ensures
+    _ c.in_err-step_state.ensures m depth t P L R))
+
+pub step_fan_apart-returns-in_err-step_state-2 : goal.step_fan_apart-returns-in_err-step_state-2
+step_fan_apart-returns-in_err-step_state-2 g t c =
+    stops_apart c.from_residual-in_err-step_state-2.ensures.0 (λ m depth t P L R. fails (join_right_fails (context_machine g.R.Holds.answers c.args.context.now) FannedOut c.args.left.now c.args.right.now c.args.meter.now c.step_state.new.meter c.args.inside c.args.context.now.dt c.args.value.now c.in-Ok.value c.in-Ok.ensures
+    c.step_state.new.state c.step_state.new.value c.args.value.now refl c.in_ok-step_state.ensures
+    c.step_state-2.new.meter _ c.in_err-step_state-2.ensures m depth t P L R))
+
+pub step_fan_apart-returns : goal.step_fan_apart-returns
+step_fan_apart-returns g t c =
+    apart (join_steps (context_machine g.R.Holds.answers c.args.context.now) FannedOut c.args.left.now c.args.right.now c.args.meter.now c.step_state.new.meter c.args.inside c.args.context.now.dt c.args.value.now c.in-Ok.value c.in-Ok.ensures
+    c.step_state.new.state c.step_state.new.value c.args.value.now refl c.in_ok-step_state.ensures
+    c.step_state-2.new.meter c.step_state-2.new.state c.step_state-2.new.value _ refl c.in_ok-step_state-2.ensures) refl (rw c.replace-second.ensures.value at c.payload_of.ensures)
+
+-- ## step_apart
+
+pub step_apart-returns-in_err-inside-in-Live : goal.step_apart-returns-in_err-inside-in-Live
+step_apart-returns-in_err-inside-in-Live g t c = stops_apart c.from_residual.ensures.0 (λ P L A. fails (tick_fails (context_machine g.R.Holds.answers c.args.context.now) P _ c.in_err-inside-in-Live.ensures.ticked))
+
+pub step_apart-returns-in_ok-inside-in-Live : goal.step_apart-returns-in_ok-inside-in-Live
+step_apart-returns-in_ok-inside-in-Live g t c =
+    rw c.in-Live.is (live_apart (context_machine g.R.Holds.answers c.args.context.now) c.in-Live.field-0 c.in-Live.node.value c.step_node_apart.new.node.value (step c.args.context.now.dt c.args.value.now) (ticked_by c.in_ok-inside-in-Live.ensures.ticked) c.step_node_apart.ensures)
+
+pub step_apart-returns-in_err-step_state-in_default : goal.step_apart-returns-in_err-step_state-in_default
+step_apart-returns-in_err-step_state-in_default g t c = stops_apart c.from_residual-in_err-step_state-in_default.ensures.0 c.in_err-step_state-in_default.ensures
+
+pub step_apart-returns-in_ok-step_state-in_default : goal.step_apart-returns-in_ok-step_state-in_default
+step_apart-returns-in_ok-step_state-in_default g t c =
+    taken (λ s n. StateSteps (context_machine g.R.Holds.answers c.args.context.now) c.args.state.now (step c.args.context.now.dt c.args.value.now) s c.args.meter.now n c.args.depth) c.in_ok-step_state-in_default.ensures (late_part (context_machine g.R.Holds.answers c.args.context.now) c.in_ok-step_state-in_default.ensures) c.taken_apart.ensures
+
+-- ## step_node_apart
+
+pub step_node_apart-returns-in-Some : goal.step_node_apart-returns-in-Some
+step_node_apart-returns-in-Some g t c =
+    apart_as (λ y S. own_steps (context_machine g.R.Holds.answers c.args.context.now) c.args.node.now.value c.in-Some.live.now (step c.args.context.now.dt c.args.value.now) _ (λ P x L R. rw c.in-Some.ensures.value R) S)
+    (λ S. own_steps (context_machine g.R.Holds.answers c.args.context.now) c.args.node.now.value c.in-Some.live.now (step c.args.context.now.dt c.args.value.now) _ (λ P x L R. rw c.in-Some.ensures.value R) S) c.step_live_apart.ensures
+
+pub step_node_apart-returns-in_err-step_node_copy-in-None : goal.step_node_apart-returns-in_err-step_node_copy-in-None
+step_node_apart-returns-in_err-step_node_copy-in-None g t c = stops_apart c.from_residual.ensures.0 c.in_err-step_node_copy-in-None.ensures
+
+pub step_node_apart-returns-in_ok-step_node_copy-in-None : goal.step_node_apart-returns-in_ok-step_node_copy-in-None
+step_node_apart-returns-in_ok-step_node_copy-in-None g t c =
+    taken (λ s n. LiveSteps (context_machine g.R.Holds.answers c.args.context.now) c.args.node.now.value (step c.args.context.now.dt c.args.value.now) s c.args.meter.now n c.args.inside) c.in_ok-step_node_copy-in-None.ensures (late_memory (context_machine g.R.Holds.answers c.args.context.now) c.in_ok-step_node_copy-in-None.ensures) c.taken_apart.ensures
+
+-- ## step_whole
+
+pub step_whole-returns-in_err-step_live : goal.step_whole-returns-in_err-step_live
+step_whole-returns-in_err-step_live g t c = stops_apart c.from_residual.ensures.0 c.in_err-step_live.ensures
+
+pub step_whole-returns : goal.step_whole-returns
+step_whole-returns g t c =
+    taken (λ s n. LiveSteps (context_machine g.R.Holds.answers c.args.context.now) c.args.live.now (step c.args.context.now.dt c.args.value.now) s c.args.meter.now n c.args.inside) c.in_ok-step_live.ensures (late_memory (context_machine g.R.Holds.answers c.args.context.now) c.in_ok-step_live.ensures) c.taken_apart.ensures
+
+-- ## step_live_apart
+
+pub step_live_apart-returns-in-InSequence : goal.step_live_apart-returns-in-InSequence
+step_live_apart-returns-in-InSequence g t c =
+    let same = sym c.in-Join.join-is ∙ c.in-InSequence.is in
+    rw c.in-InSequence.is (rw c.in-Join.is (rw same (rw c.in-Join.left-is at rw c.in-Join.right-is at c.step_sequence_apart.ensures)))
+
+pub step_live_apart-returns-in-InParallel : goal.step_live_apart-returns-in-InParallel
+step_live_apart-returns-in-InParallel g t c =
+    let same = sym c.in-Join.join-is ∙ c.in-InParallel.is in
+    rw c.in-InParallel.is (rw c.in-Join.is (rw same (rw c.in-Join.left-is at rw c.in-Join.right-is at c.step_parallel_apart.ensures)))
+
+pub step_live_apart-returns-in-FannedOut : goal.step_live_apart-returns-in-FannedOut
+step_live_apart-returns-in-FannedOut g t c =
+    let same = sym c.in-Join.join-is ∙ c.in-FannedOut.is in
+    rw c.in-FannedOut.is (rw c.in-Join.is (rw same (rw c.in-Join.left-is at rw c.in-Join.right-is at c.step_fan_apart.ensures)))
+
+-- ## step_sequence_apart
+
+pub step_sequence_apart-returns-in_err-step_state : goal.step_sequence_apart-returns-in_err-step_state
+step_sequence_apart-returns-in_err-step_state g t c =
+    stops_apart c.from_residual.ensures.0 (λ m depth t P L R. fails (join_left_fails (context_machine g.R.Holds.answers c.args.context.now) InSequence c.args.left.now c.args.right.now c.args.meter.now c.step_state.new.meter c.args.inside c.args.context.now.dt c.args.value.now c.args.value.now refl
+    _ c.in_err-step_state.ensures m depth t P L R))
+
+pub step_sequence_apart-returns : goal.step_sequence_apart-returns
+step_sequence_apart-returns g t c =
+    apart_as (λ y S. join_steps (context_machine g.R.Holds.answers c.args.context.now) InSequence c.args.left.now c.args.right.now c.args.meter.now c.step_state.new.meter c.args.inside c.args.context.now.dt c.args.value.now c.args.value.now refl
+    c.step_state.new.state c.step_state.new.value c.step_state.new.value refl c.in_ok-step_state.ensures
+    c.step_apart.new.meter c.step_apart.new.state y y refl S)
+    (λ S m depth t P L R. fails (join_right_fails (context_machine g.R.Holds.answers c.args.context.now) InSequence c.args.left.now c.args.right.now c.args.meter.now c.step_state.new.meter c.args.inside c.args.context.now.dt c.args.value.now c.args.value.now refl
+    c.step_state.new.state c.step_state.new.value c.step_state.new.value refl c.in_ok-step_state.ensures
+    c.step_apart.new.meter _ S m depth t P L R)) c.step_apart.ensures
+
+-- ## step_parallel_apart
+
+pub step_parallel_apart-returns-in_err-step_parallel : goal.step_parallel_apart-returns-in_err-step_parallel
+step_parallel_apart-returns-in_err-step_parallel g t c = stops_apart c.from_residual.ensures.0 c.in_err-step_parallel.ensures
+
+pub step_parallel_apart-returns : goal.step_parallel_apart-returns
+step_parallel_apart-returns g t c =
+    taken (λ s n. LiveSteps (context_machine g.R.Holds.answers c.args.context.now) (LJoin InParallel c.args.left.now c.args.right.now) (step c.args.context.now.dt c.args.value.now) s c.args.meter.now n c.args.inside) c.in_ok-step_parallel.ensures (late_memory (context_machine g.R.Holds.answers c.args.context.now) c.in_ok-step_parallel.ensures) c.taken_apart.ensures
 
 -- ## step_recurring
 

@@ -81,6 +81,27 @@ decreases-step_switch g l = 22 * (1600 - l.inside) + 13
 abbrev pub decreases-step_basic : goal.decreases-step_basic
 decreases-step_basic g l = 22 * (1600 - l.inside) + 12
 
+abbrev pub decreases-step_apart : goal.decreases-step_apart
+decreases-step_apart g l = 22 * (1600 - l.depth) + 7
+
+abbrev pub decreases-step_node_apart : goal.decreases-step_node_apart
+decreases-step_node_apart g l = 22 * (1600 - l.inside) + 17
+
+abbrev pub decreases-step_live_apart : goal.decreases-step_live_apart
+decreases-step_live_apart g l = 22 * (1600 - l.inside) + 16
+
+abbrev pub decreases-step_whole : goal.decreases-step_whole
+decreases-step_whole g l = 22 * (1600 - l.inside) + 15
+
+abbrev pub decreases-step_sequence_apart : goal.decreases-step_sequence_apart
+decreases-step_sequence_apart g l = 22 * (1600 - l.inside) + 8
+
+abbrev pub decreases-step_parallel_apart : goal.decreases-step_parallel_apart
+decreases-step_parallel_apart g l = 22 * (1600 - l.inside) + 9
+
+abbrev pub decreases-step_fan_apart : goal.decreases-step_fan_apart
+decreases-step_fan_apart g l = 22 * (1600 - l.inside) + 8
+
 abbrev pub decreases-step_recurring : goal.decreases-step_recurring
 decreases-step_recurring g l = 22 * (1600 - l.inside) + 12
 
