@@ -19,6 +19,7 @@ SCRIPTS = {
     "play": "sfplay",
     "soak": "sfplay",
     "alter": "sfplay",
+    "histories": "sfplay",
     "embedding": "sfplay",
     "meters": "sfmeter",
     "documents": "sfplay",
