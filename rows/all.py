@@ -20,6 +20,7 @@ SCRIPTS = {
     "soak": "sfplay",
     "alter": "sfplay",
     "histories": "sfplay",
+    "refusals": "sfplay",
     "embedding": "sfplay",
     "meters": "sfmeter",
     "documents": "sfplay",

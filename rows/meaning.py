@@ -7,9 +7,7 @@ so far, a switch cuts the life, and a frozen process is the process with the ste
 
 from typing import NamedTuple
 
-from reading import network_of
-
-LEAST, MOST = -(1 << 63), (1 << 63) - 1
+from reading import LEAST, MOST, network_of
 
 
 class Fault(Exception):
@@ -449,12 +447,8 @@ PRIMITIVES = {
 
 def sequence(life, left, right):
     first = life.run(left)
-    return joined_behind(first, lambda values: life.on(values).run(right), lambda at, a, b: over(b.value, a, b))
-
-
-def joined_behind(first, run, made):
-    """A part and what runs on its values."""
-    return joined([first, behind(first, run)], made)
+    second = behind(first, lambda values: life.on(values).run(right))
+    return joined([first, second], lambda at, a, b: over(b.value, a, b))
 
 
 def parallel(life, left, right):
@@ -528,7 +522,7 @@ def entered_once(outcomes):
 
 def template_called(life, template, arguments):
     names = handed(life, template, arguments)
-    return entered_once(life.within(names).run(life.network.templates[template][3]))
+    return entered_once(life.within(names).run(life.network.templates[template][1]))
 
 
 # Switches
@@ -678,7 +672,7 @@ FORMS = {
     "probe": lambda life, name: joined([primitive(life, lambda n: life.steps[n][1])], lambda at, a: a._replace(readings=[(name, a.value)])),
     "run": lambda life, name: entered_once(life.run_process(process_of(life, "run", name))),
     "fresh": lambda life, name: entered_once(life.run_process(process_of(life, "fresh", name))),
-    "call": template_called,
+    "template": template_called,
     "switch": switch(False),
     "dSwitch": switch(True),
     "rSwitch": recurring_switch(False),
@@ -697,7 +691,8 @@ class Network:
     """A network with what may be spent on it, counted in steps of terms."""
 
     def __init__(self, text, most):
-        self.templates, self.left = network_of(text), most
+        self.left = most
+        self.templates = {name: ([of for of, _ in parameters], term) for name, parameters, _, _, term in network_of(text)}
 
     def spend(self, steps):
         self.left -= steps
@@ -707,6 +702,6 @@ class Network:
     def outcomes(self, history):
         """The outcomes of a history, up to its first fault."""
         try:
-            return Life(history, {}, self).run(self.templates["main"][3])
+            return Life(history, {}, self).run(self.templates["main"][1])
         except RecursionError as error:
             raise TooLong from error
