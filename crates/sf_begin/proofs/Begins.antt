@@ -62,7 +62,7 @@ use Rattle.sf_state.specs.declared.state.Wrap.{Wrap}
 use Rattle.sf_state.specs.declared.state.Wrap.TheVariants.{Replaced}
 use Rattle.sf_state.specs.declared.env.Env.{Env}
 use Rattle.sf_state.specs.Names.{values_around}
-use Rattle.sf_state.specs.Standing.{Stands, Recalls, itself, unborn, recalls, waits_so, recurs_so, continues_so, releases_so, edits_so, ready, AreJoined, as_join, as_pipeline, lives_probe, lives_join, lives_wrap, Wraps, wraps_transformed, StagesStand, last_stands, stage_stands, is_closure, IsNames, IsProcess, closed_over}
+use Rattle.sf_state.specs.Standing.{Ready, Stands, Recalls, itself, unborn, recalls, waits_so, recurs_so, continues_so, releases_so, edits_so, ready, AreJoined, as_join, as_pipeline, lives_probe, lives_join, lives_wrap, Wraps, wraps_transformed, StagesStand, last_stands, stage_stands, is_closure, IsNames, IsProcess, closed_over}
 use Rattle.sf_state.specs.declared.state.Process as process_states
 use Rattle.sf_state.specs.Machine.{Machine, machine_network}
 use Rattle.sf_state.proofs.Scopes.{scope_is}
@@ -131,14 +131,20 @@ module _ (μ : Machine) where
   join_makes e x as_join = refl
   join_makes e x as_pipeline = refl
 
-  pub open_join : (j : Join) (a b : PlanId) (t : Term) (names one two : Env) (l : Rc Live Global) → l.value ≡ LJoin j (Unborn (closed_over a one)) (Unborn (closed_over b two))
+  -- two parts before their first sample, in one node
+  pub join_ready : (j : Join) (a b : PlanId) (t : Term) (names one two : Env)
       → ((e : Environment) → IsNames μ names e → IsNames μ one e) → ((e : Environment) → IsNames μ names e → IsNames μ two e)
-      → AreJoined j (plan_tree μ.plan a) (plan_tree μ.plan b) t → (x : Data) (e : Environment) → IsNames μ names e → Opens μ t e x (Ok (opened.Live l))
-  open_join j a b t names one two l same h g J x e N =
+      → AreJoined j (plan_tree μ.plan a) (plan_tree μ.plan b) t → (x : Data) (e : Environment) → IsNames μ names e → Ready μ (LJoin j (Unborn (closed_over a one)) (Unborn (closed_over b two))) (closure t e) x []
+  join_ready j a b t names one two h g J x e N =
       let A = subst (λ (K : Life). Stands μ (Unborn (closed_over a one)) (closure (plan_tree μ.plan a) e) K) (sym (left_none j)) (itself (unborn (is_closure (alike_itself _) (h e N)))) in
       let B = subst (λ (K : Life). Stands μ (Unborn (closed_over b two)) (closure (plan_tree μ.plan b) e) K) (sym (right_none j)) (itself (unborn (is_closure (alike_itself _) (g e N)))) in
       let O = subst (λ (K : Life). Outputs net (closure (plan_tree μ.plan a) e) K []) (sym (left_none j)) not_begun in
-      opens same (ready (join_makes e x J) not_begun (lives_join J O A B))
+      ready (join_makes e x J) not_begun (lives_join J O A B)
+
+  pub open_join : (j : Join) (a b : PlanId) (t : Term) (names one two : Env) (l : Rc Live Global) → l.value ≡ LJoin j (Unborn (closed_over a one)) (Unborn (closed_over b two))
+      → ((e : Environment) → IsNames μ names e → IsNames μ one e) → ((e : Environment) → IsNames μ names e → IsNames μ two e)
+      → AreJoined j (plan_tree μ.plan a) (plan_tree μ.plan b) t → (x : Data) (e : Environment) → IsNames μ names e → Opens μ t e x (Ok (opened.Live l))
+  open_join j a b t names one two l same h g J x e N = opens same (join_ready j a b t names one two h g J x e N)
 
   -- two stages go by `>>>`
   pub two_joined : (i j : PlanId) (v : Vec PlanId Global) (t : Term) → v.items ≡ i ∷ j ∷ [] → BuildsPlan μ.plan (NPipeline v) t → AreJoined InSequence (plan_tree μ.plan i) (plan_tree μ.plan j) t

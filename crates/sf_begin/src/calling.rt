@@ -1,13 +1,13 @@
 //! What stands in the place of a reference: the process of a name, or a template under the arguments of a call.
-ghost use Rattle.std.specs.Prelude.{◌≡◌, false, [], ◌∷◌, map, length, Some, All, IsTrue, IfOk};
+ghost use Rattle.std.specs.Prelude.{◌≡◌, false, [], ◌∷◌, map, length, All, IsTrue, IfOk};
 ghost use Rattle.sf_func.specs.Registries.{AnswersByName};
 ghost use Rattle.sf_expr.specs.Arena.{name_at};
-ghost use Rattle.sf_law.specs.Arena.{plan_tree, plan_expressions, plan_asks, plan_binding, plan_template, plan_arguments, header_at};
+ghost use Rattle.sf_law.specs.Arena.{plan_tree, plan_expressions, plan_asks, plan_binding, plan_arguments, header_at};
 ghost use Rattle.sf_law.specs.Entries.{BindsName, BindsNames, IsCodedArgument};
 ghost use Rattle.sf_law.specs.Asking.{start_asked, argument_asked, arguments_asked};
 ghost use Rattle.sf_mean.specs.Lives.{Environment, closure, empty, base, process_of, process_started};
 ghost use Rattle.sf_mean.specs.Lives;
-ghost use Rattle.sf_mean.specs.Meaning.{argued, process_called};
+ghost use Rattle.sf_mean.specs.Meaning.{argued};
 ghost use Rattle.sf_state.specs.Standing.{IsNames, AreGiven, IsHanded, IsProcess, Stands};
 ghost use Rattle.sf_state.specs.Machine.{machine};
 ghost use Rattle.sf_begin.specs.Beginning.{Makes, GivesOne};
@@ -27,7 +27,7 @@ use std::rc::Rc;
 /// The process of a name, shared, where it stood or where it began; what passes its inputs on where the name stands for
 /// none.
 #[inline(always)]
-pub(crate) fn started(
+pub fn started(
     alloc: Global,
     plan: &Plan,
     names: &Env,
@@ -80,28 +80,24 @@ fn kept(plan: &Plan, name: NameId, process: &Process) -> Result<Process, AllocEr
     }
 }
 
-/// The body of a template before its first sample, inside its parameters, each bound to its argument, the first one
-/// first, where these names are around the call. The error is the first fault of the arguments.
+/// The names of a template's parameters, each bound to its argument, the first one first, where these names are around the call.
+/// The error is the first fault of the arguments.
 #[cold]
 #[inline(never)]
-pub(crate) fn called<R: Holds>(
+pub fn called<R: Holds>(
     context: &SampleContext<R>,
     id: TemplateId,
     arguments: &[PlanArgument],
     names: &Env,
-) -> Result<State, Fault>
+) -> Result<Env, Fault>
     requires coded { All (IsCodedArgument (plan_expressions (plan_in context.now))) arguments.now }
     requires asked { IsTrue (arguments_asked (plan_expressions (plan_in context.now)) (plan_asks (plan_in context.now)) (header_at (plan_in context.now) id).parameters arguments.now) }
     ensures { (e : Environment) → IsNames (context_machine R.answers context.now) names.now e →
-        Makes (λ a P. Stands (context_machine R.answers context.now) a P [])
-        (process_called (R.answers context.now.functions.now) (Some (plan_template (plan_in context.now) (header_at (plan_in context.now) id))) (plan_arguments (plan_in context.now) arguments.now) e) result }
+        Makes (IsNames (context_machine R.answers context.now))
+        (argued (R.answers context.now.functions.now) (map (plan_binding (plan_in context.now)) (header_at (plan_in context.now) id).parameters) (plan_arguments (plan_in context.now) arguments.now) e empty) result }
 {
     let template = context.plan.template(id);
-    let bound = bound_names(context, id, template, arguments, names)?;
-    Ok(State::Unborn(Process {
-        term: template.body(),
-        names: bound,
-    }))
+    bound_names(context, id, template, arguments, names)
 }
 
 // Up to so many parameters are bound one inside another, and gone through where a name is looked for; more stand side by

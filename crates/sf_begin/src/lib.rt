@@ -9,8 +9,9 @@ mod opening;
 mod placing;
 mod wrapping;
 
+pub use calling::{called, started};
 pub use collecting::collect;
 pub use context::{SampleContext, fault_of};
 pub use drafting::{Change, Draft, draft_of};
-pub use opening::{Begun, begin};
+pub use opening::{Begun, begin, two_of};
 pub use placing::{put, take_out};

@@ -201,8 +201,11 @@ fn call<R: Holds>(
     ensures { (k : name_ids.NameId) (v : Prelude.Vec plan_argument_nodes.PlanArgument Global) (t : Term) → v.items ≡ arguments.now → BuildsPlan (plan_in context.now) (NodeOf.Call k template v) t → (x : Data) (e : Environment) →
         IsNames (context_machine R.answers context.now) names.now e → Opens (context_machine R.answers context.now) t e x result }
 {
-    let body = called(context, template, arguments, names)?;
-    Ok(Opened::Running(body))
+    let bound = called(context, template, arguments, names)?;
+    Ok(Opened::Running(State::Unborn(Process {
+        term: context.plan.template(template).body(),
+        names: bound,
+    })))
 }
 
 // Stages before their first sample, with the names around them: two are joined, in one node.
@@ -218,8 +221,8 @@ fn pipeline(alloc: Global, stages: &[PlanId], names: &Env) -> Result<Opened, Fau
     Ok(Opened::Live(node))
 }
 
-// The stages, where they are two.
-fn two_of(stages: &[PlanId]) -> Option<(PlanId, PlanId)>
+/// The stages, where they are two.
+pub fn two_of(stages: &[PlanId]) -> Option<(PlanId, PlanId)>
     ensures { IfSome result (λ s. stages.now ≡ s.0 ∷ s.1 ∷ []) }
 {
     match stages {

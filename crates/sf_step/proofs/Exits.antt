@@ -9,11 +9,17 @@ use Rattle.sf_value.specs.declared.fault.ValueFault.{ValueFault}
 use Rattle.sf_expr.specs.Evaluation.{Evaluated, answer}
 use Rattle.sf_expr.specs.Evaluation
 use Rattle.sf_term.specs.declared.form.Join.{Join}
+use Rattle.std.specs.Prelude.{Vec, map}
+use Rattle.std.specs.declared.alloc.Global.{Global}
+use Rattle.sf_expr.specs.declared.exprs.NameId.{NameId}
 use Rattle.sf_law.specs.declared.node.PlanId.{PlanId}
+use Rattle.sf_law.specs.declared.node.TemplateId.{TemplateId}
+use Rattle.sf_law.specs.declared.node.PlanArgument.{PlanArgument}
+use Rattle.sf_law.specs.declared.node.PlanNode.TheVariants.{Call as NCall}
 use Rattle.sf_term.specs.Trees.{Term}
-use Rattle.sf_law.specs.Arena.{plan_tree}
-use Rattle.sf_mean.specs.Lives.{Step, step, Life, Process, closure, Environment, first_input}
-use Rattle.sf_mean.specs.Meaning.{Network, Readings, Outcome, gave, faulted, as_outcome, Cost, count, height, both_costs, over, left_life, right_life, join_value, Gives, gives, Outputs, not_begun, and_gave, of_form, Form}
+use Rattle.sf_law.specs.Arena.{plan_tree, plan_binding, plan_arguments, header_at, BuildsPlan}
+use Rattle.sf_mean.specs.Lives.{Step, step, Life, Process, closure, empty, Environment, first_input}
+use Rattle.sf_mean.specs.Meaning.{argued, Network, Readings, Outcome, gave, faulted, as_outcome, Cost, count, height, both_costs, over, left_life, right_life, join_value, Gives, gives, Outputs, not_begun, and_gave, of_form, Form}
 use Rattle.sf_prim.specs.declared.prim_state.PrimState.{PrimState}
 use Rattle.sf_state.specs.declared.state.State.{State}
 use Rattle.sf_state.specs.declared.state.State.TheVariants.{Unborn, Primitive as SPrimitive, Live' as Alive', Switch' as Watching', Continuation', Gathering'}
@@ -23,14 +29,16 @@ use Rattle.sf_state.specs.declared.state.Continuation.{Continuation}
 use Rattle.sf_state.specs.declared.state.Gathering.{Gathering}
 use Rattle.sf_state.specs.declared.state.Live.TheVariants.{Join as LJoin, Wrap as LWrap}
 use Rattle.sf_state.specs.declared.state.Wrap.{Wrap}
-use Rattle.sf_state.specs.Standing.{gathering_on, was_frozen, closed_over, was_alike, Stands, itself, StandsItself, unborn, recalling, alive, watching, continuing_on, Settles, settles, Ready, ready, lives_join, lives_wrap, is_closure, IsNames}
+use Rattle.sf_state.specs.Standing.{gathering_on, was_frozen, closed_over, was_alike, Stands, itself, StandsItself, unborn, recalling, alive, watching, continuing_on, Settles, settles, Ready, ready, lives_join, lives_wrap, is_closure, IsNames, AreJoined}
 use Rattle.sf_state.specs.declared.env.Env.{Env}
 use Rattle.sf_state.specs.Machine.{Machine, machine_network}
 use Rattle.sf_begin.specs.declared.opening.Begun.TheVariants as begun
 use Rattle.sf_meter.specs.declared.meter.Meter.{Meter}
 use Rattle.sf_meter.specs.Meters.{entered_of, meter_height, readings, Ticks, Ticked, ticked, refused, left_or}
-use Rattle.sf_step.specs.Answering.{Rel, Spent, Within, StopsFor, faults, large, memory, Answers, answers, fails, PrimSteps, LiveSteps, FirstSteps}
-use Rattle.sf_begin.specs.Beginning.{is_awake, Prepared, primitive_prepared, live_prepared, switch_prepared, continuing_prepared, BeginsAs, begins_itself, gathering_prepared}
+use Rattle.sf_step.specs.Answering.{Rel, Spent, Within, StopsFor, faults, large, memory, Answers, answers, fails, PrimSteps, LiveSteps, TermSteps, FirstSteps}
+use Rattle.sf_begin.proofs.Arguments.{called_so, called_fails}
+use Rattle.sf_begin.proofs.Begins.{begin_referred, begin_fails, open_call, open_call_fails, join_ready}
+use Rattle.sf_begin.specs.Beginning.{Makes, is_awake, Prepared, primitive_prepared, live_prepared, switch_prepared, continuing_prepared, BeginsAs, begins_itself, gathering_prepared}
 use Rattle.sf_step.proofs.Costs.{memory_exit, counts, begin_stops}
 use Rattle.sf_step.proofs.First.{recalled}
 use Rattle.sf_step.specs.Sampling.{PartSteps, StateSteps, CountedSteps, Waiting, WaitingSteps, GivesApart}
@@ -237,22 +245,62 @@ module _ (μ : Machine) where
         go : (P : Process) (L : Life) → StandsItself μ (Unborn (closed_over term names)) P L → PartSteps μ P L (step d x) r m n' depth
         go P L (unborn (is_closure {e = e} A N)) = took_answers μ (was_alike A not_begun) (h e N)
 
-    -- it counts, and steps as what it has become
-    pub begun_steps : {n' : Meter} (a : State) (r : Result (State × Data) Fault) → ((e : Environment) → IsNames μ names e → BeginsAs μ (plan_tree μ.plan term) e x a (Ok begun.Itself)) → CountedSteps μ a (step d x) r n n' inside
-        → StateSteps μ (Unborn (closed_over term names)) (step d x) r m n' depth
-    begun_steps a r ho hs = starts r (λ e N. hs m depth t _ [] (begun_prepared (ho e N)))
-
     -- a primitive steps as it begins
     pub first_counted : {n' : Meter} (r : Result (State × Data) Fault) → FirstSteps μ (plan_tree μ.plan term) names (step d x) r n n' → StateSteps μ (Unborn (closed_over term names)) (step d x) r m n' depth
-    first_counted r hs = starts r (λ e N. hs m depth inside t e N)
+    first_counted r hs = starts r (λ e N. hs inside m depth t e N)
 
-    pub begun_runs : {n' : Meter} (a : State) (r : Result (State × Data) Fault) → ((e : Environment) → IsNames μ names e → BeginsAs μ (plan_tree μ.plan term) e x a (Ok begun.Referred)) → StateSteps μ a (step d x) r n n' inside
-        → StateSteps μ (Unborn (closed_over term names)) (step d x) r m n' depth
-    begun_runs a r ho hs = starts r (λ e N. referred_begins μ t (ho e N) hs)
+    -- another term steps as its form does
+    pub term_counted : {n' : Meter} (r : Result (State × Data) Fault) → TermSteps μ (plan_tree μ.plan term) names (step d x) r n n' inside → StateSteps μ (Unborn (closed_over term names)) (step d x) r m n' depth
+    term_counted r hs = starts r (λ e N. hs m depth t e N)
 
-    module _ {n' : Meter} (en : entered_of n' ≡ entered_of n) (hn : meter_height n' ≡ meter_height n) where
-      pub begun_fails : (a : State) (f g : Fault) → g ≡ f → ((e : Environment) → IsNames μ names e → BeginsAs μ (plan_tree μ.plan term) e x a (Err f)) → StateSteps μ (Unborn (closed_over term names)) (step d x) (Err g) m n' depth
-      begun_fails a f g eg ho = starts (Err g) (λ e N. fails (subst (λ (g : Fault). StopsFor (Gives net (closure (plan_tree μ.plan term) e) (step d x ∷ [])) g m n' depth) (sym eg) (begin_stops μ t en hn _ (ho e N))))
+  module _ (t : Term) (names : Env) (d : ℕ) (x : Data) {n n' : Meter} {inside : ℕ} where
+    -- a term steps as what it has become
+    pub begun_steps : (a : State) (r : Result (State × Data) Fault) → ((e : Environment) → IsNames μ names e → BeginsAs μ t e x a (Ok begun.Itself)) → CountedSteps μ a (step d x) r n n' inside → TermSteps μ t names (step d x) r n n' inside
+    begun_steps a r ho hs m depth T e N = hs m depth T _ [] (begun_prepared (ho e N))
+
+    -- or as what it refers to
+    pub begun_runs : (a : State) (r : Result (State × Data) Fault) → ((e : Environment) → IsNames μ names e → BeginsAs μ t e x a (Ok begun.Referred)) → StateSteps μ a (step d x) r n n' inside → TermSteps μ t names (step d x) r n n' inside
+    begun_runs a r ho hs m depth T e N = referred_begins μ T (ho e N) hs
+
+    -- or has the fault of what has not begun
+    pub begun_fails : entered_of n' ≡ entered_of n → meter_height n' ≡ meter_height n → (a : State) (f g : Fault) → g ≡ f → ((e : Environment) → IsNames μ names e → BeginsAs μ t e x a (Err f)) → TermSteps μ t names (step d x) (Err g) n n' inside
+    begun_fails en hn a f g eg ho m depth T e N = fails (subst (λ (g : Fault). StopsFor (Gives net (closure t e) (step d x ∷ [])) g m n' depth) (sym eg) (begin_stops μ T en hn _ (ho e N)))
+
+    -- memory runs out after it was stepped
+    pub late_term : {n'' : Meter} {a : State} {v : Data} {f : Fault} → TermSteps μ t names (step d x) (Ok (a, v)) n n' inside → entered_of n'' ≡ entered_of n' → meter_height n'' ≡ meter_height n' → f ≡ Memory → TermSteps μ t names (step d x) (Err f) n n'' inside
+    late_term hs en hn ef m depth T e N = let w = answered (hs m depth T e N) in memory_exit ef (spent_within (single_gives net (closure t e) _) w.given w.spent en hn)
+
+  -- a call steps as its template, among the names of its parameters
+  abbrev pub IsArgued : TemplateId → Vec PlanArgument Global → Env → Result Env Fault → Type 0
+  IsArgued g v names r = (e : Environment) → IsNames μ names e → Makes (IsNames μ) (argued μ.answers (map (plan_binding μ.plan) (header_at μ.plan g).parameters) (plan_arguments μ.plan v.items) e empty) r
+
+  module _ (k : NameId) (g : TemplateId) (v : Vec PlanArgument Global) (t : Term) (names : Env) (B : BuildsPlan μ.plan (NCall k g v) t) (d : ℕ) (x : Data) {n n' : Meter} {inside : ℕ} where
+    pub call_steps : (bound : Env) (body : PlanId) (r : Result (State × Data) Fault) → body ≡ (header_at μ.plan g).body → IsArgued g v names (Ok bound) → StateSteps μ (Unborn (closed_over body bound)) (step d x) r n n' inside → TermSteps μ t names (step d x) r n n' inside
+    call_steps bound body r same made = begun_runs t names d x (Unborn (closed_over body bound)) r
+        (begin_referred μ (Unborn (closed_over body bound)) names (open_call μ k g v t names (Unborn (closed_over body bound)) B (λ e N. called_so μ (header_at μ.plan g) v.items e body bound same (made e N)) x))
+
+    pub call_fails : entered_of n' ≡ entered_of n → meter_height n' ≡ meter_height n → (a : State) (f h : Fault) → h ≡ f → IsArgued g v names (Err f) → TermSteps μ t names (step d x) (Err h) n n' inside
+    call_fails en hn a f h eh made = begun_fails t names d x en hn a f h eh
+        (begin_fails μ a f names (open_call_fails μ k g v t names f B (λ e N. called_fails μ (header_at μ.plan g) v.items e f (made e N)) x))
+
+  -- two parts that are joined, before their first sample, in one node
+  abbrev both_unborn : Join → PlanId → PlanId → Env → Live
+  both_unborn j left right names = LJoin j (Unborn (closed_over left names)) (Unborn (closed_over right names))
+
+  both_ready : (j : Join) (left right : PlanId) (names : Env) (t : Term) → AreJoined j (plan_tree μ.plan left) (plan_tree μ.plan right) t → (x : Data) (e : Environment) → IsNames μ names e → Ready μ (both_unborn j left right names) (closure t e) x []
+  both_ready j left right names t = join_ready μ j left right t names names names (λ e N. N) (λ e N. N)
+
+  module _ (j : Join) (left right : PlanId) (names : Env) (t : Term) (J : AreJoined j (plan_tree μ.plan left) (plan_tree μ.plan right) t) (d : ℕ) (x : Data) {n n' : Meter} {inside : ℕ} where
+    pub joined_fails : (f : Fault) → ((m : Meter) (depth : ℕ) → Ticks m n depth inside → (P : Process) (L : Life) → Ready μ (both_unborn j left right names) P (first_input (step d x) L) L → StopsFor (Gives net P (step d x ∷ L)) f m n' depth)
+        → (m : Meter) (depth : ℕ) → Ticks m n depth inside → (e : Environment) → IsNames μ names e → StopsFor (Gives net (closure t e) (step d x ∷ [])) f m n' depth
+    joined_fails f h m depth T e N = h m depth T (closure t e) [] (both_ready j left right names t J x e N)
+
+    pub joined_late : {l : Live} {v : Data} {n'' : Meter} {f : Fault} → LiveSteps μ (both_unborn j left right names) (step d x) (Ok (l, v)) n n' inside → entered_of n'' ≡ entered_of n' → meter_height n'' ≡ meter_height n' → f ≡ Memory → TermSteps μ t names (step d x) (Err f) n n'' inside
+    joined_late hs en hn ef m depth T e N = fails (failed (late_memory hs en hn ef m depth T (closure t e) [] (both_ready j left right names t J x e N)))
+
+    pub joined_steps : (l : Live) (a : State) (v : Data) → ((e : Environment) → IsNames μ names e → Settles μ l (closure t e) (step d x ∷ []) → Stands μ a (closure t e) (step d x ∷ []))
+        → LiveSteps μ (both_unborn j left right names) (step d x) (Ok (l, v)) n n' inside → TermSteps μ t names (step d x) (Ok (a, v)) n n' inside
+    joined_steps l a v h hs m depth T e N = let w = answered (hs m depth T (closure t e) [] (both_ready j left right names t J x e N)) in answers w.given w.spent (h e N w.holds)
 
   -- ## A sample
 

@@ -16,7 +16,8 @@ use Rattle.sf_mean.specs.Meaning.{Readings, Outcome, gave, faulted, answered_by,
 use Rattle.sf_meter.specs.declared.meter.Meter.{Meter}
 use Rattle.sf_meter.specs.declared.meter.Stop.{Stop}
 use Rattle.sf_meter.specs.Meters.{entered_of, meter_height, meter_fault, readings, Ticks, left_or}
-use Rattle.sf_step.specs.Answering.{Rel, Spent, AtMost, Within, StopsFor, faults, large, memory, Answers, answers, fails}
+use Rattle.sf_state.specs.declared.state.State.{State}
+use Rattle.sf_step.specs.Answering.{Rel, Spent, AtMost, Within, StopsFor, faults, large, memory, Answers, answers, fails, left_apart}
 use Rattle.sf_step.specs.Sampling.{GivesApart, apart, stopped, TakenApart, halved, not_granted}
 
 -- one outcome at most
@@ -178,6 +179,11 @@ failed (fails h) = h
 pub pass_exit : {A B E : Type 0} {view : B → Data} {after : B → Type 0} {R : Rel} {m n : Meter} {depth : ℕ} {f : Fault} (r : Result A E) (b : B) → IsErr r → StopsFor R f m n depth → Answers view after R (left_or r b f) m n depth
 pass_exit (Ok a) b e h = absurd cc
 pass_exit (Err q) b e h = fails h
+
+-- the same where two values are not yet a pair
+pub pass_apart : {E : Type 0} {view : State × Data → Data} {after : State × Data → Type 0} {R : Rel} {m n : Meter} {depth : ℕ} {f : Fault} (r : Result Data E) (a : State) (y : Data) → IsErr r → StopsFor R f m n depth → Answers view after R (left_apart r a y f) m n depth
+pass_apart (Ok x) a y e h = absurd cc
+pass_apart (Err q) a y e h = fails h
 
 -- ## What is taken apart
 

@@ -1,6 +1,6 @@
 -- What the parts of a sample answer, and what the meter counts for them.
 use Rattle.std.specs.Prelude.{◌≡◌, ℕ, ◌+◌, ◌-◌, ◌≤◌, ◌<◌, max, [], ◌∷◌, ◌++◌, ◌⊎◌, Result, Ok, Err}
-use Rattle.sf_value.specs.Values.{Data}
+use Rattle.sf_value.specs.Values.{Data, pair}
 use Rattle.sf_value.specs.declared.fault.ValueFault.{ValueFault}
 use Rattle.sf_value.specs.declared.fault.Fault.{Fault}
 use Rattle.sf_value.specs.declared.fault.Fault.TheVariants.{Value, Large, Memory}
@@ -60,7 +60,17 @@ abbrev pub LiveSteps : Machine → Live → Step → Result (Live × Data) Fault
 LiveSteps μ l s result n n' inside = (m : Meter) (depth : ℕ) → Ticks m n depth inside → (P : Process) (L : Life) → Ready μ l P (first_input s L) L
     → Answers (λ y. y.1) (λ y. Settles μ y.0 P (s ∷ L)) (Gives (machine_network μ) P (s ∷ L)) result m n' depth
 
--- a term with names around it, which counted between m and n, steps likewise at its first sample
-abbrev pub FirstSteps : Machine → Term → Env → Step → Result (State × Data) Fault → Meter → Meter → Type 0
-FirstSteps μ t names s result n n' = (m : Meter) (depth inside : ℕ) → Ticks m n depth inside → (e : Environment) → IsNames μ names e
+-- a term with names around it, which counted between m and n, steps likewise at its first sample, where its parts stand inside so
+-- many nodes
+abbrev pub TermSteps : Machine → Term → Env → Step → Result (State × Data) Fault → Meter → Meter → ℕ → Type 0
+TermSteps μ t names s result n n' inside = (m : Meter) (depth : ℕ) → Ticks m n depth inside → (e : Environment) → IsNames μ names e
     → Answers (λ y. y.1) (λ y. Stands μ y.0 (closure t e) (s ∷ [])) (Gives (machine_network μ) (closure t e) (s ∷ [])) result m n' depth
+
+-- the same of one without parts
+abbrev pub FirstSteps : Machine → Term → Env → Step → Result (State × Data) Fault → Meter → Meter → Type 0
+FirstSteps μ t names s result n n' = (inside : ℕ) → TermSteps μ t names s result n n' inside
+
+-- what a step of two parts on one input left, whose values are not yet a pair, or the fault that stands in the meter
+abbrev pub left_apart : {E : Type 0} → Result Data E → State → Data → Fault → Result (State × Data) Fault
+left_apart (Ok x) a y f = Ok (a, pair x y)
+left_apart (Err e) a y f = Err f

@@ -1,4 +1,5 @@
 pub mod Answering
+pub mod Around
 pub mod Edits
 pub mod Routing
 pub mod Sampling

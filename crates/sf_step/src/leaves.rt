@@ -54,10 +54,11 @@ pub(crate) fn first_primitive<R: Holds>(
     let around = NamesIn { plan, names };
     match PrimState::born(context.alloc, primitive, context.functions, &around) {
         Ok(born) => {
-            let mut prim = born;
-            let stepped = step_prim(context, &mut prim, value, meter);
-            state.put(State::Primitive(prim));
-            stepped
+            state.put(State::Primitive(born));
+            let State::Primitive(prim) = state else {
+                unreachable!();
+            };
+            step_prim(context, prim, value, meter)
         }
         Err(fault) => Err(meter.stop(fault_of(fault))),
     }

@@ -2,13 +2,14 @@
 ghost use Rattle.std.specs.Prelude.{◌≡◌, IfOk, IfErr, OnOk, Ok, Err, None, unwrap_or};
 ghost use Rattle.std.specs.Option.{option_map};
 ghost use Rattle.sf_value.specs.Values.{pair, first_of, second_of};
-ghost use Rattle.sf_mean.specs.Lives.{Life, Process};
+ghost use Rattle.sf_mean.specs.Lives.{closure, Environment, Life, Process};
+ghost use Rattle.sf_term.specs.Trees.{Term};
 ghost use Rattle.sf_mean.specs.Formulas.{occurring};
 ghost use Rattle.sf_mean.specs.Meaning.{switched_value};
-ghost use Rattle.sf_state.specs.Standing.{Stands};
+ghost use Rattle.sf_state.specs.Standing.{IsNames, Settles, Stands};
 ghost use Rattle.sf_state.specs.Machine.{Machine};
 
-use sf_state::State;
+use sf_state::{Env, Live, State};
 use sf_term::Observation;
 use sf_value::{Form, Value, ValueFault};
 use std::alloc::{AllocError, Global};
@@ -120,4 +121,15 @@ pub(crate) fn beside(alloc: Global, input: Value, given: &Value) -> Result<Value
 {
     let copy = given.clone_in(alloc)?;
     Value::pair(alloc, input, copy)
+}
+
+/// A node of its own for a part that has lived, with these names around it. The error is a want of memory, or too many owners of one
+/// name.
+#[inline(never)]
+pub(crate) fn live_among(alloc: Global, names: &Env, live: Live) -> Result<State, AllocError>
+    ensures { IfOk result (λ state. (μ : Machine) (t : Term) (e : Environment) (L : Life) → IsNames μ names.now e → Settles μ live (closure t e) L → Stands μ state (closure t e) L) }
+{
+    let around = names.share()?;
+    let node = Rc::new(alloc, live)?;
+    Ok(State::Live(around, node))
 }

@@ -1,13 +1,23 @@
 //! One sample.
-ghost use Rattle.std.specs.Prelude.{◌≡◌, ◌≤◌, ◌∷◌, List, None, Some, Ok, length, IsTrue, IsFalse};
+ghost use Rattle.std.specs.Prelude.{◌≡◌, ◌≤◌, ◌∷◌, List, None, Some, Ok, length, false, All, Vec, IsTrue, IsFalse};
 ghost use Rattle.sf_begin.specs.Beginning.{is_awake};
 ghost use Rattle.sf_mean.specs.Lives.{step, Life, Process};
 ghost use Rattle.sf_state.specs.declared.state.State as state_forms;
+ghost use Rattle.sf_state.specs.declared.state.State.TheVariants as StateOf;
 ghost use Rattle.sf_state.specs.Held.{gathered_holding, held_as};
-ghost use Rattle.sf_state.specs.Standing.{Stands, AllFollow, is_frozen};
+ghost use Rattle.sf_state.specs.Standing.{Stands, AllFollow, AreJoined, closed_over, is_frozen};
+ghost use Rattle.sf_term.specs.Trees.{Term};
+ghost use Rattle.sf_expr.specs.Arena.{name_at};
+ghost use Rattle.sf_expr.specs.declared.exprs.NameId as name_ids;
+ghost use Rattle.sf_law.specs.Arena.{plan_tree, plan_expressions, plan_asks, header_at, BuildsPlan};
+ghost use Rattle.sf_law.specs.Asking.{start_asked, arguments_asked};
+ghost use Rattle.sf_law.specs.Entries.{IsCodedArgument};
+ghost use Rattle.sf_law.specs.declared.node.PlanArgument as plan_argument_nodes;
+ghost use Rattle.sf_law.specs.declared.node.PlanNode.TheVariants as NodeOf;
 ghost use Rattle.sf_state.specs.Machine.{machine};
 ghost use Rattle.sf_meter.specs.Meters.{kept, left_or, entered_of, meter_height, meter_fault};
-ghost use Rattle.sf_step.specs.Answering.{LiveSteps};
+ghost use Rattle.sf_step.specs.Answering.{LiveSteps, TermSteps, left_apart};
+ghost use Rattle.sf_step.specs.Around.{machine_around, plan_around, dt_around};
 ghost use Rattle.sf_begin.specs.Contexts.{context_machine, dt_in};
 ghost use Rattle.sf_step.specs.Sampling.{GivesApart, TakenApart, StateSteps, SwitchSteps, ContinuationSteps, GatheringSteps, MembersSteps, EachSteps, MemberSteps, CountedSteps, left_beside, left_with};
 ghost use Rattle.sf_step.specs.Edits.{HaveStepped, HaveTurned, EditSteps, DraftSteps, held_as_made, left_noted};
@@ -16,20 +26,22 @@ ghost use Rattle.sf_step.specs.Routing.{observation_of};
 
 use crate::leaves::{first_primitive, step_prim, step_probe};
 use crate::routing::{
-    beside, copies, hold_back, payload_of, put_first, put_last, show, take_over, value_and_payload,
+    beside, copies, hold_back, live_among, payload_of, put_first, put_last, show, take_over,
+    value_and_payload,
 };
 use crate::tables::table_of;
 use crate::turning::{Noted, Turn, change_all, table_after, table_before};
-use sf_begin::{Begun, Draft, SampleContext, begin, collect, draft_of};
+use sf_begin::{Begun, Draft, SampleContext, begin, called, collect, draft_of, started, two_of};
+use sf_expr::NameId;
 use sf_func::Holds;
-use sf_law::{Plan, PlanNode};
+use sf_law::{Plan, PlanArgument, PlanId, PlanNode, TemplateId};
 use sf_meter::{Meter, Stop};
 use sf_probe::Readings;
 use sf_state::{
     Continuation, Editing, Env, Feedback, Gathered, Gathering, Live, Releasing, State, Switch,
     Wrap, hold_back_members, own_states,
 };
-use sf_term::{Join, Observation, Switching};
+use sf_term::{Join, Observation, Start, Switching};
 use sf_value::{Fault, Keys, Value, ValueFault};
 use std::alloc::Global;
 use std::mem;
@@ -170,15 +182,278 @@ fn step_unborn<R: Holds>(
     };
     let term = process.term;
     let names = mem::replace(&mut process.names, Env::Empty);
-    let inside = meter.tick(depth)?;
-    if let PlanNode::Primitive(primitive) = context.plan.node(term) {
-        return first_primitive(context, state, primitive, &names, value, meter);
+    let around = Around {
+        context: &*context,
+        names: &names,
+        inside: depth,
+    };
+    first_step(&around, state, term, value, meter)
+}
+
+// What is around a term at its first sample: the names, and the nodes inside which it stands.
+#[derive(Drop)]
+struct Around<'a, R> {
+    context: &'a SampleContext<'a, R>,
+    names: &'a Env,
+    inside: u64,
+}
+
+// The first sample of a term. What it is from then on takes the place of a state, whatever that was.
+#[cycle(step)]
+#[inline(always)]
+fn first_step<R: Holds>(
+    around: &Around<R>,
+    state: &mut State,
+    term: PlanId,
+    value: &mut Value,
+    meter: &mut Meter,
+) -> Result<(), Stop>
+    ensures { StateSteps (machine_around R.answers around.now) (StateOf.Unborn (closed_over term around.now.names.now)) (step (dt_around around.now) value.old)
+        (left_or result (state.new, value.new) (meter_fault meter.new)) meter.old meter.new around.now.inside }
+{
+    let context = around.context;
+    let inside = meter.tick(around.inside)?;
+    match context.plan.node(term) {
+        PlanNode::Primitive(primitive) => {
+            first_primitive(context, state, primitive, around.names, value, meter)
+        }
+        _ => {
+            let within = Around {
+                context: &*context,
+                names: &*around.names,
+                inside,
+            };
+            first_node(&within, state, term, value, meter)
+        }
     }
+}
+
+// The same of a term that has been counted, and whose own parts stand inside these nodes; so below.
+#[cycle(step)]
+#[inline(never)]
+fn first_node<R: Holds>(
+    around: &Around<R>,
+    state: &mut State,
+    term: PlanId,
+    value: &mut Value,
+    meter: &mut Meter,
+) -> Result<(), Stop>
+    ensures { TermSteps (machine_around R.answers around.now) (plan_tree (plan_around around.now) term) around.now.names.now (step (dt_around around.now) value.old)
+        (left_or result (state.new, value.new) (meter_fault meter.new)) meter.old meter.new around.now.inside }
+{
+    match around.context.plan.node(term) {
+        PlanNode::Joined(join, left, right) => match join {
+            Join::InSequence => first_sequence(around, state, *left, *right, value, meter),
+            Join::InParallel => first_other(around, state, term, value, meter),
+            Join::FannedOut => first_fan(around, state, *left, *right, value, meter),
+        },
+        PlanNode::Pipeline(stages) => match two_of(stages) {
+            Some((left, right)) => first_sequence(around, state, left, right, value, meter),
+            None => first_other(around, state, term, value, meter),
+        },
+        PlanNode::Call(_, template, arguments) => {
+            first_of_call(around, state, *template, arguments, value, meter)
+        }
+        PlanNode::Started(start, name) => {
+            first_of_process(around, state, *start, *name, value, meter)
+        }
+        _ => first_other(around, state, term, value, meter),
+    }
+}
+
+// The same of a term of any form: it is stepped as it begins, or as what it refers to.
+#[cycle(step)]
+#[inline(never)]
+fn first_other<R: Holds>(
+    around: &Around<R>,
+    state: &mut State,
+    term: PlanId,
+    value: &mut Value,
+    meter: &mut Meter,
+) -> Result<(), Stop>
+    ensures { TermSteps (machine_around R.answers around.now) (plan_tree (plan_around around.now) term) around.now.names.now (step (dt_around around.now) value.old)
+        (left_or result (state.new, value.new) (meter_fault meter.new)) meter.old meter.new around.now.inside }
+{
+    let context = around.context;
+    let names = granted!(meter, around.names.share());
     match begin(context, state, term, names, value) {
-        Ok(Begun::Itself) => step_counted(context, state, inside, value, meter),
-        Ok(Begun::Referred) => step_state(context, state, inside, value, meter),
+        Ok(Begun::Itself) => step_counted(context, state, around.inside, value, meter),
+        Ok(Begun::Referred) => step_state(context, state, around.inside, value, meter),
         Err(fault) => Err(meter.stop(fault)),
     }
+}
+
+// The same of a call: its template is stepped, among its own names.
+#[cycle(step)]
+#[inline(always)]
+fn first_of_call<R: Holds>(
+    around: &Around<R>,
+    state: &mut State,
+    id: TemplateId,
+    arguments: &[PlanArgument],
+    value: &mut Value,
+    meter: &mut Meter,
+) -> Result<(), Stop>
+    requires coded { All (IsCodedArgument (plan_expressions (plan_around around.now))) arguments.now }
+    requires asked { IsTrue (arguments_asked (plan_expressions (plan_around around.now)) (plan_asks (plan_around around.now)) (header_at (plan_around around.now) id).parameters arguments.now) }
+    ensures { (k : name_ids.NameId) (v : Vec plan_argument_nodes.PlanArgument Global) (t : Term) → v.items ≡ arguments.now → BuildsPlan (plan_around around.now) (NodeOf.Call k id v) t →
+        TermSteps (machine_around R.answers around.now) t around.now.names.now (step (dt_around around.now) value.old)
+        (left_or result (state.new, value.new) (meter_fault meter.new)) meter.old meter.new around.now.inside }
+{
+    let context = around.context;
+    match called(context, id, arguments, around.names) {
+        Ok(names) => {
+            let within = Around {
+                context: &*context,
+                names: &names,
+                inside: around.inside,
+            };
+            let body = context.plan.template(id).body();
+            first_step(&within, state, body, value, meter)
+        }
+        Err(fault) => Err(meter.stop(fault)),
+    }
+}
+
+// The same of the process of a name, which is stepped where it stood.
+#[cycle(step)]
+#[inline(always)]
+fn first_of_process<R: Holds>(
+    around: &Around<R>,
+    state: &mut State,
+    start: Start,
+    name: NameId,
+    value: &mut Value,
+    meter: &mut Meter,
+) -> Result<(), Stop>
+    requires { IsTrue (start_asked false (plan_asks (plan_around around.now) (name_at (plan_expressions (plan_around around.now)) name)) start) }
+    ensures { (t : Term) → BuildsPlan (plan_around around.now) (NodeOf.Started start name) t →
+        TermSteps (machine_around R.answers around.now) t around.now.names.now (step (dt_around around.now) value.old)
+        (left_or result (state.new, value.new) (meter_fault meter.new)) meter.old meter.new around.now.inside }
+{
+    let context = around.context;
+    let process = granted!(
+        meter,
+        started(context.alloc, context.plan, around.names, start, name)
+    );
+    state.put(process);
+    step_state(context, state, around.inside, value, meter)
+}
+
+// The same of two parts, the right one on the value of the left one.
+#[cycle(step)]
+#[inline(never)]
+fn first_sequence<R: Holds>(
+    around: &Around<R>,
+    state: &mut State,
+    left: PlanId,
+    right: PlanId,
+    value: &mut Value,
+    meter: &mut Meter,
+) -> Result<(), Stop>
+    ensures { let p = plan_around around.now in (t : Term) → AreJoined Join.InSequence (plan_tree p left) (plan_tree p right) t →
+        TermSteps (machine_around R.answers around.now) t around.now.names.now (step (dt_around around.now) value.old)
+        (left_or result (state.new, value.new) (meter_fault meter.new)) meter.old meter.new around.now.inside }
+{
+    let mut first = State::unborn(left);
+    first_step(around, &mut first, left, value, meter)?;
+    let mut second = State::unborn(right);
+    first_step(around, &mut second, right, value, meter)?;
+    let live = Live::Join(Join::InSequence, first, second);
+    let node = granted!(meter, live_among(around.context.alloc, around.names, live));
+    state.put(node);
+    Ok(())
+}
+
+// The same of two parts that share their input.
+#[cycle(step)]
+#[inline(never)]
+fn first_fan<R: Holds>(
+    around: &Around<R>,
+    state: &mut State,
+    left: PlanId,
+    right: PlanId,
+    value: &mut Value,
+    meter: &mut Meter,
+) -> Result<(), Stop>
+    ensures { let p = plan_around around.now in (t : Term) → AreJoined Join.FannedOut (plan_tree p left) (plan_tree p right) t →
+        TermSteps (machine_around R.answers around.now) t around.now.names.now (step (dt_around around.now) value.old)
+        (left_or result (state.new, value.new) (meter_fault meter.new)) meter.old meter.new around.now.inside }
+{
+    let first = first_halves(around, state, left, right, value, meter)?;
+    let second = mem::replace(value, Value::int(0));
+    let both = granted!(meter, Value::pair(around.context.alloc, first, second));
+    *value = both;
+    Ok(())
+}
+
+// The same without a pair: the value of the left part. That of the right one takes the place of the input.
+#[cycle(step)]
+#[inline(never)]
+fn first_halves<R: Holds>(
+    around: &Around<R>,
+    state: &mut State,
+    left: PlanId,
+    right: PlanId,
+    value: &mut Value,
+    meter: &mut Meter,
+) -> Result<Value, Stop>
+    ensures { let p = plan_around around.now in (t : Term) → AreJoined Join.FannedOut (plan_tree p left) (plan_tree p right) t →
+        TermSteps (machine_around R.answers around.now) t around.now.names.now (step (dt_around around.now) value.old)
+        (left_apart result state.new value.new (meter_fault meter.new)) meter.old meter.new around.now.inside }
+{
+    let alloc = around.context.alloc;
+    let mut output = granted!(meter, value.clone_in(alloc));
+    let mut first = State::unborn(left);
+    first_step(around, &mut first, left, &mut output, meter)?;
+    let mut second = State::unborn(right);
+    first_step(around, &mut second, right, value, meter)?;
+    let live = Live::Join(Join::FannedOut, first, second);
+    let node = granted!(meter, live_among(alloc, around.names, live));
+    state.put(node);
+    Ok(output)
+}
+
+// The first sample of a part whose value is taken apart, as below.
+#[cycle(step)]
+#[inline(never)]
+fn step_unborn_apart<R: Holds>(
+    context: &SampleContext<R>,
+    state: &mut State,
+    depth: u64,
+    value: &mut Value,
+    meter: &mut Meter,
+) -> Result<(Value, Option<Rc<Value>>), Stop>
+    requires unborn { IsFalse (is_awake state.old) }
+    requires thawed { IsFalse (is_frozen state.old) }
+    ensures { GivesApart (λ gives. StateSteps (context_machine R.answers context.now) state.old (step (dt_in context.now) value.old) gives meter.old meter.new depth)
+        state.new (meter_fault meter.new) result }
+{
+    let State::Unborn(process) = state else {
+        unreachable!();
+    };
+    let term = process.term;
+    let names = mem::replace(&mut process.names, Env::Empty);
+    if let PlanNode::Joined(join, left, right) = context.plan.node(term) {
+        if let Join::FannedOut = join {
+            let inside = meter.tick(depth)?;
+            let around = Around {
+                context: &*context,
+                names: &names,
+                inside,
+            };
+            let first = first_halves(&around, state, *left, *right, value, meter)?;
+            let second = mem::replace(value, Value::int(0));
+            return Ok((first, payload_of(second)));
+        }
+    }
+    let around = Around {
+        context: &*context,
+        names: &names,
+        inside: depth,
+    };
+    first_step(&around, state, term, value, meter)?;
+    taken_apart(context.alloc, value, meter)
 }
 
 // The next sample of a part that was frozen, which goes on by the time that it has.
@@ -933,6 +1208,7 @@ fn step_apart<R: Holds>(
             let inside = meter.tick(depth)?;
             step_node_apart(context, node, inside, value, meter)
         }
+        State::Unborn(_) => step_unborn_apart(context, state, depth, value, meter),
         _ => {
             step_state(context, state, depth, value, meter)?;
             taken_apart(context.alloc, value, meter)

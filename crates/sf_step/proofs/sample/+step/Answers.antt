@@ -24,12 +24,15 @@ use Rattle.sf_step.specs.declared.turning.Turn.TheVariants.{Stays, Begins}
 use Rattle.sf_begin.specs.Drafting.{drafted, all_changed}
 use Rattle.sf_step.proofs.Costs.{memory_exit, early_memory}
 use Rattle.sf_step.specs.Answering.{LiveSteps, fails}
+use Rattle.sf_step.specs.Around.{machine_around, dt_around}
+use Rattle.sf_law.specs.Arena.{plan_tree}
+use Rattle.sf_begin.proofs.Begins.{parts_joined, two_joined, coded_arguments, begin_referred, open_started}
 use Rattle.sf_step.specs.Sampling.{StateSteps, EachSteps, apart, stopped}
 use Rattle.sf_step.specs.Routing.{observation_of}
 use Rattle.sf_state.proofs.Copies.{list_follows}
-use Rattle.sf_step.proofs.Parts.{pass_exit, failed, own_halves, gives_value, gives_no_value, stops_apart, apart_as, taken}
+use Rattle.sf_step.proofs.Parts.{pass_exit, pass_apart, failed, own_halves, gives_value, gives_no_value, stops_apart, apart_as, taken}
 use Rattle.sf_step.proofs.Stages.{StagesStep, continues_first, continues_next, continues_fails, continues_last, pipeline_steps, pipeline_fails}
-use Rattle.sf_step.proofs.Exits.{ticked_by, tick_fails, first_memory, join_left_fails, join_right_fails, join_steps, join_last, wrap_fails, wrap_steps, wrap_faults, wrap_last, late_memory, late_part, late_waiting, waits_alike, primitive_counted, live_counted, own_steps, primitive_is, live_is, awake_is, counted_steps, live_apart, first_counted, begun_steps, begun_runs, begun_fails}
+use Rattle.sf_step.proofs.Exits.{ticked_by, tick_fails, first_memory, join_left_fails, join_right_fails, join_steps, join_last, wrap_fails, wrap_steps, wrap_faults, wrap_last, late_memory, late_part, late_waiting, waits_alike, primitive_counted, live_counted, own_steps, primitive_is, live_is, awake_is, counted_steps, live_apart, first_counted, term_counted, begun_steps, begun_runs, begun_fails, late_term, call_steps, call_fails, joined_fails, joined_late, joined_steps}
 use Rattle.sf_step.proofs.Recurring.{run_fails, run_memory, new_fails, new_runs, runs_alone}
 use Rattle.sf_step.proofs.Switches.{source_fails, switch_memory, switch_waits_on, body_fails, body_takes_over}
 use Rattle.sf_step.proofs.Continuation.{runs_alike, kept_fails, kept_memory, observer_fails, observer_memory, keeps_on, kept_body_fails, continuation_takes_over, some_occurs, none_occurs}
@@ -179,24 +182,225 @@ step_other-returns-then-has_lived g t c =
 
 -- ## step_unborn
 
-pub step_unborn-returns-in_err-inside : goal.step_unborn-returns-in_err-inside
-step_unborn-returns-in_err-inside g t c = λ P L A. pass_exit _ _ c.from_residual.ensures.0 (tick_fails (context_machine g.R.Holds.answers c.args.context.now) P _ c.in_err-inside.ensures.ticked)
+pub step_unborn-returns : goal.step_unborn-returns
+step_unborn-returns g t c = λ P L A. (rw c.replace-names.ensures.value at c.first_step.ensures) P L (rw c.in-Unborn.is at A)
 
-pub step_unborn-returns-in-Primitive : goal.step_unborn-returns-in-Primitive
-step_unborn-returns-in-Primitive g t c = λ P L A.
-    first_counted (context_machine g.R.Holds.answers c.args.context.now) c.in-Unborn.process.term c.in-Unborn.process.names c.args.context.now.dt c.args.value.now (ticked_by c.in_ok-inside.ensures.ticked) _ (rw c.replace-names.ensures.value at (c.first_primitive.ensures _ (rw c.in-Primitive.is at c.node.ensures.builds))) P L (rw c.in-Unborn.is at A)
+-- ## first_step
 
-pub step_unborn-returns-in-Ok-Itself : goal.step_unborn-returns-in-Ok-Itself
-step_unborn-returns-in-Ok-Itself g t c = λ P L A.
-    begun_steps (context_machine g.R.Holds.answers c.args.context.now) c.in-Unborn.process.term c.in-Unborn.process.names c.args.context.now.dt c.args.value.now (ticked_by c.in_ok-inside.ensures.ticked) c.begin.new.state _ (rw (c.replace-names.ensures.value, c.in-Ok-Itself.field-0-is) at c.in-Ok-Itself.ensures.begins) c.step_counted.ensures P L (rw c.in-Unborn.is at A)
+pub first_step-returns-in_err-inside : goal.first_step-returns-in_err-inside
+first_step-returns-in_err-inside g t c = λ P L A. pass_exit _ _ c.from_residual.ensures.0 (tick_fails (machine_around g.R.Holds.answers c.args.around.now) P _ c.in_err-inside.ensures.ticked)
 
-pub step_unborn-returns-in-Ok-Referred : goal.step_unborn-returns-in-Ok-Referred
-step_unborn-returns-in-Ok-Referred g t c = λ P L A.
-    begun_runs (context_machine g.R.Holds.answers c.args.context.now) c.in-Unborn.process.term c.in-Unborn.process.names c.args.context.now.dt c.args.value.now (ticked_by c.in_ok-inside.ensures.ticked) c.begin.new.state _ (rw (c.replace-names.ensures.value, c.in-Ok-Referred.field-0-is) at c.in-Ok-Referred.ensures.begins) c.step_state.ensures P L (rw c.in-Unborn.is at A)
+pub first_step-returns-in-Primitive : goal.first_step-returns-in-Primitive
+first_step-returns-in-Primitive g t c =
+    first_counted (machine_around g.R.Holds.answers c.args.around.now) c.args.term c.args.around.now.names.now (dt_around c.args.around.now) c.args.value.now (ticked_by c.in_ok-inside.ensures.ticked) _ (c.first_primitive.ensures _ (rw c.in-Primitive.is at c.node.ensures.builds))
 
-pub step_unborn-returns-in-Err : goal.step_unborn-returns-in-Err
-step_unborn-returns-in-Err g t c = λ P L A.
-    begun_fails (context_machine g.R.Holds.answers c.args.context.now) c.in-Unborn.process.term c.in-Unborn.process.names c.args.context.now.dt c.args.value.now (ticked_by c.in_ok-inside.ensures.ticked) c.stop.ensures.entered c.stop.ensures.height c.begin.new.state c.in-Err.fault _ c.stop.ensures.fault (rw c.replace-names.ensures.value at c.in-Err.ensures.begins) P L (rw c.in-Unborn.is at A)
+pub first_step-returns-in_default : goal.first_step-returns-in_default
+first_step-returns-in_default g t c =
+    term_counted (machine_around g.R.Holds.answers c.args.around.now) c.args.term c.args.around.now.names.now (dt_around c.args.around.now) c.args.value.now (ticked_by c.in_ok-inside.ensures.ticked) _ c.first_node.ensures
+
+-- ## first_node
+
+pub first_node-returns-in-InSequence : goal.first_node-returns-in-InSequence
+first_node-returns-in-InSequence g t c = c.first_sequence.ensures _ (parts_joined (machine_around g.R.Holds.answers c.args.around.now) InSequence c.in-Joined.left c.in-Joined.right _ (rw c.in-InSequence.is at (rw c.in-Joined.is at c.node.ensures.builds)))
+
+pub first_node-returns-in-FannedOut : goal.first_node-returns-in-FannedOut
+first_node-returns-in-FannedOut g t c = c.first_fan.ensures _ (parts_joined (machine_around g.R.Holds.answers c.args.around.now) FannedOut c.in-Joined.left c.in-Joined.right _ (rw c.in-FannedOut.is at (rw c.in-Joined.is at c.node.ensures.builds)))
+
+pub first_node-returns-in-Some : goal.first_node-returns-in-Some
+first_node-returns-in-Some g t c = c.first_sequence-in-Some.ensures _ (two_joined (machine_around g.R.Holds.answers c.args.around.now) _ _ c.in-Pipeline.stages _ (sym c.deref.ensures.value ∙ c.in-Some.ensures) (rw c.in-Pipeline.is at c.node.ensures.builds))
+
+pub first_node-first_of_call-requires : goal.first_node-first_of_call-requires
+first_node-first_of_call-requires g t c = λ κs lives. (
+  omega arith,
+  (
+    lives,
+    (
+      rw c.deref-in-Call.ensures.value (coded_arguments (machine_around g.R.Holds.answers c.args.around.now) (rw c.in-Call.is at c.node.ensures.builds)),
+      rw c.deref-in-Call.ensures.value (rw c.in-Call.is at c.node.ensures.asked),
+    ),
+  ),
+)
+
+pub first_node-returns-in-Call : goal.first_node-returns-in-Call
+first_node-returns-in-Call g t c = c.first_of_call.ensures c.in-Call.field-0 c.in-Call.arguments _ (sym c.deref-in-Call.ensures.value) (rw c.in-Call.is at c.node.ensures.builds)
+
+pub first_node-first_of_process-requires : goal.first_node-first_of_process-requires
+first_node-first_of_process-requires g t c = λ κs lives. (omega arith, (lives, rw c.in-Started.is at c.node.ensures.asked))
+
+pub first_node-returns-in-Started : goal.first_node-returns-in-Started
+first_node-returns-in-Started g t c = c.first_of_process.ensures _ (rw c.in-Started.is at c.node.ensures.builds)
+
+-- ## first_other
+
+pub first_other-returns-in-Err : goal.first_other-returns-in-Err
+first_other-returns-in-Err g t c = λ m depth T e N. early_memory (machine_around g.R.Holds.answers c.args.around.now) T c.stop.ensures.entered c.stop.ensures.height c.stop.ensures.fault
+
+pub first_other-returns-in-Ok-Itself : goal.first_other-returns-in-Ok-Itself
+first_other-returns-in-Ok-Itself g t c =
+    let μ = machine_around g.R.Holds.answers c.args.around.now in
+    begun_steps μ (plan_tree μ.plan c.args.term) c.args.around.now.names.now (dt_around c.args.around.now) c.args.value.now c.begin.new.state _ (λ e N. (rw c.in-Ok-Itself.field-0-is at c.in-Ok-Itself.ensures.begins) e (c.in-Ok.ensures μ e N)) c.step_counted.ensures
+
+pub first_other-returns-in-Ok-Referred : goal.first_other-returns-in-Ok-Referred
+first_other-returns-in-Ok-Referred g t c =
+    let μ = machine_around g.R.Holds.answers c.args.around.now in
+    begun_runs μ (plan_tree μ.plan c.args.term) c.args.around.now.names.now (dt_around c.args.around.now) c.args.value.now c.begin.new.state _ (λ e N. (rw c.in-Ok-Referred.field-0-is at c.in-Ok-Referred.ensures.begins) e (c.in-Ok.ensures μ e N)) c.step_state.ensures
+
+pub first_other-returns-in-Err-begin : goal.first_other-returns-in-Err-begin
+first_other-returns-in-Err-begin g t c =
+    let μ = machine_around g.R.Holds.answers c.args.around.now in
+    begun_fails μ (plan_tree μ.plan c.args.term) c.args.around.now.names.now (dt_around c.args.around.now) c.args.value.now c.stop-in-Err-begin.ensures.entered c.stop-in-Err-begin.ensures.height c.begin.new.state c.in-Err-begin.fault _ c.stop-in-Err-begin.ensures.fault
+    (λ e N. c.in-Err-begin.ensures.begins e (c.in-Ok.ensures μ e N))
+
+-- ## first_of_call
+
+pub first_of_call-called-requires : goal.first_of_call-called-requires
+first_of_call-called-requires g t c = record { coded = c.requires.coded; asked = c.requires.asked }
+
+pub first_of_call-returns-in-Ok : goal.first_of_call-returns-in-Ok
+first_of_call-returns-in-Ok g t c = λ k v u same B.
+    let μ = machine_around g.R.Holds.answers c.args.around.now in
+    call_steps μ k c.args.id v u c.args.around.now.names.now B (dt_around c.args.around.now) c.args.value.now c.in-Ok.names c.body-body.result _ (rw c.template.ensures.value at c.body-body.ensures) (λ e N. rw same (c.in-Ok.ensures e N)) c.first_step.ensures
+
+pub first_of_call-returns-in-Err : goal.first_of_call-returns-in-Err
+first_of_call-returns-in-Err g t c = λ k v u same B.
+    let μ = machine_around g.R.Holds.answers c.args.around.now in
+    call_fails μ k c.args.id v u c.args.around.now.names.now B (dt_around c.args.around.now) c.args.value.now c.stop.ensures.entered c.stop.ensures.height c.args.state.now c.in-Err.fault _ c.stop.ensures.fault (λ e N. rw same (c.in-Err.ensures e N))
+
+-- ## first_of_process
+
+pub first_of_process-started-requires : goal.first_of_process-started-requires
+first_of_process-started-requires g t c = c.requires
+
+pub first_of_process-returns-in-Err : goal.first_of_process-returns-in-Err
+first_of_process-returns-in-Err g t c = λ u B m depth T e N. early_memory (machine_around g.R.Holds.answers c.args.around.now) T c.stop.ensures.entered c.stop.ensures.height c.stop.ensures.fault
+
+pub first_of_process-returns : goal.first_of_process-returns
+first_of_process-returns g t c = λ u B.
+    let μ = machine_around g.R.Holds.answers c.args.around.now in
+    begun_runs μ u c.args.around.now.names.now (dt_around c.args.around.now) c.args.value.now c.in-Ok.value _
+    (begin_referred μ c.in-Ok.value c.args.around.now.names.now (open_started μ c.args.start c.args.name u c.args.around.now.names.now c.in-Ok.value B (c.in-Ok.ensures μ.answers) c.args.value.now)) (rw c.put.ensures at c.step_state.ensures)
+
+-- ## first_sequence
+
+pub first_sequence-returns-in_err-first_step : goal.first_sequence-returns-in_err-first_step
+first_sequence-returns-in_err-first_step g t c = λ u J m depth T e N.
+    let μ = machine_around g.R.Holds.answers c.args.around.now in
+    let d = dt_around c.args.around.now in
+    let x = c.args.value.now in
+    pass_exit _ _ c.from_residual.ensures.0 (joined_fails μ InSequence c.args.left c.args.right c.args.around.now.names.now u J d x _
+    (join_left_fails μ InSequence _ _ c.args.meter.now c.first_step.new.meter c.args.around.now.inside d x x refl _ c.in_err-first_step.ensures) m depth T e N)
+
+pub first_sequence-returns-in_err-first_step-2 : goal.first_sequence-returns-in_err-first_step-2
+first_sequence-returns-in_err-first_step-2 g t c = λ u J m depth T e N.
+    let μ = machine_around g.R.Holds.answers c.args.around.now in
+    let d = dt_around c.args.around.now in
+    let x = c.args.value.now in
+    pass_exit _ _ c.from_residual-in_err-first_step-2.ensures.0 (joined_fails μ InSequence c.args.left c.args.right c.args.around.now.names.now u J d x _
+    (join_right_fails μ InSequence _ _ c.args.meter.now c.first_step.new.meter c.args.around.now.inside d x x refl
+    c.first_step.new.state c.first_step.new.value c.first_step.new.value refl c.in_ok-first_step.ensures c.first_step-2.new.meter _ c.in_err-first_step-2.ensures) m depth T e N)
+
+pub first_sequence-returns-in-Err : goal.first_sequence-returns-in-Err
+first_sequence-returns-in-Err g t c = λ u J.
+    let μ = machine_around g.R.Holds.answers c.args.around.now in
+    let d = dt_around c.args.around.now in
+    let x = c.args.value.now in
+    joined_late μ InSequence c.args.left c.args.right c.args.around.now.names.now u J d x
+    (join_steps μ InSequence _ _ c.args.meter.now c.first_step.new.meter c.args.around.now.inside d x x refl
+    c.first_step.new.state c.first_step.new.value c.first_step.new.value refl c.in_ok-first_step.ensures
+    c.first_step-2.new.meter c.first_step-2.new.state c.first_step-2.new.value c.first_step-2.new.value refl c.in_ok-first_step-2.ensures)
+    c.stop.ensures.entered c.stop.ensures.height c.stop.ensures.fault
+
+pub first_sequence-returns : goal.first_sequence-returns
+first_sequence-returns g t c = λ u J.
+    let μ = machine_around g.R.Holds.answers c.args.around.now in
+    let d = dt_around c.args.around.now in
+    let x = c.args.value.now in
+    rw c.put.ensures (joined_steps μ InSequence c.args.left c.args.right c.args.around.now.names.now u J d x _ c.in-Ok.value _ (λ e N S. c.in-Ok.ensures μ u e _ N S)
+    (join_steps μ InSequence _ _ c.args.meter.now c.first_step.new.meter c.args.around.now.inside d x x refl
+    c.first_step.new.state c.first_step.new.value c.first_step.new.value refl c.in_ok-first_step.ensures
+    c.first_step-2.new.meter c.first_step-2.new.state c.first_step-2.new.value c.first_step-2.new.value refl c.in_ok-first_step-2.ensures))
+
+-- ## first_halves
+
+pub first_halves-returns-in-Err : goal.first_halves-returns-in-Err
+first_halves-returns-in-Err g t c = λ u J m depth T e N. early_memory (machine_around g.R.Holds.answers c.args.around.now) T c.stop.ensures.entered c.stop.ensures.height c.stop.ensures.fault
+
+pub first_halves-returns-in_err-first_step : goal.first_halves-returns-in_err-first_step
+first_halves-returns-in_err-first_step g t c = λ u J m depth T e N.
+    let μ = machine_around g.R.Holds.answers c.args.around.now in
+    let d = dt_around c.args.around.now in
+    let x = c.args.value.now in
+    pass_apart _ _ _ c.from_residual.ensures.0 (joined_fails μ FannedOut c.args.left c.args.right c.args.around.now.names.now u J d x _
+    (join_left_fails μ FannedOut _ _ c.args.meter.now c.first_step.new.meter c.args.around.now.inside d x c.in-Ok.value c.in-Ok.ensures _ c.in_err-first_step.ensures) m depth T e N)
+
+pub first_halves-returns-in_err-first_step-2 : goal.first_halves-returns-in_err-first_step-2
+first_halves-returns-in_err-first_step-2 g t c = λ u J m depth T e N.
+    let μ = machine_around g.R.Holds.answers c.args.around.now in
+    let d = dt_around c.args.around.now in
+    let x = c.args.value.now in
+    pass_apart _ _ _ c.from_residual-in_err-first_step-2.ensures.0 (joined_fails μ FannedOut c.args.left c.args.right c.args.around.now.names.now u J d x _
+    (join_right_fails μ FannedOut _ _ c.args.meter.now c.first_step.new.meter c.args.around.now.inside d x c.in-Ok.value c.in-Ok.ensures
+    c.first_step.new.state c.first_step.new.value x refl c.in_ok-first_step.ensures c.first_step-2.new.meter _ c.in_err-first_step-2.ensures) m depth T e N)
+
+pub first_halves-returns-in-Err-live_among : goal.first_halves-returns-in-Err-live_among
+first_halves-returns-in-Err-live_among g t c = λ u J.
+    let μ = machine_around g.R.Holds.answers c.args.around.now in
+    let d = dt_around c.args.around.now in
+    let x = c.args.value.now in
+    joined_late μ FannedOut c.args.left c.args.right c.args.around.now.names.now u J d x
+    (join_steps μ FannedOut _ _ c.args.meter.now c.first_step.new.meter c.args.around.now.inside d x c.in-Ok.value c.in-Ok.ensures
+    c.first_step.new.state c.first_step.new.value x refl c.in_ok-first_step.ensures
+    c.first_step-2.new.meter c.first_step-2.new.state c.first_step-2.new.value _ refl c.in_ok-first_step-2.ensures)
+    c.stop-in-Err-live_among.ensures.entered c.stop-in-Err-live_among.ensures.height c.stop-in-Err-live_among.ensures.fault
+
+pub first_halves-returns : goal.first_halves-returns
+first_halves-returns g t c = λ u J.
+    let μ = machine_around g.R.Holds.answers c.args.around.now in
+    let d = dt_around c.args.around.now in
+    let x = c.args.value.now in
+    rw c.put.ensures (joined_steps μ FannedOut c.args.left c.args.right c.args.around.now.names.now u J d x _ c.in-Ok-live_among.value _ (λ e N S. c.in-Ok-live_among.ensures μ u e _ N S)
+    (join_steps μ FannedOut _ _ c.args.meter.now c.first_step.new.meter c.args.around.now.inside d x c.in-Ok.value c.in-Ok.ensures
+    c.first_step.new.state c.first_step.new.value x refl c.in_ok-first_step.ensures
+    c.first_step-2.new.meter c.first_step-2.new.state c.first_step-2.new.value _ refl c.in_ok-first_step-2.ensures))
+
+-- ## first_fan
+
+pub first_fan-returns-in_err-first : goal.first_fan-returns-in_err-first
+first_fan-returns-in_err-first g t c = λ u J m depth T e N. pass_exit _ _ c.from_residual.ensures.0 (failed (c.in_err-first.ensures u J m depth T e N))
+
+pub first_fan-returns-in-Err : goal.first_fan-returns-in-Err
+first_fan-returns-in-Err g t c = λ u J.
+    late_term (machine_around g.R.Holds.answers c.args.around.now) u c.args.around.now.names.now (dt_around c.args.around.now) c.args.value.now (c.in_ok-first.ensures u J) c.stop.ensures.entered c.stop.ensures.height c.stop.ensures.fault
+
+pub first_fan-returns : goal.first_fan-returns
+first_fan-returns g t c = λ u J. rw (rw c.replace-second.ensures.value at c.in-Ok.ensures) (c.in_ok-first.ensures u J)
+
+-- ## step_unborn_apart
+
+pub step_unborn_apart-returns-in_err-inside : goal.step_unborn_apart-returns-in_err-inside
+step_unborn_apart-returns-in_err-inside g t c = stops_apart c.from_residual.ensures.0 (λ P L A. fails (tick_fails (context_machine g.R.Holds.answers c.args.context.now) P _ c.in_err-inside.ensures.ticked))
+
+pub step_unborn_apart-returns-in_err-first : goal.step_unborn_apart-returns-in_err-first
+step_unborn_apart-returns-in_err-first g t c =
+    let μ = context_machine g.R.Holds.answers c.args.context.now in
+    stops_apart c.from_residual-in_err-first.ensures.0 (rw c.in-Unborn.is (term_counted μ c.in-Unborn.process.term c.in-Unborn.process.names c.args.context.now.dt c.args.value.now (ticked_by c.in_ok-inside.ensures.ticked) _
+    (rw c.replace-names.ensures.value at c.in_err-first.ensures _ (parts_joined μ FannedOut c.in-Joined.left c.in-Joined.right _ (rw c.in-FannedOut.is at (rw c.in-Joined.is at c.node.ensures.builds))))))
+
+pub step_unborn_apart-returns-in-FannedOut : goal.step_unborn_apart-returns-in-FannedOut
+step_unborn_apart-returns-in-FannedOut g t c =
+    let μ = context_machine g.R.Holds.answers c.args.context.now in
+    apart {y = pair c.in_ok-first.first c.first_halves.new.value} (rw c.in-Unborn.is (term_counted μ c.in-Unborn.process.term c.in-Unborn.process.names c.args.context.now.dt c.args.value.now (ticked_by c.in_ok-inside.ensures.ticked) _
+    (rw c.replace-names.ensures.value at c.in_ok-first.ensures _ (parts_joined μ FannedOut c.in-Joined.left c.in-Joined.right _ (rw c.in-FannedOut.is at (rw c.in-Joined.is at c.node.ensures.builds)))))) refl (rw c.replace-second.ensures.value at c.payload_of.ensures)
+
+pub step_unborn_apart-returns-in_err-first_step : goal.step_unborn_apart-returns-in_err-first_step
+step_unborn_apart-returns-in_err-first_step g t c = stops_apart c.from_residual-in_err-first_step.ensures.0 (rw c.in-Unborn.is (rw c.replace-names.ensures.value at c.in_err-first_step.ensures))
+
+pub step_unborn_apart-returns : goal.step_unborn_apart-returns
+step_unborn_apart-returns g t c =
+    let μ = context_machine g.R.Holds.answers c.args.context.now in
+    let first : StateSteps μ c.args.state.now (step c.args.context.now.dt c.args.value.now) (Ok (c.first_step.new.state, c.first_step.new.value)) c.args.meter.now c.first_step.new.meter c.args.depth =
+    rw c.in-Unborn.is (rw c.replace-names.ensures.value at c.in_ok-first_step.ensures) in
+    taken (λ s n. StateSteps μ c.args.state.now (step c.args.context.now.dt c.args.value.now) s c.args.meter.now n c.args.depth) first (late_part μ first) c.taken_apart.ensures
 
 -- ## step_switch
 
