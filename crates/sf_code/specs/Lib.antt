@@ -1,4 +1,5 @@
 pub mod Places
+pub mod Events
 pub mod Codes
 pub mod Running
 pub mod Compiling

@@ -7,17 +7,19 @@ ghost use Rattle.sf_expr.specs.Patterns.{pattern_of};
 ghost use Rattle.sf_value.specs.Values.{number};
 ghost use Rattle.sf_code.specs.Codes as trees;
 ghost use Rattle.sf_code.specs.CodeView.{code_of};
-ghost use Rattle.sf_code.specs.Nodes.{is_place, is_number, is_one_node};
+ghost use Rattle.sf_code.specs.Nodes.{is_place, is_value, is_number, is_one_node};
 ghost use Rattle.sf_operator.specs.declared.operator.Arithmetic.{Arithmetic};
+ghost use Rattle.sf_operator.specs.declared.operator.Comparison.{Comparison};
+ghost use Rattle.sf_operator.specs.declared.operator.Equality.{Equality};
 ghost use Rattle.sf_code.specs.Compiling.{closed_code, place_of_name, code_of_name};
 ghost use Rattle.sf_code.specs.PlaceView.{frame_patterns};
 
-use crate::code::Code;
+use crate::code::{Code, ConstantEvent};
 use crate::pattern::FramePattern;
 use crate::place::Patterns;
 use sf_expr::{Constant, ExprId, ExprNode, Exprs, Folded, Mapped, NameId, PatternId};
 use sf_func::Callee;
-use sf_operator::{Operator, number_in};
+use sf_operator::{Operator, Unary, number_in};
 use sf_value::Value;
 use std::alloc::{AllocError, Global};
 
@@ -43,8 +45,8 @@ pub(crate) fn compile(
             Ok(Code::Pair(first, second))
         }
         ExprNode::Applied(operator, part) => {
-            let part = boxed(alloc, exprs, part, patterns)?;
-            Ok(Code::Applied(operator, part))
+            let part = compile(alloc, exprs, part, patterns)?;
+            applied(alloc, operator, part)
         }
         ExprNode::Operation(left, operator, right) => {
             operation(alloc, exprs, left, operator, right, patterns)
@@ -110,6 +112,19 @@ fn within(
     boxed(alloc, &*exprs, body, &inner)
 }
 
+/// The code of an operator on code: of the event of a constant, one node.
+fn applied(alloc: Global, operator: Unary, part: Code) -> Result<Code, AllocError>
+    ensures same { IfOk result (λ code. code_of code ≡ trees.applied operator (code_of part)) }
+    ensures event { operator ≡ Unary.Event → is_value part ≡ true → IfOk result (λ code. is_one_node code ≡ true) }
+{
+    match (operator, part) {
+        (Unary::Event, Code::Constant(payload)) => {
+            Ok(Code::Event(ConstantEvent::new(alloc, payload)?))
+        }
+        (operator, part) => Ok(Code::Applied(operator, Box::new(alloc, part)?)),
+    }
+}
+
 /// The code of an operator between two expressions.
 #[cycle(compile)]
 fn operation(
@@ -130,15 +145,24 @@ fn operation(
     between(alloc, left, operator, right)
 }
 
-/// The code of an operator between two codes: of arithmetic between a place and a number, in either order, one node.
+/// The code of an operator between two codes: of arithmetic between a place and a number, in either order, one node, and so
+/// where a place is compared with a number.
 fn between(alloc: Global, left: Code, operator: Operator, right: Code) -> Result<Code, AllocError>
     ensures same { IfOk result (λ code. code_of code ≡ trees.operation (code_of left) operator (code_of right)) }
     ensures place { (o : Arithmetic) → operator ≡ Operator.Arithmetic o → is_place left ≡ true → is_number right ≡ true → IfOk result (λ code. is_one_node code ≡ true) }
     ensures number { (o : Arithmetic) → operator ≡ Operator.Arithmetic o → is_number left ≡ true → is_place right ≡ true → IfOk result (λ code. is_one_node code ≡ true) }
+    ensures compared { (o : Comparison) → operator ≡ Operator.Comparison o → is_place left ≡ true → is_number right ≡ true → IfOk result (λ code. is_one_node code ≡ true) }
+    ensures equated { (o : Equality) → operator ≡ Operator.Equality o → is_place left ≡ true → is_number right ≡ true → IfOk result (λ code. is_one_node code ≡ true) }
 {
     match (left, operator, number_of_code(&right)) {
         (Code::Place(place), Operator::Arithmetic(operator), Some(number)) => {
             Ok(Code::WithNumber(operator, place, number))
+        }
+        (Code::Place(place), Operator::Comparison(operator), Some(number)) => {
+            Ok(Code::Compared(operator, place, number))
+        }
+        (Code::Place(place), Operator::Equality(operator), Some(number)) => {
+            Ok(Code::Equated(operator, place, number))
         }
         (left, operator, _) => number_first(alloc, left, operator, right),
     }

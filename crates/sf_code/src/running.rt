@@ -11,7 +11,7 @@ ghost use Rattle.sf_value.specs.Values.{Data, no_event};
 ghost use Rattle.sf_value.specs.Values;
 ghost use Rattle.sf_operator.specs.declared.operator.Unary.TheVariants as unaries;
 ghost use Rattle.std.specs.Ordering.{int_cmp};
-ghost use Rattle.sf_operator.specs.Operations.{truth_held, of_comparison, unary_value};
+ghost use Rattle.sf_operator.specs.Operations.{truth_held, same_data, of_comparison, of_equality, unary_value};
 ghost use Rattle.sf_operator.specs.Operations;
 ghost use Rattle.sf_code.specs.FrameView.{found_value};
 ghost use Rattle.sf_expr.specs.Evaluation.{granted};
@@ -29,8 +29,8 @@ use crate::code::Code;
 use crate::frames::{Found, Frames};
 use sf_func::{Callee, FunctionFault, Holds};
 use sf_operator::{
-    Arithmetic, Comparison, EvalFault, Folding, Logic, Mapping, Operator, Unary, calculate, copied,
-    decide, is_true, number_in, operate, operate_on, payload_in, rows_in,
+    Arithmetic, Comparison, Equality, EvalFault, Folding, Logic, Mapping, Operator, Unary,
+    calculate, copied, decide, is_true, number_in, operate, operate_on, payload_in, rows_in,
 };
 use sf_value::{Rows, Value, ValueFault};
 use std::alloc::{AllocError, Global};
@@ -48,6 +48,7 @@ pub(crate) fn run<F: Holds>(
 {
     match code {
         Code::Constant(value) => copied(alloc, value),
+        Code::Event(event) => event.value(alloc),
         Code::Place(place) => found(alloc, frames.at(place)),
         Code::Pair(first, second) => { pair(alloc, first, second, frames, functions) }
         Code::Applied(operator, part) => applied(alloc, *operator, part, frames, functions),
@@ -63,6 +64,12 @@ pub(crate) fn run<F: Holds>(
         }
         Code::NumberWith(operator, number, place) => {
             computed(number_with(*operator, *number, frames.at(place)))
+        }
+        Code::Compared(operator, place, number) => {
+            Ok(told(compared_with(*operator, frames.at(place), *number)))
+        }
+        Code::Equated(operator, place, number) => {
+            Ok(Value::bool(equated_with(*operator, frames.at(place), *number)))
         }
         Code::Conditional(condition, first, second) => {
             conditional(alloc, condition, first, second, frames, functions)
@@ -80,6 +87,25 @@ pub(crate) fn run<F: Holds>(
             fold(alloc, first, second, body, frames, functions)
         }
         Code::Called(callee, part) => { called(alloc, callee, part, frames, functions) }
+    }
+}
+
+/// What code is worth over the values of frames, or the first fault: at once where it is a value or a place.
+#[cycle(run)]
+#[inline(always)]
+fn worth_of<F: Holds>(
+    alloc: Global,
+    code: &Code,
+    frames: &Frames,
+    functions: &F,
+) -> Result<Value, EvalFault>
+    ensures { Evaluates result (Running.run (code_of code.now) (frames_of frames.now) (F.answers functions.now)) }
+{
+    match code {
+        Code::Constant(value) => copied(alloc, value),
+        Code::Event(event) => event.value(alloc),
+        Code::Place(place) => found(alloc, frames.at(place)),
+        _ => run(alloc, code, frames, functions),
     }
 }
 
@@ -111,8 +137,8 @@ fn pair<F: Holds>(
 ) -> Result<Value, EvalFault>
     ensures { Evaluates result (Running.run (trees.paired (code_of first.now) (code_of second.now)) (frames_of frames.now) (F.answers functions.now)) }
 {
-    let first = run(alloc, first, frames, functions)?;
-    let second = run(alloc, second, frames, functions);
+    let first = worth_of(alloc, first, frames, functions)?;
+    let second = worth_of(alloc, second, frames, functions);
     paired(alloc, first, second)
 }
 
@@ -136,7 +162,7 @@ fn applied<F: Holds>(
 ) -> Result<Value, EvalFault>
     ensures { Evaluates result (Running.run (trees.applied operator (code_of part.now)) (frames_of frames.now) (F.answers functions.now)) }
 {
-    let part = run(alloc, part, frames, functions)?;
+    let part = worth_of(alloc, part, frames, functions)?;
     operate_on(alloc, operator, &part)
 }
 
@@ -153,11 +179,11 @@ fn operation<F: Holds>(
 ) -> Result<Value, EvalFault>
     ensures { Evaluates result (Running.run (trees.operation (code_of left.now) operator (code_of right.now)) (frames_of frames.now) (F.answers functions.now)) }
 {
-    let left = run(alloc, left, frames, functions)?;
+    let left = worth_of(alloc, left, frames, functions)?;
     match decide(operator, &left) {
         Some(decided) => Ok(decided),
         None => {
-            let right = run(alloc, right, frames, functions);
+            let right = worth_of(alloc, right, frames, functions);
             operated(alloc, operator, left, right)
         }
     }
@@ -283,8 +309,10 @@ fn counted(number: Result<i64, EvalFault>) -> Result<Option<i64>, EvalFault>
     Ok(Some(number?))
 }
 
-/// The truth that code is worth, none where it is worth another value, or the first fault.
+/// The truth that code is worth, none where it is worth another value, or the first fault: at once where it is a place, or
+/// compares one with a number.
 #[cycle(run)]
+#[inline(always)]
 fn truth<F: Holds>(
     alloc: Global,
     code: &Code,
@@ -294,8 +322,30 @@ fn truth<F: Holds>(
     ensures { AnswersTruth result (Running.run (code_of code.now) (frames_of frames.now) (F.answers functions.now)) }
 {
     match code {
-        Code::Constant(value) => Ok(is_true(value)),
         Code::Place(place) => Ok(truth_found(frames.at(place))),
+        Code::Compared(operator, place, number) => {
+            Ok(compared_with(*operator, frames.at(place), *number))
+        }
+        Code::Equated(operator, place, number) => {
+            Ok(Some(equated_with(*operator, frames.at(place), *number)))
+        }
+        _ => truth_run(alloc, code, frames, functions),
+    }
+}
+
+/// The truth that code is worth, none where it is worth another value, or the first fault.
+#[cycle(run)]
+#[inline(never)]
+fn truth_run<F: Holds>(
+    alloc: Global,
+    code: &Code,
+    frames: &Frames,
+    functions: &F,
+) -> Result<Option<bool>, EvalFault>
+    ensures { AnswersTruth result (Running.run (code_of code.now) (frames_of frames.now) (F.answers functions.now)) }
+{
+    match code {
+        Code::Constant(value) => Ok(is_true(value)),
         Code::Applied(Unary::Not, part) => negated(truth(alloc, part, frames, functions)),
         Code::Operation(left, Operator::Comparison(operator), right) => {
             compared(alloc, left, *operator, right, frames, functions)
@@ -316,12 +366,50 @@ fn truthful(value: Result<Value, EvalFault>) -> Result<Option<bool>, EvalFault>
 }
 
 /// The truth that was found, if it is one.
+#[inline(always)]
 fn truth_found(found: Found) -> Option<bool>
     ensures { result ≡ truth_held (found_value found.entry) }
 {
     match found {
         Found::Nothing => None,
         Found::Value(value) => is_true(value),
+    }
+}
+
+/// Whether what was found and a number stand in order as an operator says, none where they have no order.
+#[inline(always)]
+fn compared_with(operator: Comparison, found: Found, number: i64) -> Option<bool>
+    ensures { Operations.operated (operators.Comparison operator) (found_value found.entry) (Values.number number) ≡ known result (λ b. Outcomes.answer (Values.truth b)) }
+{
+    match found.number() {
+        Some(own) => Some(in_order(operator, own, number)),
+        None => None,
+    }
+}
+
+/// Whether what was found and a number are the same, or whether they are not.
+#[inline(always)]
+fn equated_with(operator: Equality, found: Found, number: i64) -> bool
+    ensures { result ≡ of_equality operator (same_data (found_value found.entry) (Values.number number)) }
+{
+    let same = match found.number() {
+        Some(own) => own == number,
+        None => false,
+    };
+    match operator {
+        Equality::Equal => same,
+        Equality::Unequal => !same,
+    }
+}
+
+/// A truth as a value, the number 0 where there is none.
+#[inline(always)]
+fn told(truth: Option<bool>) -> Value
+    ensures { Outcomes.answer result ≡ known truth (λ b. Outcomes.answer (Values.truth b)) }
+{
+    match truth {
+        Some(truth) => Value::bool(truth),
+        None => Value::int(0),
     }
 }
 
@@ -348,14 +436,14 @@ fn compared<F: Holds>(
 ) -> Result<Option<bool>, EvalFault>
     ensures { AnswersTruth result (Running.run (trees.operation (code_of left.now) (operators.Comparison operator) (code_of right.now)) (frames_of frames.now) (F.answers functions.now)) }
 {
-    let left = run(alloc, left, frames, functions)?;
+    let left = worth_of(alloc, left, frames, functions)?;
     match number_in(&left) {
         Some(number_left) => {
             let right = number(alloc, right, frames, functions);
             ordered(operator, number_left, right)
         }
         None => {
-            let right = run(alloc, right, frames, functions);
+            let right = worth_of(alloc, right, frames, functions);
             truthful(operated(alloc, Operator::Comparison(operator), left, right))
         }
     }
@@ -377,6 +465,7 @@ fn ordered(
 }
 
 /// Whether two numbers stand in order as an operator says.
+#[inline(always)]
 fn in_order(operator: Comparison, left: i64, right: i64) -> bool
     ensures { result ≡ of_comparison operator (int_cmp left right) }
 {
@@ -423,11 +512,12 @@ fn conditional<F: Holds>(
 ) -> Result<Value, EvalFault>
     ensures { Evaluates result (Running.run (trees.conditional (code_of condition.now) (code_of first.now) (code_of second.now)) (frames_of frames.now) (F.answers functions.now)) }
 {
-    match truth(alloc, condition, frames, functions)? {
-        Some(true) => run(alloc, first, frames, functions),
-        Some(false) => run(alloc, second, frames, functions),
-        None => Ok(Value::int(0)),
-    }
+    let chosen = match truth(alloc, condition, frames, functions)? {
+        Some(true) => first,
+        Some(false) => second,
+        None => return Ok(Value::int(0)),
+    };
+    worth_of(alloc, chosen, frames, functions)
 }
 
 /// What the code of a function is worth over a value, with the frames around it, or the first fault.
@@ -459,7 +549,7 @@ fn mapped<F: Holds>(
 ) -> Result<Value, EvalFault>
     ensures { Evaluates result (Running.run (trees.mapped (code_of part.now) mapping (code_of body.now)) (frames_of frames.now) (F.answers functions.now)) }
 {
-    let part = run(alloc, part, frames, functions)?;
+    let part = worth_of(alloc, part, frames, functions)?;
     match mapping {
         Mapping::Let => answer(alloc, body, &part, frames, functions),
         Mapping::Filter => filter(alloc, &part, body, frames, functions),
@@ -544,10 +634,10 @@ fn matched<F: Holds>(
 ) -> Result<Value, EvalFault>
     ensures { Evaluates result (Running.run (trees.folded (code_of first.now) foldings.Match (code_of second.now) (code_of body.now)) (frames_of frames.now) (F.answers functions.now)) }
 {
-    let first = run(alloc, first, frames, functions)?;
+    let first = worth_of(alloc, first, frames, functions)?;
     match payload_in(&first) {
         Some(Some(payload)) => answer(alloc, body, payload, frames, functions),
-        Some(None) => run(alloc, second, frames, functions),
+        Some(None) => worth_of(alloc, second, frames, functions),
         None => Ok(Value::int(0)),
     }
 }
@@ -565,8 +655,8 @@ fn merged<F: Holds>(
 ) -> Result<Value, EvalFault>
     ensures { Evaluates result (Running.run (trees.folded (code_of first.now) foldings.Merge (code_of second.now) (code_of body.now)) (frames_of frames.now) (F.answers functions.now)) }
 {
-    let first = run(alloc, first, frames, functions)?;
-    let second = run(alloc, second, frames, functions)?;
+    let first = worth_of(alloc, first, frames, functions)?;
+    let second = worth_of(alloc, second, frames, functions)?;
     merge(alloc, &first, &second, body, frames, functions)
 }
 
@@ -622,8 +712,8 @@ fn fold<F: Holds>(
 ) -> Result<Value, EvalFault>
     ensures { Evaluates result (Running.run (trees.folded (code_of first.now) foldings.Fold (code_of second.now) (code_of body.now)) (frames_of frames.now) (F.answers functions.now)) }
 {
-    let table = run(alloc, first, frames, functions)?;
-    let start = run(alloc, second, frames, functions)?;
+    let table = worth_of(alloc, first, frames, functions)?;
+    let start = worth_of(alloc, second, frames, functions)?;
     match rows_in(&table) {
         Some(rows) => fold_rows(alloc, rows, start, body, frames, functions),
         None => Ok(Value::int(0)),
@@ -668,7 +758,7 @@ fn called<F: Holds>(
 ) -> Result<Value, EvalFault>
     ensures { Evaluates result (Running.run (trees.called (callee_name callee.now) (code_of part.now)) (frames_of frames.now) (F.answers functions.now)) }
 {
-    let value = run(alloc, part, frames, functions)?;
+    let value = worth_of(alloc, part, frames, functions)?;
     answered(functions.call(alloc, callee, &value))
 }
 

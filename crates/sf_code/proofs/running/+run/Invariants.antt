@@ -9,6 +9,9 @@ use Rattle.sf_code.proofs.running.+run.Given as goal
 abbrev pub decreases-run : goal.decreases-run
 decreases-run g l = 8 * code_size (code_of l.code.now)
 
+abbrev pub decreases-worth_of : goal.decreases-worth_of
+decreases-worth_of g l = 8 * code_size (code_of l.code.now) + 1
+
 abbrev pub decreases-answer : goal.decreases-answer
 decreases-answer g l = 8 * code_size (code_of l.body.now) + 2
 
@@ -67,6 +70,9 @@ decreases-number g l = 8 * code_size (code_of l.code.now) + 2
 
 abbrev pub decreases-truth : goal.decreases-truth
 decreases-truth g l = 8 * code_size (code_of l.code.now) + 2
+
+abbrev pub decreases-truth_run : goal.decreases-truth_run
+decreases-truth_run g l = 8 * code_size (code_of l.code.now) + 1
 
 abbrev pub decreases-compared : goal.decreases-compared
 decreases-compared g l = 8 * (code_size (code_of l.left.now) + code_size (code_of l.right.now)) + 6
