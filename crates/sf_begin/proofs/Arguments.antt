@@ -1,10 +1,9 @@
 -- The arguments of a call, bound one after another.
 use Rattle.std.proofs.Common.{◌≡◌, Bool, true, false, ◌&&◌, IsTrue, List, [], ◌∷◌, ◌++◌, map, length, append_assoc, Result, Ok, Err, refl, sym, ap, ◌∙◌, subst, arith, ◌⊎◌, inl, inr}
-use Rattle.std.specs.Prelude.{Some, IsErrAnd}
+use Rattle.std.specs.Prelude.{IsErrAnd}
 use Rattle.std.specs.declared.alloc.Global.{Global}
 use Rattle.std.specs.declared.rc.Rc.{Rc}
 use Rattle.std.proofs.lemmas.List.{append-nil}
-use Rattle.sf_coincidence.proofs.Same.{alike_itself}
 use Rattle.sf_value.specs.Values.{Name, Data}
 use Rattle.sf_value.specs.declared.fault.ValueFault.{ValueFault}
 use Rattle.sf_value.specs.declared.fault.Fault.{Fault}
@@ -23,18 +22,16 @@ use Rattle.sf_term.specs.Parameters.{NameKind, Bindings}
 use Rattle.sf_term.specs.Trees.{no_arguments}
 use Rattle.sf_mean.specs.Lives.{Process, closure, Environment, empty, known, running, collected, Members, process_started, scope_around}
 use Rattle.sf_mean.specs.Collections.{collect}
-use Rattle.sf_mean.specs.Meaning.{argued, process_called}
+use Rattle.sf_mean.specs.Meaning.{argued}
 use Rattle.sf_law.specs.declared.node.PlanId.{PlanId}
 use Rattle.sf_law.specs.declared.node.PlanArgument.{PlanArgument}
 use Rattle.sf_law.specs.declared.node.PlanArgument.TheVariants.{Value, Started, Closed, Collected}
 use Rattle.sf_law.specs.declared.node.PlanCollection.{PlanCollection}
-use Rattle.sf_law.specs.Headers.{ParameterHeader, PlanHeader}
+use Rattle.sf_law.specs.Headers.{ParameterHeader}
 use Rattle.sf_law.specs.Places.{names_of_parameters}
 use Rattle.sf_law.specs.Asking.{argument_asked, arguments_asked}
-use Rattle.sf_law.specs.Arena.{plan_tree, plan_collection, plan_expressions, plan_binding, plan_template, plan_arguments}
+use Rattle.sf_law.specs.Arena.{plan_tree, plan_collection, plan_expressions, plan_binding, plan_arguments}
 use Rattle.sf_law.proofs.Called.{argued_closed}
-use Rattle.sf_state.specs.declared.state.State.{State}
-use Rattle.sf_state.specs.declared.state.State.TheVariants.{Unborn}
 use Rattle.sf_state.specs.declared.state.Live.{items_hidden-the_row-State-0 as states_are}
 use Rattle.sf_state.specs.declared.state.Gathered.{Gathered}
 use Rattle.sf_state.proofs.Copies.{held_shown, held_hidden}
@@ -44,7 +41,7 @@ use Rattle.sf_state.specs.Names.{values_around}
 use Rattle.sf_state.specs.declared.env.Handed.{Handed}
 use Rattle.sf_state.specs.declared.env.Given.{Given}
 use Rattle.sf_state.specs.declared.env.Given.TheVariants.{Value as GValue, Process as GProcess, Members as GMembers}
-use Rattle.sf_state.specs.Standing.{IsNames, AreGiven, nothing_given, value_is_given, process_is_given, members_are_given, IsHanded, Stands, itself, unborn, is_closure, closed_over}
+use Rattle.sf_state.specs.Standing.{IsNames, AreGiven, nothing_given, value_is_given, process_is_given, members_are_given, IsHanded}
 use Rattle.sf_state.specs.Machine.{Machine}
 use Rattle.sf_state.proofs.Scopes.{scope_is}
 use Rattle.sf_begin.specs.Contexts.{sample_fault}
@@ -257,23 +254,3 @@ module _ (μ : Machine) (qs : List ParameterHeader) (vs : List PlanArgument) (e 
   all_given (q ∷ ps) [] given bound B left stands = let long = B.long in absurd (omega (arith, long))
   all_given (q ∷ ps) (v ∷ us) given bound B (inl h) stands = absurd (omega arith)
   all_given (q ∷ ps) (v ∷ us) given bound B (inr h) stands = absurd (omega arith)
-
-module _ (μ : Machine) (h : PlanHeader) (vs : List PlanArgument) (e : Environment) where
-  -- what stands in the place of a call
-  abbrev pub StandsCalled : Result State Fault → Type 0
-  StandsCalled r = Makes (λ a P. Stands μ a P []) (process_called μ.answers (Some (plan_template μ.plan h)) (plan_arguments μ.plan vs) e) r
-
-  abbrev body_in : Environment → Evaluated Process
-  body_in d = answer (closure (plan_tree μ.plan h.body) d)
-
-  abbrev parameters_argued : Evaluated Environment
-  parameters_argued = argued μ.answers (map (plan_binding μ.plan) h.parameters) (plan_arguments μ.plan vs) e empty
-
-  pub called_so : (body : PlanId) (bound : Env) → body ≡ h.body → Makes (IsNames μ) parameters_argued (Ok bound) → StandsCalled (Ok (Unborn (closed_over body bound)))
-  called_so body bound same (makes {b = d} w N) =
-      makes (ap (λ w. w >>= body_in) w)
-      (subst (λ t. Stands μ (Unborn (closed_over t bound)) (closure (plan_tree μ.plan h.body) d) []) (sym same) (itself (unborn (is_closure (alike_itself _) N))))
-
-  pub called_fails : (f : Fault) → Makes (IsNames μ) parameters_argued (Err f) → StandsCalled (Err f)
-  called_fails f (makes_fault w) = makes_fault (ap (λ w. w >>= body_in) w)
-  called_fails f makes_nothing = makes_nothing

@@ -1,6 +1,6 @@
 -- What terms are before their first sample, and what stands in their states.
 use Rattle.std.proofs.Common.{◌≡◌, ℕ, ◌+◌, ◌<◌, suc, List, [], ◌∷◌, ◌++◌, length, get_or, take, map, Some, Result, Ok, Err, refl, sym, ap, ◌∙◌, subst, arith, IsTrue}
-use Rattle.std.specs.Prelude.{nat_le, IsErrAnd, All, Vec, String, string_bytes}
+use Rattle.std.specs.Prelude.{nat_le, IsErrAnd, Vec, String, string_bytes}
 use Rattle.std.specs.declared.rc.Rc.{Rc}
 use Rattle.std.specs.declared.alloc.Global.{Global}
 use Rattle.std.proofs.Math.Seq.{take-suc}
@@ -22,7 +22,6 @@ use Rattle.sf_expr.specs.declared.exprs.PatternId.{PatternId}
 use Rattle.sf_code.specs.declared.open.OpenCode.{OpenCode}
 use Rattle.sf_code.specs.Names.{scope_with}
 use Rattle.sf_code.specs.Worth.{IsCodeOfFunction}
-use Rattle.sf_term.specs.declared.form.Start.{Start}
 use Rattle.sf_term.specs.declared.form.Observation.{Observation}
 use Rattle.sf_term.specs.declared.form.Switching.{Switching}
 use Rattle.sf_term.specs.declared.form.Switching.TheVariants.{Basic, Recurring}
@@ -30,27 +29,24 @@ use Rattle.sf_term.specs.declared.form.Join.{Join}
 use Rattle.sf_term.specs.declared.form.Join.TheVariants.{InSequence, InParallel, FannedOut}
 use Rattle.sf_term.specs.declared.form.Side.{Side}
 use Rattle.sf_term.specs.declared.form.Heading.{Heading}
-use Rattle.sf_term.specs.Trees.{rest, Primitive, probe, Term, primitive, reference, call, sided, headed, transformed, switching, continuing, gathered, releasing, editing}
-use Rattle.sf_mean.specs.Lives.{step, Life, closure, Environment, process_started, scope_around}
+use Rattle.sf_term.specs.Trees.{rest, Primitive, probe, Term, primitive, sided, headed, transformed, switching, continuing, gathered, releasing, editing}
+use Rattle.sf_mean.specs.Lives.{step, Life, closure, Environment, scope_around}
 use Rattle.sf_mean.specs.Collections.{collect}
-use Rattle.sf_mean.specs.Meaning.{Network, recorded, as_outcome, Made, nothing_made, value_made, process_made, members_made, make, left_life, right_life, gives, Outputs, not_begun, of_constants, of_form, of_primitive, at_start, no_tables}
+use Rattle.sf_mean.specs.Meaning.{Network, recorded, as_outcome, Made, nothing_made, value_made, members_made, make, left_life, right_life, gives, Outputs, not_begun, of_constants, of_form, of_primitive, at_start, no_tables}
 use Rattle.sf_law.specs.declared.node.PlanId.{PlanId}
-use Rattle.sf_law.specs.declared.node.TemplateId.{TemplateId}
-use Rattle.sf_law.specs.declared.node.PlanArgument.{PlanArgument}
 use Rattle.sf_law.specs.declared.node.PlanPrimitive.{PlanPrimitive}
 use Rattle.sf_law.specs.declared.node.PlanCollection.{PlanCollection}
 use Rattle.sf_law.specs.declared.node.PlanSwitch.{PlanSwitch}
 use Rattle.sf_law.specs.declared.node.PlanContinuation.{PlanContinuation}
 use Rattle.sf_law.specs.declared.node.PlanReleasing.{PlanReleasing}
 use Rattle.sf_law.specs.declared.node.PlanEditing.{PlanEditing}
-use Rattle.sf_law.specs.declared.node.PlanNode.TheVariants.{Primitive as NPrimitive, Joined as NJoined, Sided as NSided, Headed as NHeaded, Transformed as NTransformed, Switching as NSwitching, Continuation as NContinuation, Started as NStarted, Probe as NProbe, Call as NCall, Pipeline as NPipeline, Gathered as NGathered, Releasing as NReleasing, Editing as NEditing}
-use Rattle.sf_law.specs.Entries.{primitive_over, IsCodedPrimitive, IsCodedExpression, IsCodedArgument, IsCodedCollection, stages, pipeline}
-use Rattle.sf_law.specs.Arena.{plan_tree, plan_collection, plan_expressions, plan_expression_at, plan_arguments, header_at, BuildsPlan, builds_primitive, builds_joined, builds_sided, builds_headed, builds_transformed, builds_switching, builds_continuing, builds_started, builds_probe, builds_call, builds_pipeline, builds_gathered, builds_releasing, builds_editing}
-use Rattle.sf_law.proofs.Called.{called}
+use Rattle.sf_law.specs.declared.node.PlanNode.TheVariants.{Primitive as NPrimitive, Joined as NJoined, Sided as NSided, Headed as NHeaded, Transformed as NTransformed, Switching as NSwitching, Continuation as NContinuation, Probe as NProbe, Pipeline as NPipeline, Gathered as NGathered, Releasing as NReleasing, Editing as NEditing}
+use Rattle.sf_law.specs.Entries.{primitive_over, IsCodedPrimitive, IsCodedExpression, IsCodedCollection, stages, pipeline}
+use Rattle.sf_law.specs.Arena.{plan_tree, plan_collection, plan_expressions, plan_expression_at, BuildsPlan, builds_primitive, builds_joined, builds_sided, builds_headed, builds_transformed, builds_switching, builds_continuing, builds_probe, builds_pipeline, builds_gathered, builds_releasing, builds_editing}
 use Rattle.sf_prim.specs.declared.prim_state.PrimState.{PrimState}
 use Rattle.sf_prim.specs.Remembering.{Begins, begins, begins_with_fault}
 use Rattle.sf_state.specs.declared.state.State.{State}
-use Rattle.sf_state.specs.declared.state.State.TheVariants.{Unborn, Primitive as SPrimitive, Live' as Alive', Switch' as Watching', Continuation', Gathering'}
+use Rattle.sf_state.specs.declared.state.State.TheVariants.{Unborn, Live' as Alive', Switch' as Watching', Continuation', Gathering'}
 use Rattle.sf_state.specs.declared.state.Live.{Live, items_hidden-the_row-State-0 as states_are}
 use Rattle.sf_state.specs.declared.state.Live.TheVariants.{Probe as LProbe, Join as LJoin, Wrap as LWrap, Pipeline as LPipeline, Gathered as LGathered}
 use Rattle.sf_state.specs.declared.state.Gathered.{Gathered}
@@ -70,11 +66,8 @@ use Rattle.sf_state.proofs.Copies.{pipeline_lives, members_live, held_hidden}
 use Rattle.sf_begin.specs.Collecting.{MakesMembers}
 use Rattle.sf_begin.specs.declared.opening.Opened.{Opened}
 use Rattle.sf_begin.specs.declared.opening.Opened.TheVariants as opened
-use Rattle.sf_begin.specs.declared.opening.Begun.{Begun}
-use Rattle.sf_begin.specs.declared.opening.Begun.TheVariants as begun
 use Rattle.sf_begin.specs.Contexts.{sample_fault}
-use Rattle.sf_begin.specs.Beginning.{primitive_prepared, live_prepared, switch_prepared, continuing_prepared, gathering_prepared, makes, makes_fault, makes_nothing, WrapsAtFirst, Opens, opens_primitive, opens, opens_watching, opens_continuing, opens_gathering, opens_running, opens_with_fault, opens_without_memory, BeginsAs, begins_itself, begins_referred, begins_not, AllBegin, none_begin, more_begin}
-use Rattle.sf_begin.proofs.Arguments.{StandsCalled}
+use Rattle.sf_begin.specs.Beginning.{Prepared, live_prepared, switch_prepared, continuing_prepared, gathering_prepared, makes, makes_fault, makes_nothing, WrapsAtFirst, Opens, opens, opens_watching, opens_continuing, opens_gathering, opens_with_fault, opens_without_memory, AllBegin, none_begin, more_begin}
 
 -- before the first step
 left_none : (j : Join) → left_life j [] ≡ []
@@ -93,9 +86,6 @@ module _ (μ : Machine) where
 
   -- ## Terms
 
-  prim_opens : {x : Data} (q : Primitive) (e : Environment) (i : PrimState) → Begins (scope_around μ.answers e) q (Ok i) → Opens μ (primitive q) e x (Ok (opened.Primitive i))
-  prim_opens q e i (begins K) = opens_primitive (recalls not_begun K)
-
   prim_opens_with_fault : {x : Data} (q : Primitive) (e : Environment) (f : EvalFault) → Begins (scope_around μ.answers e) q (Err f) → Opens μ (primitive q) e x (Err (sample_fault f))
   prim_opens_with_fault {x} q e (EValue y) (begins_with_fault h) = opens_with_fault (λ d. gives not_begun (of_form refl (of_primitive (ap (λ o. as_outcome o (recorded q (step d x))) (h (step d x))))))
   prim_opens_with_fault q e EMemory h = opens_without_memory
@@ -111,21 +101,17 @@ module _ (μ : Machine) where
   abbrev scope_in : Env → Scope
   scope_in names = scope_with (values_around μ.plan names) μ.answers
 
-  pub open_prim : (q : PlanPrimitive) (t : Term) (names : Env) (i : PrimState) → BuildsPlan μ.plan (NPrimitive q) t → (IsCodedPrimitive (plan_expressions μ.plan) q → Begins (scope_in names) (primitive_over (plan_expressions μ.plan) q) (Ok i))
-      → (x : Data) (e : Environment) → IsNames μ names e → Opens μ t e x (Ok (opened.Primitive i))
-  open_prim q t names i (builds_primitive C) h x e N = prim_opens _ e i (subst (λ (s : Scope). Begins s (primitive_over (plan_expressions μ.plan) q) (Ok i)) (scope_is μ names e N) (h C))
-
   pub open_prim_fails : (q : PlanPrimitive) (t : Term) (names : Env) (f : EvalFault) → BuildsPlan μ.plan (NPrimitive q) t → (IsCodedPrimitive (plan_expressions μ.plan) q → Begins (scope_in names) (primitive_over (plan_expressions μ.plan) q) (Err f))
       → (x : Data) (e : Environment) → IsNames μ names e → Opens μ t e x (Err (sample_fault f))
   open_prim_fails q t names f (builds_primitive C) h x e N = prim_opens_with_fault _ e f (subst (λ (s : Scope). Begins s (primitive_over (plan_expressions μ.plan) q) (Err f)) (scope_is μ names e N) (h C))
 
-  recalls_of : {t : Term} {e : Environment} {x : Data} {i : PrimState} → Opens μ t e x (Ok (opened.Primitive i)) → Recalls μ i (closure t e) []
-  recalls_of (opens_primitive K) = K
-
   -- a primitive that begins has lived no sample
   pub first_recalls : (q : PlanPrimitive) (t : Term) (names : Env) (i : PrimState) → BuildsPlan μ.plan (NPrimitive q) t → (IsCodedPrimitive (plan_expressions μ.plan) q → Begins (scope_in names) (primitive_over (plan_expressions μ.plan) q) (Ok i))
-      → (x : Data) (e : Environment) → IsNames μ names e → Recalls μ i (closure t e) []
-  first_recalls q t names i B h x e N = recalls_of (open_prim q t names i B h x e N)
+      → (e : Environment) → IsNames μ names e → Recalls μ i (closure t e) []
+  first_recalls q t names i (builds_primitive C) h e N = by (subst (λ (s : Scope). Begins s (primitive_over (plan_expressions μ.plan) q) (Ok i)) (scope_is μ names e N) (h C))
+    where
+      by : Begins (scope_around μ.answers e) (primitive_over (plan_expressions μ.plan) q) (Ok i) → Recalls μ i (closure (primitive (primitive_over (plan_expressions μ.plan) q)) e) []
+      by (begins K) = recalls not_begun K
 
   join_makes : {j : Join} {f g t : Term} (e : Environment) (x : Data) → AreJoined j f g t → make net t e x ≡ answer nothing_made
   join_makes e x as_join = refl
@@ -141,10 +127,10 @@ module _ (μ : Machine) where
       let O = subst (λ (K : Life). Outputs net (closure (plan_tree μ.plan a) e) K []) (sym (left_none j)) not_begun in
       ready (join_makes e x J) not_begun (lives_join J O A B)
 
-  pub open_join : (j : Join) (a b : PlanId) (t : Term) (names one two : Env) (l : Rc Live Global) → l.value ≡ LJoin j (Unborn (closed_over a one)) (Unborn (closed_over b two))
+  pub open_parallel : (a b : PlanId) (t : Term) (names one two : Env) (l : Rc Live Global) → l.value ≡ LJoin InParallel (Unborn (closed_over a one)) (Unborn (closed_over b two))
       → ((e : Environment) → IsNames μ names e → IsNames μ one e) → ((e : Environment) → IsNames μ names e → IsNames μ two e)
-      → AreJoined j (plan_tree μ.plan a) (plan_tree μ.plan b) t → (x : Data) (e : Environment) → IsNames μ names e → Opens μ t e x (Ok (opened.Live l))
-  open_join j a b t names one two l same h g J x e N = opens same (join_ready j a b t names one two h g J x e N)
+      → AreJoined InParallel (plan_tree μ.plan a) (plan_tree μ.plan b) t → (x : Data) (e : Environment) → IsNames μ names e → Opens μ t e x (Ok (opened.Live l))
+  open_parallel a b t names one two l same h g J x e N = opens same (join_ready InParallel a b t names one two h g J x e N)
 
   -- two stages go by `>>>`
   pub two_joined : (i j : PlanId) (v : Vec PlanId Global) (t : Term) → v.items ≡ i ∷ j ∷ [] → BuildsPlan μ.plan (NPipeline v) t → AreJoined InSequence (plan_tree μ.plan i) (plan_tree μ.plan j) t
@@ -275,81 +261,27 @@ module _ (μ : Machine) where
       → (e : Environment) → IsNames μ names e → Opens μ t e x r
   open_builds_continuing s t names r builds_continuing h = h
 
-  pub open_started : (w : Start) (k : NameId) (t : Term) (names : Env) (a : State) → BuildsPlan μ.plan (NStarted w k) t
-      → ((e : Environment) → IsNames μ names e → Stands μ a (process_started w (name_at (plan_expressions μ.plan) k) e) [])
-      → (x : Data) (e : Environment) → IsNames μ names e → Opens μ t e x (Ok (opened.Running a))
-  open_started w k t names a builds_started f x e N = opens_running refl refl (f e N)
-
   -- a probe keeps nothing
   pub open_probe : (r r' : Rc (String Global) Global) (t : Term) (l : Rc Live Global) → l.value ≡ LProbe r' → BuildsPlan μ.plan (NProbe r) t → r'.value ≡ r.value → (x : Data) (e : Environment) → Opens μ t e x (Ok (opened.Live l))
   open_probe r r' t l there builds_probe same x e =
       let name : string_bytes r'.value ≡ string_bytes r.value = ap (λ (s : String Global). string_bytes s) same in
       subst (λ n. Opens μ (primitive (probe n)) e x (Ok (opened.Live l))) name (opens there (ready refl not_begun lives_probe))
 
-  -- a call opens as its template, whose arguments have their code
-  pub coded_arguments : {k : NameId} {g : TemplateId} {v : Vec PlanArgument Global} {t : Term} → BuildsPlan μ.plan (NCall k g v) t → All (IsCodedArgument (plan_expressions μ.plan)) v.items
-  coded_arguments (builds_call is C) = C
-
-  pub open_call : (k : NameId) (g : TemplateId) (v : Vec PlanArgument Global) (t : Term) (names : Env) (a : State) → BuildsPlan μ.plan (NCall k g v) t
-      → ((e : Environment) → IsNames μ names e → StandsCalled μ (header_at μ.plan g) v.items e (Ok a)) → (x : Data) (e : Environment) → IsNames μ names e → Opens μ t e x (Ok (opened.Running a))
-  open_call k g v t names a (builds_call is C) f x e N = by (f e N)
-    where
-      by : StandsCalled μ (header_at μ.plan g) v.items e (Ok a) → Opens μ (reference (call (name_at (plan_expressions μ.plan) k) (plan_arguments μ.plan v.items))) e x (Ok (opened.Running a))
-      by (makes h A) = opens_running refl (called μ.answers μ.plan (name_at (plan_expressions μ.plan) k) (header_at μ.plan g) is (plan_arguments μ.plan v.items) e ∙ h) A
-
-  pub open_call_fails : (k : NameId) (g : TemplateId) (v : Vec PlanArgument Global) (t : Term) (names : Env) (f : Fault) → BuildsPlan μ.plan (NCall k g v) t
-      → ((e : Environment) → IsNames μ names e → StandsCalled μ (header_at μ.plan g) v.items e (Err f)) → (x : Data) (e : Environment) → IsNames μ names e → Opens μ t e x (Err f)
-  open_call_fails k g v t names f (builds_call is C) h x e N = by f (h e N)
-    where
-      by : (f : Fault) → StandsCalled μ (header_at μ.plan g) v.items e (Err f) → Opens μ (reference (call (name_at (plan_expressions μ.plan) k) (plan_arguments μ.plan v.items))) e x (Err f)
-      by f (makes_fault w) = opens_with_fault (λ d. gives not_begun (of_constants (ap (λ w. w >>= λ P. answer (process_made P)) (called μ.answers μ.plan (name_at (plan_expressions μ.plan) k) (header_at μ.plan g) is (plan_arguments μ.plan v.items) e ∙ w))))
-      by f makes_nothing = opens_without_memory
-
   -- what a term opens to stands in its state
-  pub begin_primitive : {t : Term} {x : Data} (i : PrimState) (names : Env) → ((e : Environment) → IsNames μ names e → Opens μ t e x (Ok (opened.Primitive i))) → (e : Environment) → IsNames μ names e → BeginsAs μ t e x (SPrimitive i) (Ok begun.Itself)
-  begin_primitive {x = x} i names h e N = by (h e N)
-    where
-      by : {t : Term} → Opens μ t e x (Ok (opened.Primitive i)) → BeginsAs μ t e x (SPrimitive i) (Ok begun.Itself)
-      by (opens_primitive R) = begins_itself (primitive_prepared R)
+  pub begin_live : {at : _} {t : Term} {e : Environment} {x : Data} (l : Rc Live Global) (names : Env) → IsNames μ names e → Opens μ t e x (Ok (opened.Live l)) → Prepared μ (Alive' names at l.value) (closure t e) x []
+  begin_live {at} {t} {e} {x} l names N (opens same R) = subst (λ (v : Live). Prepared μ (Alive' names at v) (closure t e) x []) (sym same) (live_prepared N R)
 
-  pub begin_live : {at : _} {t : Term} {x : Data} (l : Rc Live Global) (names : Env) → ((e : Environment) → IsNames μ names e → Opens μ t e x (Ok (opened.Live l))) → (e : Environment) → IsNames μ names e → BeginsAs μ t e x (Alive' names at l.value) (Ok begun.Itself)
-  begin_live {at} {t} {x} l names h e N = by (h e N)
-    where
-      by : {t : Term} → Opens μ t e x (Ok (opened.Live l)) → BeginsAs μ t e x (Alive' names at l.value) (Ok begun.Itself)
-      by {t} (opens same R) = subst (λ (v : Live). BeginsAs μ t e x (Alive' names at v) (Ok begun.Itself)) (sym same) (begins_itself (live_prepared N R))
+  pub begin_switch : {at : _} {t : Term} {e : Environment} {x : Data} (k : Rc Switch Global) (names : Env) → IsNames μ names e → Opens μ t e x (Ok (opened.Switch k))
+      → Prepared μ (Watching' names at k.value.form k.value.running k.value.pattern k.value.body) (closure t e) x []
+  begin_switch {at} {t} {e} {x} k names N (opens_watching same W) = subst (λ (k : Switch). Prepared μ (Watching' names at k.form k.running k.pattern k.body) (closure t e) x []) (sym same) (switch_prepared N W)
 
-  pub begin_switch : {at : _} {t : Term} {x : Data} (k : Rc Switch Global) (names : Env) → ((e : Environment) → IsNames μ names e → Opens μ t e x (Ok (opened.Switch k))) → (e : Environment) → IsNames μ names e
-      → BeginsAs μ t e x (Watching' names at k.value.form k.value.running k.value.pattern k.value.body) (Ok begun.Itself)
-  begin_switch {at} {t} {x} k names h e N = by (h e N)
-    where
-      by : {t : Term} → Opens μ t e x (Ok (opened.Switch k)) → BeginsAs μ t e x (Watching' names at k.value.form k.value.running k.value.pattern k.value.body) (Ok begun.Itself)
-      by {t} (opens_watching same W) = subst (λ (k : Switch). BeginsAs μ t e x (Watching' names at k.form k.running k.pattern k.body) (Ok begun.Itself)) (sym same) (begins_itself (switch_prepared N W))
+  pub begin_continuing : {at : _} {t : Term} {e : Environment} {x : Data} (k : Rc Continuation Global) (names : Env) → IsNames μ names e → Opens μ t e x (Ok (opened.Continuation k))
+      → Prepared μ (Continuation' names at k.value.shown k.value.first k.value.source k.value.before k.value.observer k.value.name k.value.pattern k.value.body) (closure t e) x []
+  begin_continuing {at} {t} {e} {x} k names N (opens_continuing same W) =
+      subst (λ (k : Continuation). Prepared μ (Continuation' names at k.shown k.first k.source k.before k.observer k.name k.pattern k.body) (closure t e) x []) (sym same) (continuing_prepared N W)
 
-  pub begin_continuing : {at : _} {t : Term} {x : Data} (k : Rc Continuation Global) (names : Env) → ((e : Environment) → IsNames μ names e → Opens μ t e x (Ok (opened.Continuation k))) → (e : Environment) → IsNames μ names e
-      → BeginsAs μ t e x (Continuation' names at k.value.shown k.value.first k.value.source k.value.before k.value.observer k.value.name k.value.pattern k.value.body) (Ok begun.Itself)
-  begin_continuing {at} {t} {x} k names h e N = by (h e N)
-    where
-      by : {t : Term} → Opens μ t e x (Ok (opened.Continuation k)) → BeginsAs μ t e x (Continuation' names at k.value.shown k.value.first k.value.source k.value.before k.value.observer k.value.name k.value.pattern k.value.body) (Ok begun.Itself)
-      by {t} (opens_continuing same W) = subst (λ (k : Continuation). BeginsAs μ t e x (Continuation' names at k.shown k.first k.source k.before k.observer k.name k.pattern k.body) (Ok begun.Itself)) (sym same) (begins_itself (continuing_prepared N W))
-
-  pub begin_gathering : {at : _} {t : Term} {x : Data} (k : Rc Gathering Global) (names : Env) → ((e : Environment) → IsNames μ names e → Opens μ t e x (Ok (opened.Gathering k))) → (e : Environment) → IsNames μ names e → BeginsAs μ t e x (Gathering' names at k.value) (Ok begun.Itself)
-  begin_gathering {at} {t} {x} k names h e N = by (h e N)
-    where
-      by : {t : Term} → Opens μ t e x (Ok (opened.Gathering k)) → BeginsAs μ t e x (Gathering' names at k.value) (Ok begun.Itself)
-      by {t} (opens_gathering same W) = subst (λ (g : Gathering). BeginsAs μ t e x (Gathering' names at g) (Ok begun.Itself)) (sym same) (begins_itself (gathering_prepared N W))
-
-  pub begin_referred : {t : Term} {x : Data} (a : State) (names : Env) → ((e : Environment) → IsNames μ names e → Opens μ t e x (Ok (opened.Running a))) → (e : Environment) → IsNames μ names e → BeginsAs μ t e x a (Ok begun.Referred)
-  begin_referred {x = x} a names h e N = by (h e N)
-    where
-      by : {t : Term} → Opens μ t e x (Ok (opened.Running a)) → BeginsAs μ t e x a (Ok begun.Referred)
-      by (opens_running same is A) = begins_referred same is A
-
-  pub begin_fails : {t : Term} {x : Data} (a : State) (f : Fault) (names : Env) → ((e : Environment) → IsNames μ names e → Opens μ t e x (Err f)) → (e : Environment) → IsNames μ names e → BeginsAs μ t e x a (Err f)
-  begin_fails a f names h e N = begins_not (h e N)
-
-  pub begin_memory : {t : Term} {e : Environment} {x : Data} (a : State) (r : Result Begun Fault) → IsErrAnd r (λ e. e ≡ Memory) → BeginsAs μ t e x a r
-  begin_memory a (Ok b) h = absurd h
-  begin_memory {t} {e} {x} a (Err g) h = subst (λ (f : Fault). BeginsAs μ t e x a (Err f)) (sym h) (begins_not opens_without_memory)
+  pub begin_gathering : {at : _} {t : Term} {e : Environment} {x : Data} (k : Rc Gathering Global) (names : Env) → IsNames μ names e → Opens μ t e x (Ok (opened.Gathering k)) → Prepared μ (Gathering' names at k.value) (closure t e) x []
+  begin_gathering {at} {t} {e} {x} k names N (opens_gathering same W) = subst (λ (g : Gathering). Prepared μ (Gathering' names at g) (closure t e) x []) (sym same) (gathering_prepared N W)
 
   -- ## Stages
 

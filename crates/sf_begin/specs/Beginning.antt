@@ -1,5 +1,5 @@
 -- What a part is before its first sample, and when a state is prepared for a sample.
-use Rattle.std.specs.Prelude.{◌≡◌, ℕ, Bool, true, false, List, [], ◌∷◌, Result, Ok, Err}
+use Rattle.std.specs.Prelude.{◌≡◌, ◌≢◌, ℕ, Bool, true, false, List, [], ◌∷◌, length, Result, Ok, Err}
 use Rattle.std.specs.declared.rc.Rc.{Rc}
 use Rattle.std.specs.declared.alloc.Global.{Global}
 use Rattle.sf_value.specs.Values.{Data}
@@ -10,13 +10,16 @@ use Rattle.sf_expr.specs.declared.exprs.NameId.{NameId}
 use Rattle.sf_expr.specs.declared.exprs.PatternId.{PatternId}
 use Rattle.sf_expr.specs.Arena.{name_at}
 use Rattle.sf_expr.specs.Evaluation.{Evaluated, answer, failed}
+use Rattle.sf_term.specs.declared.form.Join.TheVariants.{InParallel}
 use Rattle.sf_term.specs.declared.form.Observation.{Observation}
 use Rattle.sf_term.specs.declared.form.Switching.{Switching}
-use Rattle.sf_term.specs.Trees.{Term, Reference, reference}
+use Rattle.sf_term.specs.Trees.{Term}
 use Rattle.sf_mean.specs.Lives.{step, Life, Process, closure, Environment}
-use Rattle.sf_mean.specs.Meaning.{Network, faulted, entered_cost, argued, referred, make, Gives}
+use Rattle.sf_mean.specs.Meaning.{Network, faulted, entered_cost, argued, make, Gives}
 use Rattle.sf_law.specs.declared.node.PlanId.{PlanId}
 use Rattle.sf_law.specs.declared.node.PlanArgument.{PlanArgument}
+use Rattle.sf_law.specs.declared.node.PlanNode.{PlanNode}
+use Rattle.sf_law.specs.declared.node.PlanNode.TheVariants as nodes
 use Rattle.sf_law.specs.Headers.{ParameterHeader}
 use Rattle.sf_law.specs.Arena.{plan_tree, plan_expressions, plan_binding, plan_arguments}
 use Rattle.sf_prim.specs.declared.prim_state.PrimState.{PrimState}
@@ -33,8 +36,16 @@ use Rattle.sf_state.specs.Standing.{IsNames, AreGiven, Recalls, Stands, Waits, W
 use Rattle.sf_state.specs.Machine.{Machine, machine_network}
 use Rattle.sf_begin.specs.declared.opening.Opened.{Opened}
 use Rattle.sf_begin.specs.declared.opening.Opened.TheVariants as opened
-use Rattle.sf_begin.specs.declared.opening.Begun.{Begun}
-use Rattle.sf_begin.specs.declared.opening.Begun.TheVariants as begun
+
+-- a node has no first sample of its own, so it begins as itself: no primitive, call or process of a name, and no two parts in
+-- a row or on one input
+abbrev pub OpensItself : PlanNode → Type 0
+OpensItself (nodes.Primitive q) = ⊥
+OpensItself (nodes.Joined j a b) = j ≡ InParallel
+OpensItself (nodes.Pipeline v) = length v.items ≢ 2
+OpensItself (nodes.Call k g v) = ⊥
+OpensItself (nodes.Started w k) = ⊥
+OpensItself _ = Unit {0}
 
 -- A state is prepared for the next step of a process after a life, before its first sample too: the process that it was made
 -- of, and not one that it took over from; x is the input of the first step, past or to come.
@@ -77,20 +88,16 @@ WrapsAtFirst n t e x part r = Makes (λ w m. Wraps n w t e m [] part []) (make n
 
 -- a part before its first sample, which has the input x; or the fault of its constants
 pub data Opens (μ : Machine) (t : Term) (e : Environment) (x : Data) : Result Opened Fault → Type 0 where
-  opens_primitive : {i : PrimState} → Recalls μ i (closure t e) [] → Opens μ t e x (Ok (opened.Primitive i))
   opens : {r : Rc Live Global} {l : Live} → r.value ≡ l → Ready μ l (closure t e) x [] → Opens μ t e x (Ok (opened.Live r))
   opens_watching : {r : Rc Switch Global} {s : Switch} → r.value ≡ s → Waits μ s (closure t e) [] → Opens μ t e x (Ok (opened.Switch r))
   opens_continuing : {r : Rc Continuation Global} {s : Continuation} → r.value ≡ s → WaitsContinuation μ s (closure t e) [] → Opens μ t e x (Ok (opened.Continuation r))
   opens_gathering : {r : Rc Gathering Global} {g : Gathering} → r.value ≡ g → WaitsGathered μ g (closure t e) [] → Opens μ t e x (Ok (opened.Gathering r))
-  -- what is referred to stands in the place of the term, which counts at this sample alone
-  opens_running : {a : State} {r : Reference} {P : Process} → t ≡ reference r → referred (machine_network μ) r e ≡ answer P → Stands μ a P [] → Opens μ t e x (Ok (opened.Running a))
   opens_with_fault : {f : ValueFault} → ((d : ℕ) → Gives (machine_network μ) (closure t e) (step d x ∷ []) (faulted f) (entered_cost t)) → Opens μ t e x (Err (Value f))
   opens_without_memory : Opens μ t e x (Err Memory)
 
--- a term that has begun at a first sample with the input x: itself, or what it refers to; or why it hasn't
-pub data BeginsAs (μ : Machine) (t : Term) (e : Environment) (x : Data) (a : State) : Result Begun Fault → Type 0 where
-  begins_itself : Prepared μ a (closure t e) x [] → BeginsAs μ t e x a (Ok begun.Itself)
-  begins_referred : {r : Reference} {P : Process} → t ≡ reference r → referred (machine_network μ) r e ≡ answer P → Stands μ a P [] → BeginsAs μ t e x a (Ok begun.Referred)
+-- a state of a term that has begun at a first sample with the input x, or why it hasn't
+pub data BeginsAs (μ : Machine) (t : Term) (e : Environment) (x : Data) (a : State) : Result (Unit {0}) Fault → Type 0 where
+  begins_itself : {u : Unit {0}} → Prepared μ a (closure t e) x [] → BeginsAs μ t e x a (Ok u)
   begins_not : {f : Fault} → Opens μ t e x (Err f) → BeginsAs μ t e x a (Err f)
 
 -- States of terms before their first sample.

@@ -13,5 +13,5 @@ pub use calling::{called, started};
 pub use collecting::collect;
 pub use context::{SampleContext, fault_of};
 pub use drafting::{Change, Draft, draft_of};
-pub use opening::{Begun, begin, two_of};
+pub use opening::{begin, two_of};
 pub use placing::{put, take_out};

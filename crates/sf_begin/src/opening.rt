@@ -1,105 +1,84 @@
 //! How a part begins: what its term is before its first sample.
-ghost use Rattle.std.specs.Prelude.{◌≡◌, [], ◌∷◌, false, All, IfOk, IfSome, Ok, IsTrue};
+ghost use Rattle.std.specs.Prelude.{◌≡◌, ◌≢◌, [], ◌∷◌, length, IfOk, IfSome, IfNone, OnOk, Ok, IsTrue};
 ghost use Rattle.std.specs.Prelude;
 ghost use Rattle.sf_value.specs.Values.{Data};
 ghost use Rattle.sf_func.specs.Registries.{AnswersByName};
 ghost use Rattle.sf_expr.specs.declared.exprs.ExprId.{ExprId};
 ghost use Rattle.sf_expr.specs.declared.exprs.FunctionId.{FunctionId};
-ghost use Rattle.sf_expr.specs.declared.exprs.NameId as name_ids;
 ghost use Rattle.sf_expr.specs.Arena.{stored_pattern, name_at, function_at};
 ghost use Rattle.sf_expr.specs.Patterns.{pattern_of};
 ghost use Rattle.sf_term.specs.Trees.{Term};
 ghost use Rattle.sf_term.specs.Trees;
-ghost use Rattle.sf_law.specs.Arena.{plan_tree, plan_collection, plan_asks, plan_expressions, plan_expression_at, header_at, BuildsPlan};
+ghost use Rattle.sf_law.specs.Arena.{plan_tree, plan_collection, plan_expressions, plan_expression_at, BuildsPlan};
 ghost use Rattle.sf_code.specs.Worth.{IsCodeOfFunction};
-ghost use Rattle.sf_law.specs.Entries.{IsCodedExpression, IsCodedArgument, IsCodedCollection};
-ghost use Rattle.sf_law.specs.Asking.{start_asked, arguments_asked};
+ghost use Rattle.sf_law.specs.Entries.{IsCodedExpression, IsCodedCollection};
 ghost use Rattle.sf_law.specs.declared.node.PlanId as plan_ids;
-ghost use Rattle.sf_law.specs.declared.node.PlanArgument as plan_argument_nodes;
 ghost use Rattle.sf_law.specs.declared.node.PlanNode.TheVariants as NodeOf;
-ghost use Rattle.sf_law.specs.declared.plan.Plan as plans;
-ghost use Rattle.sf_mean.specs.Lives.{Environment};
+ghost use Rattle.sf_mean.specs.Lives.{Environment, closure};
 ghost use Rattle.sf_state.specs.Standing.{AreJoined, IsNames};
 ghost use Rattle.sf_state.specs.Machine.{Machine, machine, machine_network};
-ghost use Rattle.sf_begin.specs.Beginning.{Opens, WrapsAtFirst, BeginsAs, AllBegin, is_awake};
+ghost use Rattle.sf_begin.specs.Beginning.{OpensItself, Prepared, Opens, WrapsAtFirst, BeginsAs, AllBegin, is_awake};
 ghost use Rattle.sf_begin.specs.Contexts.{context_machine, plan_in};
 
-use crate::calling::{called, started};
 use crate::collecting::collect;
 use crate::context::{SampleContext, constant_in, fault_of, made_in};
 use crate::wrapping::{on_side, with_head};
 use sf_code::OpenCode;
-use sf_expr::NameId;
 use sf_func::Holds;
 use sf_law::{
-    Plan, PlanArgument, PlanCollection, PlanContinuation, PlanEditing, PlanId, PlanNode,
-    PlanPrimitive, PlanReleasing, PlanSwitch, TemplateId,
+    Plan, PlanCollection, PlanContinuation, PlanEditing, PlanId, PlanNode, PlanReleasing,
+    PlanSwitch,
 };
-use sf_prim::PrimState;
 use sf_state::{
-    Continuation, Editing, Env, Gathering, Live, NamesIn, Process, Releasing, State, Switch, Wrap,
+    Continuation, Editing, Env, Gathering, Live, Process, Releasing, State, Switch, Wrap,
 };
-use sf_term::{Heading, Join, Start};
+use sf_term::{Heading, Join};
 use sf_value::{Fault, Value};
 use std::alloc::{AllocError, Global};
 use std::rc::Rc;
 
-/// What a part that begins has become.
-#[derive(Clone, Copy, Debug, PartialEq, Eq)]
-pub enum Begun {
-    /// Itself, prepared for its first sample.
-    Itself,
-    /// What it refers to.
-    Referred,
-}
-
-/// Puts a term before its first sample, on this input, with the names around it, in place of a state, and says what it has
-/// become. The error is the first fault of its constants, or want of memory.
+/// Puts the term of a node before its first sample, on this input, with the names around it, in place of a state. The error is
+/// the first fault of its constants, or want of memory.
 #[cold]
 #[inline(never)]
 pub fn begin<R: Holds>(
     context: &SampleContext<R>,
     state: &mut State,
-    term: PlanId,
+    node: &PlanNode,
     names: Env,
     input: &Value,
-) -> Result<Begun, Fault>
-    ensures begins { (e : Environment) → IsNames (context_machine R.answers context.now) names e →
-        BeginsAs (context_machine R.answers context.now) (plan_tree (plan_in context.now) term) e input.now state.new result }
-    ensures awake { IfOk result (λ b. b ≡ Begun.Itself → IsTrue (is_awake state.new)) }
+) -> Result<(), Fault>
+    requires { OpensItself node.now }
+    ensures begins { (t : Term) (e : Environment) → BuildsPlan (plan_in context.now) node.now t → IsNames (context_machine R.answers context.now) names e →
+        BeginsAs (context_machine R.answers context.now) t e input.now state.new result }
+    ensures awake { OnOk result (IsTrue (is_awake state.new)) }
 {
-    match open(context, term, &names, input) {
+    match open(context, node, &names, input) {
         Ok(opened) => {
-            let (next, begun) = prepared(opened, names);
-            state.put(next);
-            Ok(begun)
+            state.put(prepared(opened, names));
+            Ok(())
         }
         Err(fault) => Err(fault),
     }
 }
 
 // A part that is opened, as a state that is prepared for its first sample, with the names around it.
-fn prepared(opened: Opened, names: Env) -> (State, Begun)
-    ensures begins { (μ : Machine) (u : Term) (x : Data) → ((e : Environment) → IsNames μ names e → Opens μ u e x (Ok opened)) →
-        (e : Environment) → IsNames μ names e → BeginsAs μ u e x result.0 (Ok result.1) }
-    ensures awake { result.1 ≡ Begun.Itself → IsTrue (is_awake result.0) }
+fn prepared(opened: Opened, names: Env) -> State
+    ensures begins { (μ : Machine) (t : Term) (e : Environment) (x : Data) → IsNames μ names e → Opens μ t e x (Ok opened) → Prepared μ result (closure t e) x [] }
+    ensures awake { IsTrue (is_awake result) }
 {
     match opened {
-        Opened::Primitive(prim) => (State::Primitive(prim), Begun::Itself),
-        Opened::Live(node) => (State::Live(names, node), Begun::Itself),
-        Opened::Switch(watching) => (State::Switch(names, watching), Begun::Itself),
-        Opened::Continuation(kept) => (State::Continuation(names, kept), Begun::Itself),
-        Opened::Gathering(members) => (State::Gathering(names, members), Begun::Itself),
-        Opened::Running(process) => (process, Begun::Referred),
+        Opened::Live(node) => State::Live(names, node),
+        Opened::Switch(watching) => State::Switch(names, watching),
+        Opened::Continuation(kept) => State::Continuation(names, kept),
+        Opened::Gathering(members) => State::Gathering(names, members),
     }
 }
 
 /// A part before its first sample.
 #[derive(Drop)]
 pub(crate) enum Opened {
-    /// A primitive.
-    Primitive(PrimState),
-    /// Another one that goes on as it is.
+    /// One that goes on as it is.
     Live(Rc<Live>),
     /// A switch.
     Switch(Rc<Switch>),
@@ -107,25 +86,23 @@ pub(crate) enum Opened {
     Continuation(Rc<Continuation>),
     /// Members that wait for an event.
     Gathering(Rc<Gathering>),
-    /// What is referred to, which stands in the place of its name or call.
-    Running(State),
 }
 
-// A term before its first sample, on this input, with the names around it. Each group of forms opens in a function of its own,
-// which makes room for its own values alone.
+// The term of a node before its first sample, on this input, with the names around it. Each group of forms opens in a function
+// of its own, which makes room for its own values alone.
 fn open<R: Holds>(
     context: &SampleContext<R>,
-    term: PlanId,
+    node: &PlanNode,
     names: &Env,
     input: &Value,
 ) -> Result<Opened, Fault>
-    ensures { (e : Environment) → IsNames (context_machine R.answers context.now) names.now e →
-        Opens (context_machine R.answers context.now) (plan_tree (plan_in context.now) term) e input.now result }
+    requires { OpensItself node.now }
+    ensures { (t : Term) → BuildsPlan (plan_in context.now) node.now t → (e : Environment) → IsNames (context_machine R.answers context.now) names.now e →
+        Opens (context_machine R.answers context.now) t e input.now result }
 {
-    match context.plan.node(term) {
-        PlanNode::Primitive(primitive) => open_primitive(context, primitive, names),
-        PlanNode::Joined(join, left, right) => {
-            joined(context.alloc, *join, *left, *right, names)
+    match node {
+        PlanNode::Joined(Join::InParallel, left, right) => {
+            in_parallel(context.alloc, *left, *right, names)
         }
         PlanNode::Sided(side, part) => wrapped(context.alloc, on_side(*side), *part, names),
         PlanNode::Headed(heading, _, code, part) => {
@@ -138,27 +115,12 @@ fn open<R: Holds>(
         PlanNode::Gathered(members) => gathered(context, members, names),
         PlanNode::Releasing(releasing) => members_under(context, releasing, names),
         PlanNode::Editing(editing) => members_edited(context, editing, names),
-        PlanNode::Started(start, name) => referred(context, *start, *name, names),
         PlanNode::Probe(name) => probe(context.alloc, name),
-        PlanNode::Call(_, template, arguments) => call(context, *template, arguments, names),
-    }
-}
-
-// A primitive before its first sample, with the names around it.
-#[inline(never)]
-fn open_primitive<R: Holds>(
-    context: &SampleContext<R>,
-    primitive: &PlanPrimitive,
-    names: &Env,
-) -> Result<Opened, Fault>
-    ensures { (t : Term) → BuildsPlan (plan_in context.now) (NodeOf.Primitive primitive.now) t → (x : Data) (e : Environment) →
-        IsNames (context_machine R.answers context.now) names.now e → Opens (context_machine R.answers context.now) t e x result }
-{
-    let plan = context.plan;
-    let around = NamesIn { plan, names };
-    match PrimState::born(context.alloc, primitive, context.functions, &around) {
-        Ok(prim) => Ok(Opened::Primitive(prim)),
-        Err(fault) => Err(fault_of(fault)),
+        // these have a first sample of their own
+        PlanNode::Primitive(_)
+        | PlanNode::Joined(..)
+        | PlanNode::Call(..)
+        | PlanNode::Started(..) => unreachable!(),
     }
 }
 
@@ -172,50 +134,11 @@ fn probe(alloc: Global, name: &Rc<String>) -> Result<Opened, Fault>
     Ok(Opened::Live(node))
 }
 
-// What a name refers to, with the names around it.
-#[inline(never)]
-fn referred<R: Holds>(
-    context: &SampleContext<R>,
-    start: Start,
-    name: NameId,
-    names: &Env,
-) -> Result<Opened, Fault>
-    requires { IsTrue (start_asked false (plan_asks (plan_in context.now) (name_at (plan_expressions (plan_in context.now)) name)) start) }
-    ensures { (t : Term) → BuildsPlan (plan_in context.now) (NodeOf.Started start name) t → (x : Data) (e : Environment) →
-        IsNames (context_machine R.answers context.now) names.now e → Opens (context_machine R.answers context.now) t e x result }
-{
-    let process = started(context.alloc, context.plan, names, start, name)?;
-    Ok(Opened::Running(process))
-}
-
-// A call of a template, with the names around it.
-#[inline(never)]
-fn call<R: Holds>(
-    context: &SampleContext<R>,
-    template: TemplateId,
-    arguments: &[PlanArgument],
-    names: &Env,
-) -> Result<Opened, Fault>
-    requires coded { All (IsCodedArgument (plan_expressions (plan_in context.now))) arguments.now }
-    requires asked { IsTrue (arguments_asked (plan_expressions (plan_in context.now)) (plan_asks (plan_in context.now)) (header_at (plan_in context.now) template).parameters arguments.now) }
-    ensures { (k : name_ids.NameId) (v : Prelude.Vec plan_argument_nodes.PlanArgument Global) (t : Term) → v.items ≡ arguments.now → BuildsPlan (plan_in context.now) (NodeOf.Call k template v) t → (x : Data) (e : Environment) →
-        IsNames (context_machine R.answers context.now) names.now e → Opens (context_machine R.answers context.now) t e x result }
-{
-    let bound = called(context, template, arguments, names)?;
-    Ok(Opened::Running(State::Unborn(Process {
-        term: context.plan.template(template).body(),
-        names: bound,
-    })))
-}
-
-// Stages before their first sample, with the names around them: two are joined, in one node.
+// Stages before their first sample, with the names around them.
 #[inline(never)]
 fn pipeline(alloc: Global, stages: &[PlanId], names: &Env) -> Result<Opened, Fault>
     ensures { (μ : Machine) (v : Prelude.Vec plan_ids.PlanId Global) (t : Term) → v.items ≡ stages.now → BuildsPlan μ.plan (NodeOf.Pipeline v) t → (x : Data) (e : Environment) → IsNames μ names.now e → Opens μ t e x result }
 {
-    if let Some((first, second)) = two_of(stages) {
-        return joined(alloc, Join::InSequence, first, second, names);
-    }
     let begun = begin_all(alloc, stages, names)?;
     let node = Rc::new(alloc, Live::Pipeline(begun))?;
     Ok(Opened::Live(node))
@@ -223,7 +146,8 @@ fn pipeline(alloc: Global, stages: &[PlanId], names: &Env) -> Result<Opened, Fau
 
 /// The stages, where they are two.
 pub fn two_of(stages: &[PlanId]) -> Option<(PlanId, PlanId)>
-    ensures { IfSome result (λ s. stages.now ≡ s.0 ∷ s.1 ∷ []) }
+    ensures present { IfSome result (λ s. stages.now ≡ s.0 ∷ s.1 ∷ []) }
+    ensures absent { IfNone result (length stages.now ≢ 2) }
 {
     match stages {
         [first, second] => Some((*first, *second)),
@@ -231,16 +155,10 @@ pub fn two_of(stages: &[PlanId]) -> Option<(PlanId, PlanId)>
     }
 }
 
-// Two parts joined, before their first sample, with the names around them.
+// Two parts side by side, before their first sample, with the names around them.
 #[inline(never)]
-fn joined(
-    alloc: Global,
-    join: Join,
-    left: PlanId,
-    right: PlanId,
-    names: &Env,
-) -> Result<Opened, Fault>
-    ensures { (μ : Machine) (t : Term) → AreJoined join (plan_tree μ.plan left) (plan_tree μ.plan right) t → (x : Data) (e : Environment) →
+fn in_parallel(alloc: Global, left: PlanId, right: PlanId, names: &Env) -> Result<Opened, Fault>
+    ensures { (μ : Machine) (t : Term) → AreJoined Join.InParallel (plan_tree μ.plan left) (plan_tree μ.plan right) t → (x : Data) (e : Environment) →
         IsNames μ names.now e → Opens μ t e x result }
 {
     let one = names.share()?;
@@ -253,7 +171,7 @@ fn joined(
         term: right,
         names: two,
     });
-    let node = Rc::new(alloc, Live::Join(join, first, second))?;
+    let node = Rc::new(alloc, Live::Join(Join::InParallel, first, second))?;
     Ok(Opened::Live(node))
 }
 

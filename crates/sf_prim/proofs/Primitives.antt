@@ -11,7 +11,10 @@ use Rattle.sf_expr.specs.Expressions.{Expression, Function}
 use Rattle.sf_expr.specs.Evaluation.{Evaluated, Scope, scope_functions, answer, failed, ◌>>=◌, eval, apply}
 use Rattle.sf_code.specs.declared.open.OpenCode.{OpenCode}
 use Rattle.sf_code.specs.declared.open.Closure.{Closure}
-use Rattle.sf_code.specs.Worth.{AnswersAsFunction, IsClosureOf}
+use Rattle.sf_expr.specs.declared.exprs.Exprs.{Exprs}
+use Rattle.sf_code.specs.CodeView.{code_of}
+use Rattle.sf_code.specs.Running.{run}
+use Rattle.sf_code.specs.Worth.{AnswersAsFunction, IsClosureOf, IsCodeOfFunction, frame_around}
 use Rattle.sf_operator.specs.Outcomes.{tested}
 use Rattle.sf_operator.specs.Operations.{payload_or}
 use Rattle.sf_operator.specs.Answers.{Evaluates, EvaluatesAs}
@@ -67,6 +70,11 @@ begins_exit sc k e f r h g = exit_so sc (with_value k e) f r h (constant_fails s
 pub timed_exit : (sc : Scope) (k : Timing) (q : ℤ) (e : Expression) (f : EvalFault) (r : Result PrimState EvalFault)
     → IsErrAnd r (λ e. e ≡ f) → Evaluates (Err f) (eval e sc) → Begins sc (timed k q e) r
 timed_exit sc k q e f r h g = exit_so sc (timed k q e) f r h (constant_fails sc (timed k q e) e (λ s v. answer (timed_formula k q v s [])) (λ s. refl) f g)
+
+-- what is left in place of a state is not looked at after a fault
+pub left_exit : {A : Type 0} (i : PrimState) (f : EvalFault) (r : Result A EvalFault) → IsErrAnd r (λ e. e ≡ f) → IsErrAnd (gift r i) (λ e. e ≡ f)
+left_exit i f (Ok a) h = absurd h
+left_exit i f (Err g) h = h
 
 -- memory runs out
 pub memory_exit : (sc : Scope) (q : Primitive) (r : Result PrimState EvalFault) → IsErrAnd r (λ e. e ≡ Memory) → Begins sc q r
@@ -137,8 +145,8 @@ pub area_goes_on : {A : Type 0} (q : Primitive) (scope : Scope) (d : ℕ) (x : D
 area_goes_on q scope d x L b c w r told kept (remembers_area is) = goes_with r w refl (told L is) (on_ok_weaker r remembers_area (kept L is))
 
 -- of an equal time it keeps the same
-pub timed_as : (sc : Scope) (i : PrimState) (k : Timing) (e : Expression) {y z : ℤ} → y ≡ z → Remembers i (timed k y e) sc [] → Remembers i (timed k z e) sc []
-timed_as sc i k e is h = subst (λ (z : ℤ). Remembers i (timed k z e) sc []) is h
+pub begins_at : (sc : Scope) (r : Result PrimState EvalFault) (k : Timing) (e : Expression) {y z : ℤ} → y ≡ z → Begins sc (timed k y e) r → Begins sc (timed k z e) r
+begins_at sc r k e is h = subst (λ (z : ℤ). Begins sc (timed k z e) r) is h
 
 -- copies of what has a time keep the same
 pub timer_follows : (t u : Box Timer Global) → ((q : ℤ) (v : Data) (L : Life) → RunsDown t.value q v L → RunsDown u.value q v L) → (q : Primitive) (scope : Scope) (L : Life) → Remembers (Timed t) q scope L → Remembers (Timed u) q scope L
@@ -331,6 +339,11 @@ pub accumulated_fails : (sc : Scope) (k : Accumulation) (e : Expression) (g : Fu
     → IsErrAnd r (λ e. e ≡ f) → Evaluates (Err f) (eval e sc) → Begins sc (accumulated k e g) r
 accumulated_fails sc k e g f r h w =
     exit_so sc (accumulated k e g) f r h (constant_fails sc (accumulated k e g) e (λ s v. accumulated_formula k g sc v s []) (λ s. refl) f w)
+
+-- code without names around it answers as its function in any scope
+pub bare_function : {s : Scope} {x : Exprs} {f : Function} (own code : Rc OpenCode Global) → own.value ≡ code.value → code.value.around ≡ None → IsCodeOfFunction x f code.value → AnswersAsFunction s f [] own.value.code
+bare_function {s} {x} {f} own code same none is =
+    rw same (record { worth = λ d. subst (λ o. run (code_of code.value.code) (d ∷ frame_around x o s) (scope_functions s) ≡ apply f d s) none (is.worth s d) })
 
 -- the same code shared keeps the same
 pub arrow_follows : (c d : Rc OpenCode Global) → d.value ≡ c.value → (q : Primitive) (scope : Scope) (L : Life) → Remembers (Arrow c) q scope L → Remembers (Arrow d) q scope L

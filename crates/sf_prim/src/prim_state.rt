@@ -4,7 +4,7 @@ ghost use Rattle.sf_func.specs.Registries.{AnswersByName};
 ghost use Rattle.sf_expr.specs.Expressions.{Expression, Function};
 ghost use Rattle.sf_expr.specs.Evaluation.{Scope, scope_functions, apply};
 ghost use Rattle.sf_code.specs.Names.{scope_with};
-ghost use Rattle.sf_code.specs.Worth.{IsCodeOfFunction, AnswersAsFunction};
+ghost use Rattle.sf_code.specs.Worth.{IsCodeOf, IsCodeOfFunction, AnswersAsFunction};
 ghost use Rattle.sf_operator.specs.Answers.{Evaluates};
 ghost use Rattle.sf_operator.specs.declared.fault.EvalFault.TheVariants.{Memory};
 ghost use Rattle.sf_delay.specs.Gifts.{gift};
@@ -18,9 +18,9 @@ use crate::time::tell_time;
 use sf_code::{Closure, Names, OpenCode, apply_in_place, evaluate_among};
 use sf_delay::{Line, Sum, Ticker, Timer, span_of};
 use sf_func::Holds;
-use sf_law::PlanPrimitive;
+use sf_law::{PlanChain, PlanPrimitive};
 use sf_operator::EvalFault;
-use sf_term::{Bare, Selection, Timing, WithValue};
+use sf_term::{Accumulation, Bare, Selection, Timing, WithValue};
 use sf_value::Value;
 use std::alloc::{AllocError, Global};
 use std::mem;
@@ -112,98 +112,195 @@ impl PrimState {
     ghost use Rattle.sf_expr.specs.Evaluation.{answer, eval};
     ghost use Rattle.sf_term.specs.Trees.{Primitive};
     ghost use Rattle.sf_term.specs.Trees;
-    ghost use Rattle.sf_law.specs.Entries.{primitive_over, IsCodedPrimitive};
+    ghost use Rattle.sf_law.specs.Entries.{primitive_over, chain_over, IsCodedPrimitive, IsCodedChain};
     ghost use Rattle.sf_mean.specs.Lives.{step, Life};
     ghost use Rattle.sf_prim.specs.Remembering.{Remembers, Begins, GoesOn};
 
-    /// A primitive before its first sample, with these names around it. Its constant is evaluated here; the error is the
-    /// first fault of that, or `Memory`.
-    pub fn born<R: Holds, N: Names>(
+    /// Puts a primitive before its first sample, with these names around it, in place of this one. Its constant is evaluated
+    /// here; the error is the first fault of that, or `Memory`.
+    #[inline(always)]
+    pub fn begin<R: Holds, N: Names>(
+        &mut self,
         alloc: Global,
         primitive: &PlanPrimitive,
         functions: &R,
         names: &N,
-    ) -> Result<PrimState, EvalFault>
+    ) -> Result<(), EvalFault>
         ensures { let x = N.expressions names.now in IsCodedPrimitive x primitive.now →
-            Begins (scope_with (N.values names.now) (R.answers functions.now)) (primitive_over x primitive.now) result }
+            Begins (scope_with (N.values names.now) (R.answers functions.now)) (primitive_over x primitive.now) (gift result self.new) }
     {
         match primitive {
-            PlanPrimitive::Bare(form) => Ok(PrimState::bare(*form)),
-            PlanPrimitive::Never(_) => Ok(PrimState::Never),
+            PlanPrimitive::Bare(form) => {
+                self.begin_bare(*form);
+                Ok(())
+            }
+            PlanPrimitive::Never(_) => {
+                *self = PrimState::Never;
+                Ok(())
+            }
             PlanPrimitive::WithValue(form, _, code) => {
-                let value = evaluate_among(alloc, code, names, functions)?;
-                Ok(PrimState::with_value(*form, value))
+                self.begin_with_value(alloc, *form, code, functions, names)
             }
             PlanPrimitive::Timed(form, time, _, code) => {
-                let value = evaluate_among(alloc, code, names, functions)?;
-                Ok(PrimState::timed(alloc, *form, *time, value)?)
+                *self = PrimState::waiting(alloc, *form, *time, code, functions, names)?;
+                Ok(())
             }
-            PlanPrimitive::Selected(form, count) => Ok(PrimState::Selected(*form, span_of(*count))),
-            PlanPrimitive::Arrow(_, code) => Ok(PrimState::arrow(alloc, code, names)?),
+            PlanPrimitive::Selected(form, count) => {
+                *self = PrimState::Selected(*form, span_of(*count));
+                Ok(())
+            }
+            PlanPrimitive::Arrow(_, code) => Ok(self.begin_arrow(alloc, code, names)?),
             PlanPrimitive::Fused(chain) => {
-                let links = links_of(alloc, chain, names)?;
-                Ok(PrimState::Fused(Rc::new(alloc, links)?))
+                *self = PrimState::linked(alloc, chain, names)?;
+                Ok(())
             }
             PlanPrimitive::Accumulated(form, _, start, _, code) => {
-                let value = evaluate_among(alloc, start, names, functions)?;
-                let closure = Closure::new(alloc, code, names)?;
-                let accumulator = Accumulator {
-                    form: *form,
-                    closure,
-                    value,
-                };
-                Ok(PrimState::Accumulated(Box::new(alloc, accumulator)?))
+                *self = PrimState::accumulated(alloc, *form, start, code, functions, names)?;
+                Ok(())
             }
         }
     }
 
-    // `arr f` with these names around it: the code alone, where it has no name around it.
-    fn arrow<N: Names>(
+    // The same of a primitive with a value, which is evaluated here. Each group of forms begins in a function of its own, which
+    // makes room for its own values alone; so below.
+    #[inline(never)]
+    fn begin_with_value<R: Holds, N: Names>(
+        &mut self,
+        alloc: Global,
+        form: WithValue,
+        code: &OpenCode,
+        functions: &R,
+        names: &N,
+    ) -> Result<(), EvalFault>
+        ensures { (e : Expression) → IsCodeOf (N.expressions names.now) e code.now →
+            Begins (scope_with (N.values names.now) (R.answers functions.now)) (Trees.with_value form e) (gift result self.new) }
+    {
+        let value = evaluate_among(alloc, code, names, functions)?;
+        self.put_value(form, value);
+        Ok(())
+    }
+
+    // A primitive with a time, which is evaluated here.
+    #[inline(never)]
+    fn waiting<R: Holds, N: Names>(
+        alloc: Global,
+        form: Timing,
+        time: i64,
+        code: &OpenCode,
+        functions: &R,
+        names: &N,
+    ) -> Result<PrimState, EvalFault>
+        ensures { (e : Expression) → IsCodeOf (N.expressions names.now) e code.now →
+            Begins (scope_with (N.values names.now) (R.answers functions.now)) (Trees.timed form time e) result }
+    {
+        let value = evaluate_among(alloc, code, names, functions)?;
+        Ok(PrimState::timed(alloc, form, time, value)?)
+    }
+
+    // The same of one with a function.
+    #[inline(never)]
+    fn accumulated<R: Holds, N: Names>(
+        alloc: Global,
+        form: Accumulation,
+        start: &OpenCode,
+        code: &Rc<OpenCode>,
+        functions: &R,
+        names: &N,
+    ) -> Result<PrimState, EvalFault>
+        ensures { (e : Expression) (f : Function) → IsCodeOf (N.expressions names.now) e start.now → IsCodeOfFunction (N.expressions names.now) f code.now.value →
+            Begins (scope_with (N.values names.now) (R.answers functions.now)) (Trees.accumulated form e f) result }
+    {
+        let value = evaluate_among(alloc, start, names, functions)?;
+        let closure = Closure::new(alloc, code, names)?;
+        let accumulator = Accumulator {
+            form,
+            closure,
+            value,
+        };
+        Ok(PrimState::Accumulated(Box::new(alloc, accumulator)?))
+    }
+
+    // Functions that are made into one, with these names around them.
+    #[inline(never)]
+    fn linked<N: Names>(
+        alloc: Global,
+        chain: &PlanChain,
+        names: &N,
+    ) -> Result<PrimState, AllocError>
+        ensures { let x = N.expressions names.now in IsCodedChain x chain.now → IfOk result (λ prim. (φ : AnswersByName) →
+            Remembers prim (Trees.fused (chain_over x chain.now)) (scope_with (N.values names.now) φ) []) }
+    {
+        let links = links_of(alloc, chain, names)?;
+        Ok(PrimState::Fused(Rc::new(alloc, links)?))
+    }
+
+    // Puts `arr f` in place of this one: the code alone, where it has no name around it.
+    #[inline(always)]
+    fn begin_arrow<N: Names>(
+        &mut self,
+        alloc: Global,
+        code: &Rc<OpenCode>,
+        names: &N,
+    ) -> Result<(), AllocError>
+        ensures kept { OnOk result ((φ : AnswersByName) (f : Function) → IsCodeOfFunction (N.expressions names.now) f code.now.value → Remembers self.new (Trees.arrow f) (scope_with (N.values names.now) φ) []) }
+        ensures bare { code.now.value.around ≡ None → OnOk result ((own : Rc OpenCode Global) × (self.new ≡ PrimState.Arrow own)) }
+    {
+        match &code.around {
+            None => {
+                let own = code.clone()?;
+                *self = PrimState::Arrow(own);
+            }
+            Some(_) => *self = PrimState::closed(alloc, code, names)?,
+        }
+        Ok(())
+    }
+
+    // `arr f` with the values of the names around it.
+    #[inline(never)]
+    fn closed<N: Names>(
         alloc: Global,
         code: &Rc<OpenCode>,
         names: &N,
     ) -> Result<PrimState, AllocError>
-        ensures kept { IfOk result (λ prim. (φ : AnswersByName) (f : Function) → IsCodeOfFunction (N.expressions names.now) f code.now.value → Remembers prim (Trees.arrow f) (scope_with (N.values names.now) φ) []) }
-        ensures bare { code.now.value.around ≡ None → IfOk result (λ prim. (own : Rc OpenCode Global) × (prim ≡ PrimState.Arrow own)) }
+        ensures { IfOk result (λ prim. (φ : AnswersByName) (f : Function) → IsCodeOfFunction (N.expressions names.now) f code.now.value → Remembers prim (Trees.arrow f) (scope_with (N.values names.now) φ) []) }
     {
         let closure = Closure::new(alloc, code, names)?;
-        match closure.around {
-            None => Ok(PrimState::Arrow(closure.function)),
-            Some(_) => Ok(PrimState::Closed(Rc::new(alloc, closure)?)),
-        }
+        Ok(PrimState::Closed(Rc::new(alloc, closure)?))
     }
 
-    // A primitive without constants, before its first sample.
-    fn bare(form: Bare) -> PrimState
-        ensures { (s : Scope) → Remembers result (Trees.bare form) s [] }
+    // Puts a primitive without constants, before its first sample, in place of this one.
+    #[inline(always)]
+    fn begin_bare(&mut self, form: Bare)
+        ensures { (s : Scope) → Remembers self.new (Trees.bare form) s [] }
     {
         match form {
-            Bare::Identity => PrimState::Identity,
-            Bare::LocalTime => PrimState::Clock(None),
-            Bare::Integral => PrimState::Area(Sum::born()),
-            Bare::Edge => PrimState::Edge(false),
-            Bare::NotYet => PrimState::NotYet(false),
-            Bare::Once => PrimState::Selected(Selection::TakeEvents, 1),
-            Bare::Count => PrimState::Count(0),
+            Bare::Identity => *self = PrimState::Identity,
+            Bare::LocalTime => *self = PrimState::Clock(None),
+            Bare::Integral => *self = PrimState::Area(Sum::born()),
+            Bare::Edge => *self = PrimState::Edge(false),
+            Bare::NotYet => *self = PrimState::NotYet(false),
+            Bare::Once => *self = PrimState::Selected(Selection::TakeEvents, 1),
+            Bare::Count => *self = PrimState::Count(0),
             // it makes no sense at the first sample
-            Bare::Pre => PrimState::Previous(Value::int(0)),
+            Bare::Pre => *self = PrimState::Previous(Value::int(0)),
         }
     }
 
-    // A primitive with its value, before its first sample.
-    fn with_value(form: WithValue, value: Value) -> PrimState
-        ensures { (s : Scope) (e : Expression) → eval e s ≡ answer value → Remembers result (Trees.with_value form e) s [] }
+    // Puts a primitive with its value, before its first sample, in place of this one.
+    #[inline(always)]
+    fn put_value(&mut self, form: WithValue, value: Value)
+        ensures { (s : Scope) (e : Expression) → eval e s ≡ answer value → Remembers self.new (Trees.with_value form e) s [] }
     {
         match form {
-            WithValue::Constant => PrimState::Constant(value),
-            WithValue::Initially => PrimState::Initially(value),
-            WithValue::InitialPre => PrimState::Previous(value),
-            WithValue::InitializedPre => PrimState::Previous(value),
-            WithValue::Now => PrimState::Now(value),
-            WithValue::InitialEdge => PrimState::Edge(is_low(&value)),
-            WithValue::EdgeTag => PrimState::Tagged(false, value),
-            WithValue::Hold => PrimState::Hold(value),
-            WithValue::DelayedHold => PrimState::DelayedHold(value),
+            WithValue::Constant => *self = PrimState::Constant(value),
+            WithValue::Initially => *self = PrimState::Initially(value),
+            WithValue::InitialPre => *self = PrimState::Previous(value),
+            WithValue::InitializedPre => *self = PrimState::Previous(value),
+            WithValue::Now => *self = PrimState::Now(value),
+            WithValue::InitialEdge => *self = PrimState::Edge(is_low(&value)),
+            WithValue::EdgeTag => *self = PrimState::Tagged(false, value),
+            WithValue::Hold => *self = PrimState::Hold(value),
+            WithValue::DelayedHold => *self = PrimState::DelayedHold(value),
         }
     }
 

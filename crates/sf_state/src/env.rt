@@ -482,6 +482,9 @@ impl Env {
             Env::Bound(binding) => {
                 let binder = Binder::Pattern(binding.pattern);
                 if mentioned.is_bound_by(plan, binder) {
+                    if binding.around.is_empty() {
+                        return Ok(None);
+                    }
                     let left = mentioned.outside(alloc, plan, binder)?;
                     let around = binding.around.fewer(alloc, plan, &left)?;
                     binding.over(alloc, around)
@@ -493,6 +496,9 @@ impl Env {
             Env::Running(running) => {
                 let binder = Binder::Name(running.name);
                 if mentioned.is_bound_by(plan, binder) {
+                    if running.around.is_empty() {
+                        return Ok(None);
+                    }
                     let left = mentioned.outside(alloc, plan, binder)?;
                     let around = running.around.fewer(alloc, plan, &left)?;
                     running.over(alloc, around)
@@ -504,6 +510,9 @@ impl Env {
             Env::Collected(collected) => {
                 let binder = Binder::Name(collected.name);
                 if mentioned.is_bound_by(plan, binder) {
+                    if collected.around.is_empty() {
+                        return Ok(None);
+                    }
                     let left = mentioned.outside(alloc, plan, binder)?;
                     let around = collected.around.fewer(alloc, plan, &left)?;
                     collected.over(alloc, around)
@@ -512,6 +521,16 @@ impl Env {
                     collected.around.or_shared(around)
                 }
             }
+        }
+    }
+
+    // Whether there are none.
+    fn is_empty(&self) -> bool
+        ensures { IsTrue result → self.now ≡ Env.Empty }
+    {
+        match self {
+            Env::Empty => true,
+            _ => false,
         }
     }
 

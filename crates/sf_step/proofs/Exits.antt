@@ -9,36 +9,25 @@ use Rattle.sf_value.specs.declared.fault.ValueFault.{ValueFault}
 use Rattle.sf_expr.specs.Evaluation.{Evaluated, answer}
 use Rattle.sf_expr.specs.Evaluation
 use Rattle.sf_term.specs.declared.form.Join.{Join}
-use Rattle.std.specs.Prelude.{Vec, map}
-use Rattle.std.specs.declared.alloc.Global.{Global}
-use Rattle.sf_expr.specs.declared.exprs.NameId.{NameId}
 use Rattle.sf_law.specs.declared.node.PlanId.{PlanId}
-use Rattle.sf_law.specs.declared.node.TemplateId.{TemplateId}
-use Rattle.sf_law.specs.declared.node.PlanArgument.{PlanArgument}
-use Rattle.sf_law.specs.declared.node.PlanNode.TheVariants.{Call as NCall}
 use Rattle.sf_term.specs.Trees.{Term}
-use Rattle.sf_law.specs.Arena.{plan_tree, plan_binding, plan_arguments, header_at, BuildsPlan}
-use Rattle.sf_mean.specs.Lives.{Step, step, Life, Process, closure, empty, Environment, first_input}
-use Rattle.sf_mean.specs.Meaning.{argued, Network, Readings, Outcome, gave, faulted, as_outcome, Cost, count, height, both_costs, over, left_life, right_life, join_value, Gives, gives, Outputs, not_begun, and_gave, of_form, Form}
+use Rattle.sf_law.specs.Arena.{plan_tree}
+use Rattle.sf_mean.specs.Lives.{Step, step, Life, Process, closure, Environment, first_input}
+use Rattle.sf_mean.specs.Meaning.{Network, Readings, Outcome, gave, faulted, as_outcome, Cost, count, height, both_costs, over, left_life, right_life, join_value, Gives, gives, Outputs, not_begun, and_gave, of_form, Form}
 use Rattle.sf_prim.specs.declared.prim_state.PrimState.{PrimState}
 use Rattle.sf_state.specs.declared.state.State.{State}
-use Rattle.sf_state.specs.declared.state.State.TheVariants.{Unborn, Primitive as SPrimitive, Live' as Alive', Switch' as Watching', Continuation', Gathering'}
+use Rattle.sf_state.specs.declared.state.State.TheVariants.{Unborn, Primitive as SPrimitive, Live' as Alive'}
 use Rattle.sf_state.specs.declared.state.Live.{Live}
-use Rattle.sf_state.specs.declared.state.Switch.{Switch}
-use Rattle.sf_state.specs.declared.state.Continuation.{Continuation}
-use Rattle.sf_state.specs.declared.state.Gathering.{Gathering}
 use Rattle.sf_state.specs.declared.state.Live.TheVariants.{Join as LJoin, Wrap as LWrap}
 use Rattle.sf_state.specs.declared.state.Wrap.{Wrap}
 use Rattle.sf_state.specs.Standing.{gathering_on, was_frozen, closed_over, was_alike, Stands, itself, StandsItself, unborn, recalling, alive, watching, continuing_on, Settles, settles, Ready, ready, lives_join, lives_wrap, is_closure, IsNames, AreJoined}
 use Rattle.sf_state.specs.declared.env.Env.{Env}
 use Rattle.sf_state.specs.Machine.{Machine, machine_network}
-use Rattle.sf_begin.specs.declared.opening.Begun.TheVariants as begun
 use Rattle.sf_meter.specs.declared.meter.Meter.{Meter}
 use Rattle.sf_meter.specs.Meters.{entered_of, meter_height, readings, Ticks, Ticked, ticked, refused, left_or}
 use Rattle.sf_step.specs.Answering.{Rel, Spent, Within, StopsFor, faults, large, memory, Answers, answers, fails, PrimSteps, LiveSteps, TermSteps, FirstSteps}
-use Rattle.sf_begin.proofs.Arguments.{called_so, called_fails}
-use Rattle.sf_begin.proofs.Begins.{begin_referred, begin_fails, open_call, open_call_fails, join_ready}
-use Rattle.sf_begin.specs.Beginning.{Makes, is_awake, Prepared, primitive_prepared, live_prepared, switch_prepared, continuing_prepared, BeginsAs, begins_itself, gathering_prepared}
+use Rattle.sf_begin.proofs.Begins.{join_ready}
+use Rattle.sf_begin.specs.Beginning.{is_awake, Prepared, primitive_prepared, live_prepared, switch_prepared, continuing_prepared, BeginsAs, begins_itself, gathering_prepared}
 use Rattle.sf_step.proofs.Costs.{memory_exit, counts, begin_stops}
 use Rattle.sf_step.proofs.First.{recalled}
 use Rattle.sf_step.specs.Sampling.{PartSteps, StateSteps, CountedSteps, Waiting, WaitingSteps, GivesApart}
@@ -46,7 +35,7 @@ use Rattle.sf_step.proofs.Parts.{counted, then_on, with_change, over_spent, both
 use Rattle.sf_step.proofs.Forms.{left_and, right_and, single_gives, gave_outputs, form_alike, join_alike, wrap_alike, wraps_on}
 use Rattle.sf_step.specs.Routing.{left_input, right_input, part_input, wrap_value, kept_after}
 use Rattle.sf_step.specs.Stepping.{EachCostsAtLeast, Steps, stepped, faulted_so, too_large, no_memory}
-use Rattle.sf_step.proofs.SwitchTurns.{lift_steps, took_answers, referred_begins}
+use Rattle.sf_step.proofs.SwitchTurns.{lift_steps, took_answers}
 
 -- a tick that went well
 pub ticked_by : {m n : Meter} {depth inside : ℕ} → Ticked m n depth (Ok inside) → Ticks m n depth inside
@@ -232,7 +221,7 @@ module _ (μ : Machine) where
 
   -- ## The first sample
 
-  begun_prepared : {a : State} {t : Term} {e : Environment} {x : Data} → BeginsAs μ t e x a (Ok begun.Itself) → Prepared μ a (closure t e) x []
+  begun_prepared : {a : State} {t : Term} {e : Environment} {x : Data} {u : Unit {0}} → BeginsAs μ t e x a (Ok u) → Prepared μ a (closure t e) x []
   begun_prepared (begins_itself A) = A
 
   module _ {m n : Meter} {depth inside : ℕ} (term : PlanId) (names : Env) (d : ℕ) (x : Data) (t : Ticks m n depth inside) where
@@ -254,13 +243,9 @@ module _ (μ : Machine) where
     term_counted r hs = starts r (λ e N. hs m depth t e N)
 
   module _ (t : Term) (names : Env) (d : ℕ) (x : Data) {n n' : Meter} {inside : ℕ} where
-    -- a term steps as what it has become
-    pub begun_steps : (a : State) (r : Result (State × Data) Fault) → ((e : Environment) → IsNames μ names e → BeginsAs μ t e x a (Ok begun.Itself)) → CountedSteps μ a (step d x) r n n' inside → TermSteps μ t names (step d x) r n n' inside
+    -- a term steps as it has begun
+    pub begun_steps : {u : Unit {0}} (a : State) (r : Result (State × Data) Fault) → ((e : Environment) → IsNames μ names e → BeginsAs μ t e x a (Ok u)) → CountedSteps μ a (step d x) r n n' inside → TermSteps μ t names (step d x) r n n' inside
     begun_steps a r ho hs m depth T e N = hs m depth T _ [] (begun_prepared (ho e N))
-
-    -- or as what it refers to
-    pub begun_runs : (a : State) (r : Result (State × Data) Fault) → ((e : Environment) → IsNames μ names e → BeginsAs μ t e x a (Ok begun.Referred)) → StateSteps μ a (step d x) r n n' inside → TermSteps μ t names (step d x) r n n' inside
-    begun_runs a r ho hs m depth T e N = referred_begins μ T (ho e N) hs
 
     -- or has the fault of what has not begun
     pub begun_fails : entered_of n' ≡ entered_of n → meter_height n' ≡ meter_height n → (a : State) (f g : Fault) → g ≡ f → ((e : Environment) → IsNames μ names e → BeginsAs μ t e x a (Err f)) → TermSteps μ t names (step d x) (Err g) n n' inside
@@ -269,19 +254,6 @@ module _ (μ : Machine) where
     -- memory runs out after it was stepped
     pub late_term : {n'' : Meter} {a : State} {v : Data} {f : Fault} → TermSteps μ t names (step d x) (Ok (a, v)) n n' inside → entered_of n'' ≡ entered_of n' → meter_height n'' ≡ meter_height n' → f ≡ Memory → TermSteps μ t names (step d x) (Err f) n n'' inside
     late_term hs en hn ef m depth T e N = let w = answered (hs m depth T e N) in memory_exit ef (spent_within (single_gives net (closure t e) _) w.given w.spent en hn)
-
-  -- a call steps as its template, among the names of its parameters
-  abbrev pub IsArgued : TemplateId → Vec PlanArgument Global → Env → Result Env Fault → Type 0
-  IsArgued g v names r = (e : Environment) → IsNames μ names e → Makes (IsNames μ) (argued μ.answers (map (plan_binding μ.plan) (header_at μ.plan g).parameters) (plan_arguments μ.plan v.items) e empty) r
-
-  module _ (k : NameId) (g : TemplateId) (v : Vec PlanArgument Global) (t : Term) (names : Env) (B : BuildsPlan μ.plan (NCall k g v) t) (d : ℕ) (x : Data) {n n' : Meter} {inside : ℕ} where
-    pub call_steps : (bound : Env) (body : PlanId) (r : Result (State × Data) Fault) → body ≡ (header_at μ.plan g).body → IsArgued g v names (Ok bound) → StateSteps μ (Unborn (closed_over body bound)) (step d x) r n n' inside → TermSteps μ t names (step d x) r n n' inside
-    call_steps bound body r same made = begun_runs t names d x (Unborn (closed_over body bound)) r
-        (begin_referred μ (Unborn (closed_over body bound)) names (open_call μ k g v t names (Unborn (closed_over body bound)) B (λ e N. called_so μ (header_at μ.plan g) v.items e body bound same (made e N)) x))
-
-    pub call_fails : entered_of n' ≡ entered_of n → meter_height n' ≡ meter_height n → (a : State) (f h : Fault) → h ≡ f → IsArgued g v names (Err f) → TermSteps μ t names (step d x) (Err h) n n' inside
-    call_fails en hn a f h eh made = begun_fails t names d x en hn a f h eh
-        (begin_fails μ a f names (open_call_fails μ k g v t names f B (λ e N. called_fails μ (header_at μ.plan g) v.items e f (made e N)) x))
 
   -- two parts that are joined, before their first sample, in one node
   abbrev both_unborn : Join → PlanId → PlanId → Env → Live

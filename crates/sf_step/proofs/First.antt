@@ -1,11 +1,11 @@
 -- The first sample of a primitive.
-use Rattle.std.proofs.Common.{◌≡◌, ℕ, [], ◌∷◌, Result, Ok, Err, sym, ap, ◌∙◌, subst}
+use Rattle.std.proofs.Common.{◌≡◌, ℕ, [], ◌∷◌, Result, Ok, Err, sym, subst}
 use Rattle.sf_value.specs.Values.{Data}
 use Rattle.sf_value.specs.declared.fault.Fault.{Fault}
 use Rattle.sf_operator.specs.declared.fault.EvalFault.{EvalFault}
 use Rattle.sf_code.specs.Names.{scope_with}
 use Rattle.sf_term.specs.Trees.{Term}
-use Rattle.sf_mean.specs.Lives.{Step, step, Life, Process, closure, first_input}
+use Rattle.sf_mean.specs.Lives.{Step, step, Life, Process, closure}
 use Rattle.sf_mean.specs.Meaning.{Gives}
 use Rattle.sf_law.specs.declared.node.PlanPrimitive.{PlanPrimitive}
 use Rattle.sf_law.specs.declared.node.PlanNode.TheVariants.{Primitive as NPrimitive}
@@ -14,7 +14,7 @@ use Rattle.sf_law.specs.Arena.{plan_expressions, BuildsPlan}
 use Rattle.sf_prim.specs.declared.prim_state.PrimState.{PrimState}
 use Rattle.sf_prim.specs.Remembering.{Begins}
 use Rattle.sf_state.specs.declared.state.State.{State}
-use Rattle.sf_state.specs.declared.state.State.TheVariants.{Unborn', Primitive as SPrimitive, Live' as Alive', Switch' as Watching', Continuation', Gathering', Frozen'}
+use Rattle.sf_state.specs.declared.state.State.TheVariants.{Primitive as SPrimitive}
 use Rattle.sf_state.specs.declared.env.Env.{Env}
 use Rattle.sf_state.specs.Names.{values_around}
 use Rattle.sf_state.specs.Standing.{Recalls, Stands, itself, recalling}
@@ -25,19 +25,6 @@ use Rattle.sf_begin.specs.Contexts.{sample_fault}
 use Rattle.sf_step.specs.Answering.{Rel, StopsFor, Answers, answers, fails, PrimSteps, FirstSteps}
 use Rattle.sf_begin.proofs.Begins.{first_recalls, open_prim_fails}
 use Rattle.sf_step.proofs.Costs.{open_stops}
-
--- a primitive that stands in a state, or else this one
-abbrev primitive_or : PrimState → State → PrimState
-primitive_or i (Unborn' t names) = i
-primitive_or i (SPrimitive j) = j
-primitive_or i (Alive' names at l) = i
-primitive_or i (Watching' names at w a q b) = i
-primitive_or i (Continuation' names at w t a x o k q b) = i
-primitive_or i (Gathering' names at g) = i
-primitive_or i (Frozen' at d names k) = i
-
-pub same_primitive : {a : State} {i j : PrimState} → a ≡ SPrimitive i → a ≡ SPrimitive j → j ≡ i
-same_primitive {i = i} one two = ap (primitive_or i) (sym two ∙ one)
 
 module _ (μ : Machine) where
   -- a primitive's answer is its state's
@@ -51,7 +38,7 @@ module _ (μ : Machine) where
     pub first_steps : {A E : Type 0} {n n' : Meter} (i i' : PrimState) (s : Step) (v : Data) (r : Result A E) (f : Fault)
         → BuildsPlan μ.plan (NPrimitive q) t → (IsCodedPrimitive (plan_expressions μ.plan) q → Begins (scope_with (values_around μ.plan names) μ.answers) (primitive_over (plan_expressions μ.plan) q) (Ok i))
         → PrimSteps μ i s (left_or r (i', v) f) n n' → FirstSteps μ t names s (left_or r (SPrimitive i', v) f) n n'
-    first_steps i i' s v r f B h hs inside m depth T e N = recalled i' v r f (hs m depth inside T (closure t e) [] (first_recalls μ q t names i B h (first_input s []) e N))
+    first_steps i i' s v r f B h hs inside m depth T e N = recalled i' v r f (hs m depth inside T (closure t e) [] (first_recalls μ q t names i B h e N))
 
     pub first_fails : {n n' : Meter} (f : EvalFault) (g : Fault) (d : ℕ) (x : Data) → g ≡ sample_fault f → entered_of n' ≡ entered_of n → meter_height n' ≡ meter_height n
         → BuildsPlan μ.plan (NPrimitive q) t → (IsCodedPrimitive (plan_expressions μ.plan) q → Begins (scope_with (values_around μ.plan names) μ.answers) (primitive_over (plan_expressions μ.plan) q) (Err f))

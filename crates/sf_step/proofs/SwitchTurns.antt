@@ -23,11 +23,10 @@ use Rattle.sf_state.specs.declared.state.FrozenNode.{FrozenNode}
 use Rattle.sf_state.specs.declared.env.Env.{Env}
 use Rattle.sf_state.specs.Standing.{IsNames, Turned, fired_to, continued_to, released_to, ran, went_on, was_alike, Stands, itself, took_over, StandsItself, watching, continuing_on, gathering_on, was_frozen, frozen_state, Waits, WaitsContinuation, WaitsGathered}
 use Rattle.sf_state.specs.Machine.{Machine, machine_network}
-use Rattle.sf_begin.specs.declared.opening.Begun.TheVariants as begun
 use Rattle.sf_meter.specs.declared.meter.Meter.{Meter}
 use Rattle.sf_meter.specs.Meters.{Ticks}
 use Rattle.sf_step.specs.Answering.{Rel, StopsFor, Answers, answers, fails}
-use Rattle.sf_begin.specs.Beginning.{Prepared, switch_prepared, continuing_prepared, BeginsAs, begins_referred, gathering_prepared}
+use Rattle.sf_begin.specs.Beginning.{Prepared, switch_prepared, continuing_prepared, gathering_prepared}
 use Rattle.sf_step.specs.Sampling.{CountedSteps, PartSteps, StateSteps, Waiting, StandsFor, WaitingSteps, left_beside}
 use Rattle.sf_step.proofs.Parts.{Over, counted, Alike, over_spent, fails_alike, over_fails, answered, failed}
 use Rattle.sf_step.proofs.Forms.{gave_outputs, gives_form}
@@ -142,14 +141,10 @@ module _ (μ : Machine) where
     referred_alike : (s : Step) → Alike (Over (Gives net P (s ∷ []))) (Gives net (closure (reference c) e) (s ∷ []))
     referred_alike s = record { to = λ o k G. referred_to G; back = λ o k G. referred_from (gives_form net s [] (ap as_made is) G) }
 
-    referred_steps : {s : Step} {r : Result (State × Data) Fault} {m n n' : Meter} {depth inside : ℕ} → Ticks m n depth inside → PartSteps μ P [] s r n n' inside → PartSteps μ (closure (reference c) e) [] s r m n' depth
+    -- a reference steps as what it refers to
+    pub referred_steps : {s : Step} {r : Result (State × Data) Fault} {m n n' : Meter} {depth inside : ℕ} → Ticks m n depth inside → PartSteps μ P [] s r n n' inside → PartSteps μ (closure (reference c) e) [] s r m n' depth
     referred_steps t (answers G sp A) = let H = referred_to (counted G) in answers H (over_spent t sp) (took_over (ran is (gave_outputs net not_begun H)) A)
     referred_steps {s = s} t (fails h) = fails (fails_alike (referred_alike s) (over_fails t h))
-
-  pub referred_begins : {u : Term} {e : Environment} {a : State} {s : Step} {r : Result (State × Data) Fault} {m n n' : Meter} {depth inside : ℕ} {x : Data} → Ticks m n depth inside → BeginsAs μ u e x a (Ok begun.Referred) → StateSteps μ a s r n n' inside
-      → PartSteps μ (closure u e) [] s r m n' depth
-  referred_begins {e = e} {s = s} {r = r} {m = m} {n' = n'} {depth = depth} t (begins_referred same is A) h =
-      subst (λ u. PartSteps μ (closure u e) [] s r m n' depth) (sym same) (referred_steps is t (h _ _ A))
 
   -- ## A switch that waits
 

@@ -52,14 +52,12 @@ pub(crate) fn first_primitive<R: Holds>(
 {
     let plan = context.plan;
     let around = NamesIn { plan, names };
-    match PrimState::born(context.alloc, primitive, context.functions, &around) {
-        Ok(born) => {
-            state.put(State::Primitive(born));
-            let State::Primitive(prim) = state else {
-                unreachable!();
-            };
-            step_prim(context, prim, value, meter)
-        }
+    state.put(State::Primitive(PrimState::Identity));
+    let State::Primitive(prim) = state else {
+        unreachable!();
+    };
+    match prim.begin(context.alloc, primitive, context.functions, &around) {
+        Ok(()) => step_prim(context, prim, value, meter),
         Err(fault) => Err(meter.stop(fault_of(fault))),
     }
 }

@@ -101,9 +101,8 @@ pub(crate) fn hold_back(
     ensures held { OnOk result (before.new ≡ source.old) }
     ensures runs_on { OnOk result ((μ : Machine) (P : Process) (L : Life) → Stands μ source.old P L → Stands μ source.new P L) }
 {
-    before.renew(alloc, source)?;
     mem::swap(source, before);
-    Ok(())
+    source.renew(alloc, before)
 }
 
 /// A sample's input twice, for the observer of a switch and for its body.
@@ -123,13 +122,19 @@ pub(crate) fn beside(alloc: Global, input: Value, given: &Value) -> Result<Value
     Value::pair(alloc, input, copy)
 }
 
-/// A node of its own for a part that has lived, with these names around it. The error is a want of memory, or too many owners of one
-/// name.
+/// Puts a part that has lived, in a node of its own and with these names around it, in place of a state. The error is a want of
+/// memory, or too many owners of one name.
 #[inline(never)]
-pub(crate) fn live_among(alloc: Global, names: &Env, live: Live) -> Result<State, AllocError>
-    ensures { IfOk result (λ state. (μ : Machine) (t : Term) (e : Environment) (L : Life) → IsNames μ names.now e → Settles μ live (closure t e) L → Stands μ state (closure t e) L) }
+pub(crate) fn put_live(
+    alloc: Global,
+    names: &Env,
+    live: Live,
+    state: &mut State,
+) -> Result<(), AllocError>
+    ensures { OnOk result ((μ : Machine) (t : Term) (e : Environment) (L : Life) → IsNames μ names.now e → Settles μ live (closure t e) L → Stands μ state.new (closure t e) L) }
 {
     let around = names.share()?;
     let node = Rc::new(alloc, live)?;
-    Ok(State::Live(around, node))
+    state.put(State::Live(around, node));
+    Ok(())
 }

@@ -1,6 +1,6 @@
 //! One sample.
-ghost use Rattle.std.specs.Prelude.{◌≡◌, ◌≤◌, ◌∷◌, List, None, Some, Ok, length, false, All, Vec, IsTrue, IsFalse};
-ghost use Rattle.sf_begin.specs.Beginning.{is_awake};
+ghost use Rattle.std.specs.Prelude.{◌≡◌, ◌≢◌, ◌≤◌, ◌∷◌, List, None, Some, Ok, length, false, All, Vec, IsTrue, IsFalse};
+ghost use Rattle.sf_begin.specs.Beginning.{OpensItself, is_awake};
 ghost use Rattle.sf_mean.specs.Lives.{step, Life, Process};
 ghost use Rattle.sf_state.specs.declared.state.State as state_forms;
 ghost use Rattle.sf_state.specs.declared.state.State.TheVariants as StateOf;
@@ -9,10 +9,11 @@ ghost use Rattle.sf_state.specs.Standing.{Stands, AllFollow, AreJoined, closed_o
 ghost use Rattle.sf_term.specs.Trees.{Term};
 ghost use Rattle.sf_expr.specs.Arena.{name_at};
 ghost use Rattle.sf_expr.specs.declared.exprs.NameId as name_ids;
-ghost use Rattle.sf_law.specs.Arena.{plan_tree, plan_expressions, plan_asks, header_at, BuildsPlan};
+ghost use Rattle.sf_law.specs.Arena.{plan_tree, plan_node_at, plan_expressions, plan_asks, header_at, BuildsPlan};
 ghost use Rattle.sf_law.specs.Asking.{start_asked, arguments_asked};
 ghost use Rattle.sf_law.specs.Entries.{IsCodedArgument};
 ghost use Rattle.sf_law.specs.declared.node.PlanArgument as plan_argument_nodes;
+ghost use Rattle.sf_law.specs.declared.node.PlanPrimitive as primitive_nodes;
 ghost use Rattle.sf_law.specs.declared.node.PlanNode.TheVariants as NodeOf;
 ghost use Rattle.sf_state.specs.Machine.{machine};
 ghost use Rattle.sf_meter.specs.Meters.{kept, left_or, entered_of, meter_height, meter_fault};
@@ -26,12 +27,12 @@ ghost use Rattle.sf_step.specs.Routing.{observation_of};
 
 use crate::leaves::{first_primitive, step_prim, step_probe};
 use crate::routing::{
-    beside, copies, hold_back, live_among, payload_of, put_first, put_last, show, take_over,
+    beside, copies, hold_back, payload_of, put_first, put_last, put_live, show, take_over,
     value_and_payload,
 };
 use crate::tables::table_of;
 use crate::turning::{Noted, Turn, change_all, table_after, table_before};
-use sf_begin::{Begun, Draft, SampleContext, begin, called, collect, draft_of, started, two_of};
+use sf_begin::{Draft, SampleContext, begin, called, collect, draft_of, started, two_of};
 use sf_expr::NameId;
 use sf_func::Holds;
 use sf_law::{Plan, PlanArgument, PlanId, PlanNode, TemplateId};
@@ -228,7 +229,7 @@ fn first_step<R: Holds>(
     }
 }
 
-// The same of a term that has been counted, and whose own parts stand inside these nodes; so below.
+// The same of a term that is no primitive, has been counted, and whose own parts stand inside these nodes; so below.
 #[cycle(step)]
 #[inline(never)]
 fn first_node<R: Holds>(
@@ -238,18 +239,20 @@ fn first_node<R: Holds>(
     value: &mut Value,
     meter: &mut Meter,
 ) -> Result<(), Stop>
+    requires { (q : primitive_nodes.PlanPrimitive) → plan_node_at (plan_around around.now) term ≢ NodeOf.Primitive q }
     ensures { TermSteps (machine_around R.answers around.now) (plan_tree (plan_around around.now) term) around.now.names.now (step (dt_around around.now) value.old)
         (left_or result (state.new, value.new) (meter_fault meter.new)) meter.old meter.new around.now.inside }
 {
-    match around.context.plan.node(term) {
+    let node = around.context.plan.node(term);
+    match node {
         PlanNode::Joined(join, left, right) => match join {
             Join::InSequence => first_sequence(around, state, *left, *right, value, meter),
-            Join::InParallel => first_other(around, state, term, value, meter),
+            Join::InParallel => first_other(around, state, node, value, meter),
             Join::FannedOut => first_fan(around, state, *left, *right, value, meter),
         },
         PlanNode::Pipeline(stages) => match two_of(stages) {
             Some((left, right)) => first_sequence(around, state, left, right, value, meter),
-            None => first_other(around, state, term, value, meter),
+            None => first_other(around, state, node, value, meter),
         },
         PlanNode::Call(_, template, arguments) => {
             first_of_call(around, state, *template, arguments, value, meter)
@@ -257,28 +260,29 @@ fn first_node<R: Holds>(
         PlanNode::Started(start, name) => {
             first_of_process(around, state, *start, *name, value, meter)
         }
-        _ => first_other(around, state, term, value, meter),
+        _ => first_other(around, state, node, value, meter),
     }
 }
 
-// The same of a term of any form: it is stepped as it begins, or as what it refers to.
+// The same of the term of a node that has no first sample of its own: it begins, and is stepped then.
 #[cycle(step)]
 #[inline(never)]
 fn first_other<R: Holds>(
     around: &Around<R>,
     state: &mut State,
-    term: PlanId,
+    node: &PlanNode,
     value: &mut Value,
     meter: &mut Meter,
 ) -> Result<(), Stop>
-    ensures { TermSteps (machine_around R.answers around.now) (plan_tree (plan_around around.now) term) around.now.names.now (step (dt_around around.now) value.old)
+    requires { OpensItself node.now }
+    ensures { (t : Term) → BuildsPlan (plan_around around.now) node.now t →
+        TermSteps (machine_around R.answers around.now) t around.now.names.now (step (dt_around around.now) value.old)
         (left_or result (state.new, value.new) (meter_fault meter.new)) meter.old meter.new around.now.inside }
 {
     let context = around.context;
     let names = granted!(meter, around.names.share());
-    match begin(context, state, term, names, value) {
-        Ok(Begun::Itself) => step_counted(context, state, around.inside, value, meter),
-        Ok(Begun::Referred) => step_state(context, state, around.inside, value, meter),
+    match begin(context, state, node, names, value) {
+        Ok(()) => step_counted(context, state, around.inside, value, meter),
         Err(fault) => Err(meter.stop(fault)),
     }
 }
@@ -355,13 +359,16 @@ fn first_sequence<R: Holds>(
         TermSteps (machine_around R.answers around.now) t around.now.names.now (step (dt_around around.now) value.old)
         (left_or result (state.new, value.new) (meter_fault meter.new)) meter.old meter.new around.now.inside }
 {
-    let mut first = State::unborn(left);
-    first_step(around, &mut first, left, value, meter)?;
-    let mut second = State::unborn(right);
-    first_step(around, &mut second, right, value, meter)?;
-    let live = Live::Join(Join::InSequence, first, second);
-    let node = granted!(meter, live_among(around.context.alloc, around.names, live));
-    state.put(node);
+    let mut live = Live::Join(Join::InSequence, State::unborn(left), State::unborn(right));
+    let Live::Join(_, first, second) = &mut live else {
+        unreachable!();
+    };
+    first_step(around, first, left, value, meter)?;
+    first_step(around, second, right, value, meter)?;
+    granted!(
+        meter,
+        put_live(around.context.alloc, around.names, live, state)
+    );
     Ok(())
 }
 
@@ -404,13 +411,13 @@ fn first_halves<R: Holds>(
 {
     let alloc = around.context.alloc;
     let mut output = granted!(meter, value.clone_in(alloc));
-    let mut first = State::unborn(left);
-    first_step(around, &mut first, left, &mut output, meter)?;
-    let mut second = State::unborn(right);
-    first_step(around, &mut second, right, value, meter)?;
-    let live = Live::Join(Join::FannedOut, first, second);
-    let node = granted!(meter, live_among(alloc, around.names, live));
-    state.put(node);
+    let mut live = Live::Join(Join::FannedOut, State::unborn(left), State::unborn(right));
+    let Live::Join(_, first, second) = &mut live else {
+        unreachable!();
+    };
+    first_step(around, first, left, &mut output, meter)?;
+    first_step(around, second, right, value, meter)?;
+    granted!(meter, put_live(alloc, around.names, live, state));
     Ok(output)
 }
 

@@ -1,10 +1,7 @@
-use Rattle.std.proofs.Common.{sym, subst, ◌∙◌}
+use Rattle.std.proofs.Common.{sym, subst}
 use Rattle.sf_begin.specs.Beginning.{AllBegin}
-use Rattle.sf_begin.proofs.Begins.{open_exit, open_staged, two_joined}
+use Rattle.sf_begin.proofs.Begins.{open_exit, open_staged}
 use Rattle.sf_begin.proofs.opening.pipeline.Goals as goal
-
-pub returns-in-Some : goal.returns-in-Some
-returns-in-Some c = λ μ v t same B. c.joined.ensures μ t (two_joined μ _ _ v t (same ∙ c.in-Some.ensures) B)
 
 pub returns-in_err-begun : goal.returns-in_err-begun
 returns-in_err-begun c = λ μ v t same B x e N. open_exit μ t e _ c.from_residual.ensures.1

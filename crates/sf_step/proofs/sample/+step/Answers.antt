@@ -5,6 +5,7 @@ use Rattle.sf_value.specs.Values.{Data, table, pair, first_of, second_of}
 use Rattle.sf_value.specs.View.{keyed_rows}
 use Rattle.std.specs.Vec.{with_items}
 use Rattle.std.proofs.lemmas.List.{with_items_is}
+use Rattle.sf_state.specs.declared.state.Live as live_nodes
 use Rattle.sf_state.specs.declared.state.Live.TheVariants.{Join as LJoin}
 use Rattle.sf_state.specs.declared.state.Wrap.TheVariants.{First, Second, Loop, Initialized, Replaced, Followed}
 use Rattle.sf_term.specs.declared.form.Join.TheVariants.{InSequence, InParallel, FannedOut}
@@ -25,14 +26,14 @@ use Rattle.sf_begin.specs.Drafting.{drafted, all_changed}
 use Rattle.sf_step.proofs.Costs.{memory_exit, early_memory}
 use Rattle.sf_step.specs.Answering.{LiveSteps, fails}
 use Rattle.sf_step.specs.Around.{machine_around, dt_around}
-use Rattle.sf_law.specs.Arena.{plan_tree}
-use Rattle.sf_begin.proofs.Begins.{parts_joined, two_joined, coded_arguments, begin_referred, open_started}
+use Rattle.sf_begin.proofs.Begins.{parts_joined, two_joined}
+use Rattle.sf_step.proofs.References.{coded_arguments, call_steps, call_fails, process_steps}
 use Rattle.sf_step.specs.Sampling.{StateSteps, EachSteps, apart, stopped}
 use Rattle.sf_step.specs.Routing.{observation_of}
 use Rattle.sf_state.proofs.Copies.{list_follows}
 use Rattle.sf_step.proofs.Parts.{pass_exit, pass_apart, failed, own_halves, gives_value, gives_no_value, stops_apart, apart_as, taken}
 use Rattle.sf_step.proofs.Stages.{StagesStep, continues_first, continues_next, continues_fails, continues_last, pipeline_steps, pipeline_fails}
-use Rattle.sf_step.proofs.Exits.{ticked_by, tick_fails, first_memory, join_left_fails, join_right_fails, join_steps, join_last, wrap_fails, wrap_steps, wrap_faults, wrap_last, late_memory, late_part, late_waiting, waits_alike, primitive_counted, live_counted, own_steps, primitive_is, live_is, awake_is, counted_steps, live_apart, first_counted, term_counted, begun_steps, begun_runs, begun_fails, late_term, call_steps, call_fails, joined_fails, joined_late, joined_steps}
+use Rattle.sf_step.proofs.Exits.{ticked_by, tick_fails, first_memory, join_left_fails, join_right_fails, join_steps, join_last, wrap_fails, wrap_steps, wrap_faults, wrap_last, late_memory, late_part, late_waiting, waits_alike, primitive_counted, live_counted, own_steps, primitive_is, live_is, awake_is, counted_steps, live_apart, first_counted, term_counted, begun_steps, begun_fails, late_term, joined_fails, joined_late, joined_steps}
 use Rattle.sf_step.proofs.Recurring.{run_fails, run_memory, new_fails, new_runs, runs_alone}
 use Rattle.sf_step.proofs.Switches.{source_fails, switch_memory, switch_waits_on, body_fails, body_takes_over}
 use Rattle.sf_step.proofs.Continuation.{runs_alike, kept_fails, kept_memory, observer_fails, observer_memory, keeps_on, kept_body_fails, continuation_takes_over, some_occurs, none_occurs}
@@ -198,16 +199,19 @@ pub first_step-returns-in_default : goal.first_step-returns-in_default
 first_step-returns-in_default g t c =
     term_counted (machine_around g.R.Holds.answers c.args.around.now) c.args.term c.args.around.now.names.now (dt_around c.args.around.now) c.args.value.now (ticked_by c.in_ok-inside.ensures.ticked) _ c.first_node.ensures
 
+pub first_step-first_node-requires : goal.first_step-first_node-requires
+first_step-first_node-requires g t c = λ κs lives. (omega (arith, c.in_ok-inside.ensures.deeper, c.in_ok-inside.ensures.low), (lives, λ q h. c.in_default.not-Primitive q (c.node.ensures.value ∙ h)))
+
 -- ## first_node
 
 pub first_node-returns-in-InSequence : goal.first_node-returns-in-InSequence
-first_node-returns-in-InSequence g t c = c.first_sequence.ensures _ (parts_joined (machine_around g.R.Holds.answers c.args.around.now) InSequence c.in-Joined.left c.in-Joined.right _ (rw c.in-InSequence.is at (rw c.in-Joined.is at c.node.ensures.builds)))
+first_node-returns-in-InSequence g t c = c.first_sequence.ensures _ (parts_joined (machine_around g.R.Holds.answers c.args.around.now) InSequence c.in-Joined.left c.in-Joined.right _ (rw c.in-InSequence.is at (rw c.in-Joined.is at c.node-node.ensures.builds)))
 
 pub first_node-returns-in-FannedOut : goal.first_node-returns-in-FannedOut
-first_node-returns-in-FannedOut g t c = c.first_fan.ensures _ (parts_joined (machine_around g.R.Holds.answers c.args.around.now) FannedOut c.in-Joined.left c.in-Joined.right _ (rw c.in-FannedOut.is at (rw c.in-Joined.is at c.node.ensures.builds)))
+first_node-returns-in-FannedOut g t c = c.first_fan.ensures _ (parts_joined (machine_around g.R.Holds.answers c.args.around.now) FannedOut c.in-Joined.left c.in-Joined.right _ (rw c.in-FannedOut.is at (rw c.in-Joined.is at c.node-node.ensures.builds)))
 
 pub first_node-returns-in-Some : goal.first_node-returns-in-Some
-first_node-returns-in-Some g t c = c.first_sequence-in-Some.ensures _ (two_joined (machine_around g.R.Holds.answers c.args.around.now) _ _ c.in-Pipeline.stages _ (sym c.deref.ensures.value ∙ c.in-Some.ensures) (rw c.in-Pipeline.is at c.node.ensures.builds))
+first_node-returns-in-Some g t c = c.first_sequence-in-Some.ensures _ (two_joined (machine_around g.R.Holds.answers c.args.around.now) _ _ c.in-Pipeline.stages _ (sym c.deref.ensures.value ∙ c.in-Some.ensures.present) (rw c.in-Pipeline.is at c.node-node.ensures.builds))
 
 pub first_node-first_of_call-requires : goal.first_node-first_of_call-requires
 first_node-first_of_call-requires g t c = λ κs lives. (
@@ -215,41 +219,34 @@ first_node-first_of_call-requires g t c = λ κs lives. (
   (
     lives,
     (
-      rw c.deref-in-Call.ensures.value (coded_arguments (machine_around g.R.Holds.answers c.args.around.now) (rw c.in-Call.is at c.node.ensures.builds)),
-      rw c.deref-in-Call.ensures.value (rw c.in-Call.is at c.node.ensures.asked),
+      rw c.deref-in-Call.ensures.value (coded_arguments (machine_around g.R.Holds.answers c.args.around.now) (rw c.in-Call.is at c.node-node.ensures.builds)),
+      rw c.deref-in-Call.ensures.value (rw c.in-Call.is at c.node-node.ensures.asked),
     ),
   ),
 )
 
 pub first_node-returns-in-Call : goal.first_node-returns-in-Call
-first_node-returns-in-Call g t c = c.first_of_call.ensures c.in-Call.field-0 c.in-Call.arguments _ (sym c.deref-in-Call.ensures.value) (rw c.in-Call.is at c.node.ensures.builds)
+first_node-returns-in-Call g t c = c.first_of_call.ensures c.in-Call.field-0 c.in-Call.arguments _ (sym c.deref-in-Call.ensures.value) (rw c.in-Call.is at c.node-node.ensures.builds)
 
 pub first_node-first_of_process-requires : goal.first_node-first_of_process-requires
-first_node-first_of_process-requires g t c = λ κs lives. (omega arith, (lives, rw c.in-Started.is at c.node.ensures.asked))
+first_node-first_of_process-requires g t c = λ κs lives. (omega arith, (lives, rw c.in-Started.is at c.node-node.ensures.asked))
 
 pub first_node-returns-in-Started : goal.first_node-returns-in-Started
-first_node-returns-in-Started g t c = c.first_of_process.ensures _ (rw c.in-Started.is at c.node.ensures.builds)
+first_node-returns-in-Started g t c = c.first_of_process.ensures _ (rw c.in-Started.is at c.node-node.ensures.builds)
 
 -- ## first_other
 
 pub first_other-returns-in-Err : goal.first_other-returns-in-Err
-first_other-returns-in-Err g t c = λ m depth T e N. early_memory (machine_around g.R.Holds.answers c.args.around.now) T c.stop.ensures.entered c.stop.ensures.height c.stop.ensures.fault
+first_other-returns-in-Err g t c = λ u B m depth T e N. early_memory (machine_around g.R.Holds.answers c.args.around.now) T c.stop.ensures.entered c.stop.ensures.height c.stop.ensures.fault
 
-pub first_other-returns-in-Ok-Itself : goal.first_other-returns-in-Ok-Itself
-first_other-returns-in-Ok-Itself g t c =
-    let μ = machine_around g.R.Holds.answers c.args.around.now in
-    begun_steps μ (plan_tree μ.plan c.args.term) c.args.around.now.names.now (dt_around c.args.around.now) c.args.value.now c.begin.new.state _ (λ e N. (rw c.in-Ok-Itself.field-0-is at c.in-Ok-Itself.ensures.begins) e (c.in-Ok.ensures μ e N)) c.step_counted.ensures
-
-pub first_other-returns-in-Ok-Referred : goal.first_other-returns-in-Ok-Referred
-first_other-returns-in-Ok-Referred g t c =
-    let μ = machine_around g.R.Holds.answers c.args.around.now in
-    begun_runs μ (plan_tree μ.plan c.args.term) c.args.around.now.names.now (dt_around c.args.around.now) c.args.value.now c.begin.new.state _ (λ e N. (rw c.in-Ok-Referred.field-0-is at c.in-Ok-Referred.ensures.begins) e (c.in-Ok.ensures μ e N)) c.step_state.ensures
+pub first_other-returns-in-Ok-begin : goal.first_other-returns-in-Ok-begin
+first_other-returns-in-Ok-begin g t c = λ u B.
+    begun_steps (machine_around g.R.Holds.answers c.args.around.now) u c.args.around.now.names.now (dt_around c.args.around.now) c.args.value.now c.begin.new.state _ (λ e N. c.in-Ok-begin.ensures.begins u e B (c.in-Ok.ensures _ e N)) c.step_counted.ensures
 
 pub first_other-returns-in-Err-begin : goal.first_other-returns-in-Err-begin
-first_other-returns-in-Err-begin g t c =
-    let μ = machine_around g.R.Holds.answers c.args.around.now in
-    begun_fails μ (plan_tree μ.plan c.args.term) c.args.around.now.names.now (dt_around c.args.around.now) c.args.value.now c.stop-in-Err-begin.ensures.entered c.stop-in-Err-begin.ensures.height c.begin.new.state c.in-Err-begin.fault _ c.stop-in-Err-begin.ensures.fault
-    (λ e N. c.in-Err-begin.ensures.begins e (c.in-Ok.ensures μ e N))
+first_other-returns-in-Err-begin g t c = λ u B.
+    begun_fails (machine_around g.R.Holds.answers c.args.around.now) u c.args.around.now.names.now (dt_around c.args.around.now) c.args.value.now c.stop-in-Err-begin.ensures.entered c.stop-in-Err-begin.ensures.height c.begin.new.state c.in-Err-begin.fault _ c.stop-in-Err-begin.ensures.fault
+    (λ e N. c.in-Err-begin.ensures.begins u e B (c.in-Ok.ensures _ e N))
 
 -- ## first_of_call
 
@@ -264,7 +261,7 @@ first_of_call-returns-in-Ok g t c = λ k v u same B.
 pub first_of_call-returns-in-Err : goal.first_of_call-returns-in-Err
 first_of_call-returns-in-Err g t c = λ k v u same B.
     let μ = machine_around g.R.Holds.answers c.args.around.now in
-    call_fails μ k c.args.id v u c.args.around.now.names.now B (dt_around c.args.around.now) c.args.value.now c.stop.ensures.entered c.stop.ensures.height c.args.state.now c.in-Err.fault _ c.stop.ensures.fault (λ e N. rw same (c.in-Err.ensures e N))
+    call_fails μ k c.args.id v u c.args.around.now.names.now B (dt_around c.args.around.now) c.args.value.now c.stop.ensures.entered c.stop.ensures.height c.in-Err.fault _ c.stop.ensures.fault (λ e N. rw same (c.in-Err.ensures e N))
 
 -- ## first_of_process
 
@@ -277,8 +274,7 @@ first_of_process-returns-in-Err g t c = λ u B m depth T e N. early_memory (mach
 pub first_of_process-returns : goal.first_of_process-returns
 first_of_process-returns g t c = λ u B.
     let μ = machine_around g.R.Holds.answers c.args.around.now in
-    begun_runs μ u c.args.around.now.names.now (dt_around c.args.around.now) c.args.value.now c.in-Ok.value _
-    (begin_referred μ c.in-Ok.value c.args.around.now.names.now (open_started μ c.args.start c.args.name u c.args.around.now.names.now c.in-Ok.value B (c.in-Ok.ensures μ.answers) c.args.value.now)) (rw c.put.ensures at c.step_state.ensures)
+    process_steps μ c.args.start c.args.name u c.args.around.now.names.now B (dt_around c.args.around.now) c.args.value.now c.in-Ok.value _ (c.in-Ok.ensures μ.answers) (rw c.put.ensures at c.step_state.ensures)
 
 -- ## first_sequence
 
@@ -311,14 +307,15 @@ first_sequence-returns-in-Err g t c = λ u J.
     c.stop.ensures.entered c.stop.ensures.height c.stop.ensures.fault
 
 pub first_sequence-returns : goal.first_sequence-returns
+unfolding live_nodes.out-Live denote.Hole.Carrier.out
 first_sequence-returns g t c = λ u J.
     let μ = machine_around g.R.Holds.answers c.args.around.now in
     let d = dt_around c.args.around.now in
     let x = c.args.value.now in
-    rw c.put.ensures (joined_steps μ InSequence c.args.left c.args.right c.args.around.now.names.now u J d x _ c.in-Ok.value _ (λ e N S. c.in-Ok.ensures μ u e _ N S)
+    joined_steps μ InSequence c.args.left c.args.right c.args.around.now.names.now u J d x _ c.put_live.new.state _ (λ e N S. c.in-Ok.ensures μ u e _ N S)
     (join_steps μ InSequence _ _ c.args.meter.now c.first_step.new.meter c.args.around.now.inside d x x refl
     c.first_step.new.state c.first_step.new.value c.first_step.new.value refl c.in_ok-first_step.ensures
-    c.first_step-2.new.meter c.first_step-2.new.state c.first_step-2.new.value c.first_step-2.new.value refl c.in_ok-first_step-2.ensures))
+    c.first_step-2.new.meter c.first_step-2.new.state c.first_step-2.new.value c.first_step-2.new.value refl c.in_ok-first_step-2.ensures)
 
 -- ## first_halves
 
@@ -342,8 +339,8 @@ first_halves-returns-in_err-first_step-2 g t c = λ u J m depth T e N.
     (join_right_fails μ FannedOut _ _ c.args.meter.now c.first_step.new.meter c.args.around.now.inside d x c.in-Ok.value c.in-Ok.ensures
     c.first_step.new.state c.first_step.new.value x refl c.in_ok-first_step.ensures c.first_step-2.new.meter _ c.in_err-first_step-2.ensures) m depth T e N)
 
-pub first_halves-returns-in-Err-live_among : goal.first_halves-returns-in-Err-live_among
-first_halves-returns-in-Err-live_among g t c = λ u J.
+pub first_halves-returns-in-Err-put_live : goal.first_halves-returns-in-Err-put_live
+first_halves-returns-in-Err-put_live g t c = λ u J.
     let μ = machine_around g.R.Holds.answers c.args.around.now in
     let d = dt_around c.args.around.now in
     let x = c.args.value.now in
@@ -351,17 +348,18 @@ first_halves-returns-in-Err-live_among g t c = λ u J.
     (join_steps μ FannedOut _ _ c.args.meter.now c.first_step.new.meter c.args.around.now.inside d x c.in-Ok.value c.in-Ok.ensures
     c.first_step.new.state c.first_step.new.value x refl c.in_ok-first_step.ensures
     c.first_step-2.new.meter c.first_step-2.new.state c.first_step-2.new.value _ refl c.in_ok-first_step-2.ensures)
-    c.stop-in-Err-live_among.ensures.entered c.stop-in-Err-live_among.ensures.height c.stop-in-Err-live_among.ensures.fault
+    c.stop-in-Err-put_live.ensures.entered c.stop-in-Err-put_live.ensures.height c.stop-in-Err-put_live.ensures.fault
 
 pub first_halves-returns : goal.first_halves-returns
+unfolding live_nodes.out-Live denote.Hole.Carrier.out
 first_halves-returns g t c = λ u J.
     let μ = machine_around g.R.Holds.answers c.args.around.now in
     let d = dt_around c.args.around.now in
     let x = c.args.value.now in
-    rw c.put.ensures (joined_steps μ FannedOut c.args.left c.args.right c.args.around.now.names.now u J d x _ c.in-Ok-live_among.value _ (λ e N S. c.in-Ok-live_among.ensures μ u e _ N S)
+    joined_steps μ FannedOut c.args.left c.args.right c.args.around.now.names.now u J d x _ c.put_live.new.state _ (λ e N S. c.in-Ok-put_live.ensures μ u e _ N S)
     (join_steps μ FannedOut _ _ c.args.meter.now c.first_step.new.meter c.args.around.now.inside d x c.in-Ok.value c.in-Ok.ensures
     c.first_step.new.state c.first_step.new.value x refl c.in_ok-first_step.ensures
-    c.first_step-2.new.meter c.first_step-2.new.state c.first_step-2.new.value _ refl c.in_ok-first_step-2.ensures))
+    c.first_step-2.new.meter c.first_step-2.new.state c.first_step-2.new.value _ refl c.in_ok-first_step-2.ensures)
 
 -- ## first_fan
 

@@ -28,8 +28,8 @@ returns-in_ok-around-in-Bound t c =
     IfOk-weaker c.over.result _ _
     (λ r over φ e N. inside_pattern (machine φ p) b (λ d. IfSome r (λ names. HasMentioned (machine φ p) m names d))
     (λ d M. over (machine φ p) m c.in_ok-left-in-Bound.left d (λ x w free. c.in_ok-left-in-Bound.ensures x w (subst (λ (q : Pattern). BindsOthers q x) (sym pattern) free))
-    (c.in_ok-around-in-Bound.ensures φ d (subst (λ (a : Binding). IsNames (machine φ p) a.around d) (sym c.deref-then-is_bound_by.ensures) M))) e (rw c.in-Bound.is at N))
-    (rw c.deref-then-is_bound_by-2.ensures at c.over.ensures)
+    (c.in_ok-around-in-Bound.ensures φ d (subst (λ (a : Binding). IsNames (machine φ p) a.around d) (sym c.deref-then-is_bound_by-2.ensures) M))) e (rw c.in-Bound.is at N))
+    (rw c.deref-then-is_bound_by-3.ensures at c.over.ensures)
 
 pub returns-in_ok-around-in-Bound-2 : goal.returns-in_ok-around-in-Bound-2
 returns-in_ok-around-in-Bound-2 t c =
@@ -54,8 +54,8 @@ returns-in_ok-around-in-Running t c =
     IfOk-weaker c.over-then-is_bound_by-2.result _ _
     (λ r over φ e N. inside_process (machine φ p) b (λ d. IfSome r (λ names. HasMentioned (machine φ p) m names d))
     (λ d P H M. over (machine φ p) m c.in_ok-left-in-Running.left d P (λ x w free. c.in_ok-left-in-Running.ensures x w (subst (λ (n : Name). n ≢ x) (sym name) free)) H
-    (c.in_ok-around-in-Running.ensures φ d (subst (λ (a : Running). IsNames (machine φ p) a.around d) (sym c.deref-then-is_bound_by-2-2.ensures) M))) e (rw c.in-Running.is at N))
-    (rw c.deref-then-is_bound_by-2-3.ensures at c.over-then-is_bound_by-2.ensures)
+    (c.in_ok-around-in-Running.ensures φ d (subst (λ (a : Running). IsNames (machine φ p) a.around d) (sym c.deref-then-is_bound_by-2-3.ensures) M))) e (rw c.in-Running.is at N))
+    (rw c.deref-then-is_bound_by-2-4.ensures at c.over-then-is_bound_by-2.ensures)
 
 pub returns-in_ok-around-in-Running-2 : goal.returns-in_ok-around-in-Running-2
 returns-in_ok-around-in-Running-2 t c =
@@ -79,8 +79,8 @@ returns-in_ok-around-in-Collected t c =
     IfOk-weaker c.over-then-is_bound_by-3.result _ _
     (λ r over φ e N. collected_holds (machine φ p) c.in-Collected.collected (λ d. IfSome r (λ names. HasMentioned (machine φ p) m names d))
     (λ d ms G M. over (machine φ p) m c.in_ok-left-in-Collected.left d ms (λ x w free. c.in_ok-left-in-Collected.ensures x w (subst (λ (n : Name). n ≢ x) (sym name) free)) G
-    (c.in_ok-around-in-Collected.ensures φ d (subst (λ (a : Collected). IsNames (machine φ p) a.around d) (sym c.deref-then-is_bound_by-3.ensures) M))) e (rw c.in-Collected.is at N))
-    (rw c.deref-then-is_bound_by-3-2.ensures at c.over-then-is_bound_by-3.ensures)
+    (c.in_ok-around-in-Collected.ensures φ d (subst (λ (a : Collected). IsNames (machine φ p) a.around d) (sym c.deref-then-is_bound_by-3-3.ensures) M))) e (rw c.in-Collected.is at N))
+    (rw c.deref-then-is_bound_by-3-4.ensures at c.over-then-is_bound_by-3.ensures)
 
 pub returns-in_ok-around-in-Collected-2 : goal.returns-in_ok-around-in-Collected-2
 returns-in_ok-around-in-Collected-2 t c =

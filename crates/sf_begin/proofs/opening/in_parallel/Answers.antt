@@ -1,5 +1,5 @@
-use Rattle.sf_begin.proofs.Begins.{open_exit, open_join}
-use Rattle.sf_begin.proofs.opening.joined.Goals as goal
+use Rattle.sf_begin.proofs.Begins.{open_exit, open_parallel}
+use Rattle.sf_begin.proofs.opening.in_parallel.Goals as goal
 
 pub returns-in_err-one : goal.returns-in_err-one
 returns-in_err-one c = λ μ t J x e N. open_exit μ t e _ c.from_residual.ensures.1
@@ -12,4 +12,4 @@ returns-in_err-node c = λ μ t J x e N. open_exit μ t e _ c.from_residual-in_e
 
 pub returns : goal.returns
 returns c = λ μ t.
-    open_join μ c.args.join c.args.left c.args.right t c.args.names.now c.in_ok-one.one c.in_ok-two.two c.in_ok-node.node c.in_ok-node.ensures.ok (c.in_ok-one.ensures μ) (c.in_ok-two.ensures μ)
+    open_parallel μ c.args.left c.args.right t c.args.names.now c.in_ok-one.one c.in_ok-two.two c.in_ok-node.node c.in_ok-node.ensures.ok (c.in_ok-one.ensures μ) (c.in_ok-two.ensures μ)

@@ -1,6 +1,6 @@
 use Rattle.std.proofs.Common.{refl}
 use Rattle.sf_prim.specs.Remembering.{remembers_nothing, remembers_time, remembers_area, remembers_low, remembers_begun, remembers_first_left, remembers_count, remembers_pre}
-use Rattle.sf_prim.proofs.prim_state.PrimState.bare.Goals as goal
+use Rattle.sf_prim.proofs.prim_state.PrimState.begin_bare.Goals as goal
 
 pub returns-in-Identity : goal.returns-in-Identity
 returns-in-Identity c = λ s. rw c.in-Identity.is remembers_nothing

@@ -1,6 +1,6 @@
 use Rattle.sf_prim.specs.Remembering.{remembers_value, remembers_previous, remembers_initialized, remembers_first, remembers_first_low, remembers_tag, remembers_initial, remembers_last, remembers_last_before}
 use Rattle.std.proofs.Common.{refl}
-use Rattle.sf_prim.proofs.prim_state.PrimState.with_value.Goals as goal
+use Rattle.sf_prim.proofs.prim_state.PrimState.put_value.Goals as goal
 
 pub returns-in-Constant : goal.returns-in-Constant
 returns-in-Constant c = λ s e h. rw c.in-Constant.is (remembers_value h)
