@@ -9,6 +9,7 @@ Prepositions: words of definitions that are the same but for a preposition (`wor
 Answers: goals that are answered by hand, and those that say what a `?` hands on (`returns-in_err`, or an answer with what
 `from_residual` ensures), or what is returned behind one (`returns-in_ok`).
 Proofs: lines that import modules of proofs of another crate, and attributes that name one.
+Ids that live on: functions that take or make what keeps ids of a plan as long as it lives (states, names, and what these hold).
 """
 
 import pathlib
@@ -29,6 +30,14 @@ NOT_OF_TERMS = set(
 HEAD = re.compile(r"\bfn (\w+)\s*(?:<(?:[^<>]|<[^<>]*>)*>)?\(")
 ALIAS = re.compile(r"([\w◌.:+≤≡<>=-]+) as (\w+)")
 ANSWER = re.compile(r"^pub (\S+) : goal\S*\n", re.MULTILINE)
+# The types of states, of the names around them and of what holds these, and the crates that have them.
+KEEPING = set(
+    "State Process Switch Continuation Gathering Releasing Editing Frozen FrozenNode Live Gathered "
+    "Env Binding Running Collected Call Handed Given NamesIn Draft Edit Exchange Around Engine".split()
+)
+KEEPERS = ("sf_state", "sf_begin", "sf_step", "sf_engine")
+# An impl for a type, or a function with its place in its line.
+OWNER = re.compile(r"^impl\b[^{;]*?\b(\w+)(?:<[^{;]*>)? \{|^([ \t]*)[\w() ]*?\bfn \w+", re.MULTILINE)
 
 
 def is_of_typing(crate, module):
@@ -63,6 +72,21 @@ def imports(crates):
         yield path, imported(path, text), re.findall(r"\b(\w+)::proofs::", text)
 
 
+def living(crates):
+    """The functions that take or make what keeps ids of a plan, by their crates."""
+    for crate in KEEPERS:
+        for path in sorted((crates / crate / "src").glob("**/*.rt")):
+            text, owner = code_of(path), None
+            for found in OWNER.finditer(text):
+                if found[1]:
+                    owner = found[1]
+                    continue
+                head = re.split(r"\s(?:requires|ensures)\b|\{", text[found.start() :])[0]
+                words = {*re.findall(r"\w+", head)}
+                if words & KEEPING or (found[2] and owner in KEEPING and words & {"self", "Self"}):
+                    yield crate
+
+
 def answers(crates):
     """The goals that are answered by hand, with their answers."""
     for path in crates.glob("*/proofs/**/Answers.antt"):
@@ -88,6 +112,8 @@ def main():
         lent += [(path, crate, other) for other in others if other not in (crate, "crate", "std")]
     of_variants = sum(count for (name, _), count in aliases.items() if name.endswith("TheVariants"))
     print(f"aliases: {aliases.total()}, {len(aliases)} different; {of_variants} of variants, {aliases.total() - of_variants} of other words")
+    lived = Counter(living(crates))
+    print(f"ids that live on: in {lived.total()} functions:", ", ".join(f"{crate} {count}" for crate, count in lived.most_common()))
     by_hand = list(answers(crates))
     handed = sum("returns-in_err" in name or "from_residual" in body for name, body in by_hand)
     behind = sum("returns-in_ok" in name and "from_residual" not in body for name, body in by_hand)

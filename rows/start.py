@@ -16,13 +16,16 @@ import time
 
 HERE = os.path.dirname(os.path.abspath(__file__))
 TOP = os.path.join(HERE, "..")
+sys.path.insert(0, os.path.join(TOP, "tools"))
+from proving import BESIDE
+
 CRATES = "# lowest first\nlow: thiserror\nhigh: low\nsfplay: high clap\nsftypes: high\napart: low\n"
 BEGUN = (("low", 4), ("high", 3), ("sfplay, sftypes", 2))
 BUILT = "".join(f"sfplay: proving {crates}, {left} of 4 left\n" for crates, left in BEGUN)
 # It notes each call, proves all crates but the one that the file `broken` names, where each crate that is listed has a folder, over the
 # libraries of those below it, and builds the programs below, or tries one. A proof or a try goes on as long as the file `lib` or `try` is there.
 RT = """#!/bin/sh
-echo "$*" >> "$TOP/calls"
+echo "$* $(nice)" >> "$TOP/calls"
 broken=$(cat "$TOP/broken" 2> /dev/null)
 while [ -e "$TOP/$1" ]; do sleep 0.01; done
 if [ "$1" = try ]; then
@@ -120,19 +123,27 @@ class Repository:
         while not os.path.exists(self.path(name)) and time.monotonic() < end:
             time.sleep(0.01)
 
-    def calls(self):
-        """How rt was called since it was asked for the last time."""
+    def taken(self):
+        """How rt was called since it was asked for the last time, with how much that gave way to others behind its words."""
         if not os.path.exists(self.path("calls")):
             return []
         with open(self.path("calls")) as file:
             lines = file.read().splitlines()
         os.remove(self.path("calls"))
-        return [line.split()[0] for line in lines]
+        return [line.split() for line in lines]
+
+    def calls(self):
+        """The first word of each of these calls."""
+        return [words[0] for words in self.taken()]
 
 
 def first_and_second(at):
     yield "the first run builds", at.prove() == (PLAYED, BUILT, 3)
-    yield "it has all crates proved, and the programs built", at.calls() == ["lib", "lib", "run", "run"]
+    taken, own = at.taken(), os.getpriority(os.PRIO_PROCESS, 0)
+    yield "it has all crates proved, and the programs built", [words[0] for words in taken] == ["lib", "lib", "run", "run"]
+    jobs, niceness = ([int(words[place]) for words in taken] for place in (2, 3))
+    yield "what is proved beside another gives way to it", niceness[:2] + sorted(niceness[2:]) == [own, own, own, own + BESIDE]
+    yield "and has no more jobs", all(count <= min(jobs[:2]) for count, it in zip(jobs, niceness) if it > own)
     yield "what is made of a crate stands with it, and no copy is left", os.path.exists(at.path("crates/low/out/rlib/stamp")) and not os.path.exists(at.path("crates/sfplay/out/lanes"))
     os.symlink(at.path("sfplay"), at.path("bin/linked"))
     yield "the second only plays", at.play() == (PLAYED, "", 3)
