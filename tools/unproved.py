@@ -20,7 +20,8 @@ def first_run(top):
     """How long it took to prove the program, when that was measured."""
     with open(os.path.join(top, "bench", "figures.json")) as file:
         kept = json.load(file)
-    return f"{kept['program'] / 60:.0f} minutes of processor time"
+    seconds = sum(sum(it.values()) for it in kept.get("first", {}).values()) or kept["program"]
+    return f"{seconds / 60:.0f} minutes of processor time"
 
 
 def tried(crate, command, lines):
