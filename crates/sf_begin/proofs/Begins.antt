@@ -17,49 +17,39 @@ use Rattle.sf_expr.specs.Arena.{function_at, name_at, stored_pattern}
 use Rattle.sf_expr.specs.Patterns.{pattern_of}
 use Rattle.sf_expr.specs.declared.exprs.ExprId.{ExprId}
 use Rattle.sf_expr.specs.declared.exprs.FunctionId.{FunctionId}
-use Rattle.sf_expr.specs.declared.exprs.NameId.{NameId}
-use Rattle.sf_expr.specs.declared.exprs.PatternId.{PatternId}
 use Rattle.sf_code.specs.declared.open.OpenCode.{OpenCode}
 use Rattle.sf_code.specs.Names.{scope_with}
 use Rattle.sf_code.specs.Worth.{IsCodeOfFunction}
-use Rattle.sf_term.specs.declared.form.Observation.{Observation}
-use Rattle.sf_term.specs.declared.form.Switching.{Switching}
-use Rattle.sf_term.specs.declared.form.Switching.TheVariants.{Basic, Recurring}
 use Rattle.sf_term.specs.declared.form.Join.{Join}
 use Rattle.sf_term.specs.declared.form.Join.TheVariants.{InSequence, InParallel, FannedOut}
 use Rattle.sf_term.specs.declared.form.Side.{Side}
 use Rattle.sf_term.specs.declared.form.Heading.{Heading}
-use Rattle.sf_term.specs.Trees.{rest, Primitive, probe, Term, primitive, sided, headed, transformed, switching, continuing, gathered, releasing, editing}
+use Rattle.sf_term.specs.Trees.{rest, Primitive, probe, Term, primitive, sided, headed, transformed, gathered, releasing, editing}
 use Rattle.sf_mean.specs.Lives.{step, Life, closure, Environment, scope_around}
 use Rattle.sf_mean.specs.Collections.{collect}
 use Rattle.sf_mean.specs.Meaning.{Network, recorded, as_outcome, Made, nothing_made, value_made, members_made, make, left_life, right_life, gives, Outputs, not_begun, of_constants, of_form, of_primitive, at_start, no_tables}
 use Rattle.sf_law.specs.declared.node.PlanId.{PlanId}
 use Rattle.sf_law.specs.declared.node.PlanPrimitive.{PlanPrimitive}
 use Rattle.sf_law.specs.declared.node.PlanCollection.{PlanCollection}
-use Rattle.sf_law.specs.declared.node.PlanSwitch.{PlanSwitch}
-use Rattle.sf_law.specs.declared.node.PlanContinuation.{PlanContinuation}
 use Rattle.sf_law.specs.declared.node.PlanReleasing.{PlanReleasing}
 use Rattle.sf_law.specs.declared.node.PlanEditing.{PlanEditing}
-use Rattle.sf_law.specs.declared.node.PlanNode.TheVariants.{Primitive as NPrimitive, Joined as NJoined, Sided as NSided, Headed as NHeaded, Transformed as NTransformed, Switching as NSwitching, Continuation as NContinuation, Probe as NProbe, Pipeline as NPipeline, Gathered as NGathered, Releasing as NReleasing, Editing as NEditing}
+use Rattle.sf_law.specs.declared.node.PlanNode.TheVariants.{Primitive as NPrimitive, Joined as NJoined, Sided as NSided, Headed as NHeaded, Transformed as NTransformed, Probe as NProbe, Pipeline as NPipeline, Gathered as NGathered, Releasing as NReleasing, Editing as NEditing}
 use Rattle.sf_law.specs.Entries.{primitive_over, IsCodedPrimitive, IsCodedExpression, IsCodedCollection, stages, pipeline}
-use Rattle.sf_law.specs.Arena.{plan_tree, plan_collection, plan_expressions, plan_expression_at, BuildsPlan, builds_primitive, builds_joined, builds_sided, builds_headed, builds_transformed, builds_switching, builds_continuing, builds_probe, builds_pipeline, builds_gathered, builds_releasing, builds_editing}
+use Rattle.sf_law.specs.Arena.{plan_tree, plan_collection, plan_expressions, plan_expression_at, BuildsPlan, builds_primitive, builds_joined, builds_sided, builds_headed, builds_transformed, builds_probe, builds_pipeline, builds_gathered, builds_releasing, builds_editing}
 use Rattle.sf_prim.specs.declared.prim_state.PrimState.{PrimState}
 use Rattle.sf_prim.specs.Remembering.{Begins, begins, begins_with_fault}
 use Rattle.sf_state.specs.declared.state.State.{State}
-use Rattle.sf_state.specs.declared.state.State.TheVariants.{Unborn, Live' as Alive', Switch' as Watching', Continuation', Gathering'}
+use Rattle.sf_state.specs.declared.state.State.TheVariants.{Unborn, Live' as Alive', Gathering'}
 use Rattle.sf_state.specs.declared.state.Live.{Live, items_hidden-the_row-State-0 as states_are}
 use Rattle.sf_state.specs.declared.state.Live.TheVariants.{Probe as LProbe, Join as LJoin, Wrap as LWrap, Pipeline as LPipeline, Gathered as LGathered}
 use Rattle.sf_state.specs.declared.state.Gathered.{Gathered}
-use Rattle.sf_state.specs.declared.state.Switch.{Switch}
-use Rattle.sf_state.specs.declared.state.Continuation.{Continuation}
 use Rattle.sf_state.specs.declared.state.Gathering.{Gathering}
 use Rattle.sf_state.specs.declared.state.Gathering.TheVariants.{Releasing as GReleasing, Editing as GEditing}
 use Rattle.sf_state.specs.declared.state.Wrap.{Wrap}
 use Rattle.sf_state.specs.declared.state.Wrap.TheVariants.{Replaced}
 use Rattle.sf_state.specs.declared.env.Env.{Env}
 use Rattle.sf_state.specs.Names.{values_around}
-use Rattle.sf_state.specs.Standing.{Ready, Stands, Recalls, itself, unborn, recalls, waits_so, recurs_so, continues_so, releases_so, edits_so, ready, AreJoined, as_join, as_pipeline, lives_probe, lives_join, lives_wrap, Wraps, wraps_transformed, StagesStand, last_stands, stage_stands, is_closure, IsNames, IsProcess, closed_over}
-use Rattle.sf_state.specs.declared.state.Process as process_states
+use Rattle.sf_state.specs.Standing.{Ready, Stands, Recalls, itself, unborn, recalls, releases_so, edits_so, ready, AreJoined, as_join, as_pipeline, lives_probe, lives_join, lives_wrap, Wraps, wraps_transformed, StagesStand, last_stands, stage_stands, is_closure, IsNames, closed_over}
 use Rattle.sf_state.specs.Machine.{Machine, machine_network}
 use Rattle.sf_state.proofs.Scopes.{scope_is}
 use Rattle.sf_state.proofs.Copies.{pipeline_lives, members_live, held_hidden}
@@ -67,7 +57,7 @@ use Rattle.sf_begin.specs.Collecting.{MakesMembers}
 use Rattle.sf_begin.specs.declared.opening.Opened.{Opened}
 use Rattle.sf_begin.specs.declared.opening.Opened.TheVariants as opened
 use Rattle.sf_begin.specs.Contexts.{sample_fault}
-use Rattle.sf_begin.specs.Beginning.{Prepared, live_prepared, switch_prepared, continuing_prepared, gathering_prepared, makes, makes_fault, makes_nothing, WrapsAtFirst, Opens, opens, opens_watching, opens_continuing, opens_gathering, opens_with_fault, opens_without_memory, AllBegin, none_begin, more_begin}
+use Rattle.sf_begin.specs.Beginning.{Prepared, live_prepared, gathering_prepared, makes, makes_fault, makes_nothing, WrapsAtFirst, Opens, opens, opens_gathering, opens_with_fault, opens_without_memory, AllBegin, none_begin, more_begin}
 
 -- before the first step
 left_none : (j : Join) → left_life j [] ≡ []
@@ -185,19 +175,6 @@ module _ (μ : Machine) where
     transformed_fails (EValue y) h = makes_fault (made_around ∙ ap (λ o. o >>= λ v. answer (value_made v)) h)
     transformed_fails EMemory h = makes_nothing
 
-  -- a switch waits at first, and its first term isn't born
-  pub open_switch : (w : Switching) (a b : PlanId) (q : PatternId) (names around : Env) (l : Rc Switch Global) → l.value ≡ (record { form = w; running = Unborn (closed_over a around); pattern = q; body = b }) → ((e : Environment) → IsNames μ names e → IsNames μ around e)
-      → (x : Data) (e : Environment) → IsNames μ names e → Opens μ (switching w (plan_tree μ.plan a) (pattern_of (stored_pattern (plan_expressions μ.plan) q)) (plan_tree μ.plan b)) e x (Ok (opened.Switch l))
-  open_switch (Basic w) a b q names around l same g x e N = opens_watching same (waits_so refl at_start not_begun (itself (unborn (is_closure (alike_itself _) (g e N)))))
-  open_switch (Recurring w) a b q names around l same g x e N = opens_watching same (recurs_so refl not_begun (itself (unborn (is_closure (alike_itself _) (g e N)))))
-
-  -- and so does one that keeps its source, whose observer isn't born either
-  pub open_continuing : (w : Observation) (a b c : PlanId) (k : NameId) (q : PatternId) (names two : Env) (one : process_states.Process) (x : State) (l : Rc Continuation Global) → l.value ≡ (record { shown = w; first = a; source = Unborn one; before = x; observer = Unborn (closed_over b two); name = k; pattern = q; body = c })
-      → ((e : Environment) → IsNames μ names e → IsProcess μ one (closure (plan_tree μ.plan a) e)) → ((e : Environment) → IsNames μ names e → IsNames μ two e)
-      → (i : Data) (e : Environment) → IsNames μ names e → Opens μ (continuing w (plan_tree μ.plan a) (plan_tree μ.plan b) (name_at (plan_expressions μ.plan) k) (pattern_of (stored_pattern (plan_expressions μ.plan) q)) (plan_tree μ.plan c)) e i (Ok (opened.Continuation l))
-  open_continuing w a b c k q names two one x l same f g i e N =
-      opens_continuing same (continues_so at_start not_begun not_begun (itself (unborn (f e N))) (itself (unborn (is_closure (alike_itself _) (g e N)))))
-
   -- ## Members
 
   -- what a collection makes among names
@@ -250,17 +227,6 @@ module _ (μ : Machine) where
     pub open_editing_fails : (t : Term) (f : Fault) → BuildsPlan μ.plan (NEditing s) t → (x : Data) (e : Environment) → EditedMade e (Err f) → Opens μ t e x (Err f)
     open_editing_fails t f (builds_editing C) x e h = open_members_fails _ s.members.value x e f refl (h C.0)
 
-  -- nodes of switches open as their terms do
-  pub open_builds_switch : {x : Data} (s : PlanSwitch) (t : Term) (names : Env) (r : Result Opened Fault) → BuildsPlan μ.plan (NSwitching s) t
-      → ((e : Environment) → IsNames μ names e → Opens μ (switching s.form (plan_tree μ.plan s.source) (pattern_of (stored_pattern (plan_expressions μ.plan) s.pattern)) (plan_tree μ.plan s.body)) e x r)
-      → (e : Environment) → IsNames μ names e → Opens μ t e x r
-  open_builds_switch s t names r builds_switching h = h
-
-  pub open_builds_continuing : {x : Data} (s : PlanContinuation) (t : Term) (names : Env) (r : Result Opened Fault) → BuildsPlan μ.plan (NContinuation s) t
-      → ((e : Environment) → IsNames μ names e → Opens μ (continuing s.shown (plan_tree μ.plan s.source) (plan_tree μ.plan s.observer) (name_at (plan_expressions μ.plan) s.name) (pattern_of (stored_pattern (plan_expressions μ.plan) s.pattern)) (plan_tree μ.plan s.body)) e x r)
-      → (e : Environment) → IsNames μ names e → Opens μ t e x r
-  open_builds_continuing s t names r builds_continuing h = h
-
   -- a probe keeps nothing
   pub open_probe : (r r' : Rc (String Global) Global) (t : Term) (l : Rc Live Global) → l.value ≡ LProbe r' → BuildsPlan μ.plan (NProbe r) t → r'.value ≡ r.value → (x : Data) (e : Environment) → Opens μ t e x (Ok (opened.Live l))
   open_probe r r' t l there builds_probe same x e =
@@ -270,15 +236,6 @@ module _ (μ : Machine) where
   -- what a term opens to stands in its state
   pub begin_live : {at : _} {t : Term} {e : Environment} {x : Data} (l : Rc Live Global) (names : Env) → IsNames μ names e → Opens μ t e x (Ok (opened.Live l)) → Prepared μ (Alive' names at l.value) (closure t e) x []
   begin_live {at} {t} {e} {x} l names N (opens same R) = subst (λ (v : Live). Prepared μ (Alive' names at v) (closure t e) x []) (sym same) (live_prepared N R)
-
-  pub begin_switch : {at : _} {t : Term} {e : Environment} {x : Data} (k : Rc Switch Global) (names : Env) → IsNames μ names e → Opens μ t e x (Ok (opened.Switch k))
-      → Prepared μ (Watching' names at k.value.form k.value.running k.value.pattern k.value.body) (closure t e) x []
-  begin_switch {at} {t} {e} {x} k names N (opens_watching same W) = subst (λ (k : Switch). Prepared μ (Watching' names at k.form k.running k.pattern k.body) (closure t e) x []) (sym same) (switch_prepared N W)
-
-  pub begin_continuing : {at : _} {t : Term} {e : Environment} {x : Data} (k : Rc Continuation Global) (names : Env) → IsNames μ names e → Opens μ t e x (Ok (opened.Continuation k))
-      → Prepared μ (Continuation' names at k.value.shown k.value.first k.value.source k.value.before k.value.observer k.value.name k.value.pattern k.value.body) (closure t e) x []
-  begin_continuing {at} {t} {e} {x} k names N (opens_continuing same W) =
-      subst (λ (k : Continuation). Prepared μ (Continuation' names at k.shown k.first k.source k.before k.observer k.name k.pattern k.body) (closure t e) x []) (sym same) (continuing_prepared N W)
 
   pub begin_gathering : {at : _} {t : Term} {e : Environment} {x : Data} (k : Rc Gathering Global) (names : Env) → IsNames μ names e → Opens μ t e x (Ok (opened.Gathering k)) → Prepared μ (Gathering' names at k.value) (closure t e) x []
   begin_gathering {at} {t} {e} {x} k names N (opens_gathering same W) = subst (λ (g : Gathering). Prepared μ (Gathering' names at g) (closure t e) x []) (sym same) (gathering_prepared N W)

@@ -26,8 +26,6 @@ use Rattle.sf_prim.specs.declared.prim_state.PrimState.{PrimState}
 use Rattle.sf_state.specs.declared.state.State.{State}
 use Rattle.sf_state.specs.declared.state.State.TheVariants.{Unborn', Primitive as SPrimitive, Live' as Alive', Switch' as Watching', Continuation', Gathering', Frozen'}
 use Rattle.sf_state.specs.declared.state.Live.{Live}
-use Rattle.sf_state.specs.declared.state.Switch.{Switch}
-use Rattle.sf_state.specs.declared.state.Continuation.{Continuation}
 use Rattle.sf_state.specs.declared.state.Gathering.{Gathering}
 use Rattle.sf_state.specs.declared.env.Env.{Env}
 use Rattle.sf_state.specs.declared.state.Wrap.{Wrap}
@@ -37,14 +35,16 @@ use Rattle.sf_state.specs.Machine.{Machine, machine_network}
 use Rattle.sf_begin.specs.declared.opening.Opened.{Opened}
 use Rattle.sf_begin.specs.declared.opening.Opened.TheVariants as opened
 
--- a node has no first sample of its own, so it begins as itself: no primitive, call or process of a name, and no two parts in
--- a row or on one input
+-- a node has no first sample of its own, so it begins as itself: no primitive, call, process of a name or switch, and no two
+-- parts in a row or on one input
 abbrev pub OpensItself : PlanNode → Type 0
 OpensItself (nodes.Primitive q) = ⊥
 OpensItself (nodes.Joined j a b) = j ≡ InParallel
 OpensItself (nodes.Pipeline v) = length v.items ≢ 2
 OpensItself (nodes.Call k g v) = ⊥
 OpensItself (nodes.Started w k) = ⊥
+OpensItself (nodes.Switching s) = ⊥
+OpensItself (nodes.Continuation s) = ⊥
 OpensItself _ = Unit {0}
 
 -- A state is prepared for the next step of a process after a life, before its first sample too: the process that it was made
@@ -89,8 +89,6 @@ WrapsAtFirst n t e x part r = Makes (λ w m. Wraps n w t e m [] part []) (make n
 -- a part before its first sample, which has the input x; or the fault of its constants
 pub data Opens (μ : Machine) (t : Term) (e : Environment) (x : Data) : Result Opened Fault → Type 0 where
   opens : {r : Rc Live Global} {l : Live} → r.value ≡ l → Ready μ l (closure t e) x [] → Opens μ t e x (Ok (opened.Live r))
-  opens_watching : {r : Rc Switch Global} {s : Switch} → r.value ≡ s → Waits μ s (closure t e) [] → Opens μ t e x (Ok (opened.Switch r))
-  opens_continuing : {r : Rc Continuation Global} {s : Continuation} → r.value ≡ s → WaitsContinuation μ s (closure t e) [] → Opens μ t e x (Ok (opened.Continuation r))
   opens_gathering : {r : Rc Gathering Global} {g : Gathering} → r.value ≡ g → WaitsGathered μ g (closure t e) [] → Opens μ t e x (Ok (opened.Gathering r))
   opens_with_fault : {f : ValueFault} → ((d : ℕ) → Gives (machine_network μ) (closure t e) (step d x ∷ []) (faulted f) (entered_cost t)) → Opens μ t e x (Err (Value f))
   opens_without_memory : Opens μ t e x (Err Memory)

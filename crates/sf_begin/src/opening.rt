@@ -25,13 +25,8 @@ use crate::context::{SampleContext, constant_in, fault_of, made_in};
 use crate::wrapping::{on_side, with_head};
 use sf_code::OpenCode;
 use sf_func::Holds;
-use sf_law::{
-    Plan, PlanCollection, PlanContinuation, PlanEditing, PlanId, PlanNode, PlanReleasing,
-    PlanSwitch,
-};
-use sf_state::{
-    Continuation, Editing, Env, Gathering, Live, Process, Releasing, State, Switch, Wrap,
-};
+use sf_law::{PlanCollection, PlanEditing, PlanId, PlanNode, PlanReleasing};
+use sf_state::{Editing, Env, Gathering, Live, Process, Releasing, State, Wrap};
 use sf_term::{Heading, Join};
 use sf_value::{Fault, Value};
 use std::alloc::{AllocError, Global};
@@ -69,8 +64,6 @@ fn prepared(opened: Opened, names: Env) -> State
 {
     match opened {
         Opened::Live(node) => State::Live(names, node),
-        Opened::Switch(watching) => State::Switch(names, watching),
-        Opened::Continuation(kept) => State::Continuation(names, kept),
         Opened::Gathering(members) => State::Gathering(names, members),
     }
 }
@@ -80,10 +73,6 @@ fn prepared(opened: Opened, names: Env) -> State
 pub(crate) enum Opened {
     /// One that goes on as it is.
     Live(Rc<Live>),
-    /// A switch.
-    Switch(Rc<Switch>),
-    /// A switch that keeps its source.
-    Continuation(Rc<Continuation>),
     /// Members that wait for an event.
     Gathering(Rc<Gathering>),
 }
@@ -109,9 +98,7 @@ fn open<R: Holds>(
             headed(context, *heading, code, *part, names)
         }
         PlanNode::Transformed(_, code, part) => transformed(context, code, *part, names, input),
-        PlanNode::Switching(form) => switching(context.alloc, form, names),
         PlanNode::Pipeline(stages) => pipeline(context.alloc, stages, names),
-        PlanNode::Continuation(form) => continuing(context.alloc, context.plan, form, names),
         PlanNode::Gathered(members) => gathered(context, members, names),
         PlanNode::Releasing(releasing) => members_under(context, releasing, names),
         PlanNode::Editing(editing) => members_edited(context, editing, names),
@@ -120,7 +107,9 @@ fn open<R: Holds>(
         PlanNode::Primitive(_)
         | PlanNode::Joined(..)
         | PlanNode::Call(..)
-        | PlanNode::Started(..) => unreachable!(),
+        | PlanNode::Started(..)
+        | PlanNode::Switching(_)
+        | PlanNode::Continuation(_) => unreachable!(),
     }
 }
 
@@ -212,57 +201,6 @@ fn transformed<R: Holds>(
         Ok(first) => wrapped(context.alloc, Wrap::Replaced(Some(first)), part, names),
         Err(fault) => Err(fault_of(fault)),
     }
-}
-
-// A switch before its first sample, with the names around it.
-#[inline(never)]
-fn switching(alloc: Global, form: &PlanSwitch, names: &Env) -> Result<Opened, Fault>
-    ensures { let s = form.now in (μ : Machine) (x : Data) (e : Environment) → IsNames μ names.now e →
-        Opens μ (Trees.switching s.form (plan_tree μ.plan s.source) (pattern_of (stored_pattern (plan_expressions μ.plan) s.pattern)) (plan_tree μ.plan s.body)) e x result }
-{
-    let shared = names.share()?;
-    let switch = Switch {
-        form: form.form,
-        running: State::Unborn(Process {
-            term: form.source,
-            names: shared,
-        }),
-        pattern: form.pattern,
-        body: form.body,
-    };
-    let node = Rc::new(alloc, switch)?;
-    Ok(Opened::Switch(node))
-}
-
-// A switch that keeps its source, likewise. What it keeps has the names that its term mentions alone.
-#[inline(never)]
-fn continuing(
-    alloc: Global,
-    plan: &Plan,
-    form: &PlanContinuation,
-    names: &Env,
-) -> Result<Opened, Fault>
-    ensures { let p = plan.now in let s = form.now in (φ : AnswersByName) (x : Data) (e : Environment) → IsNames (machine φ p) names.now e →
-        Opens (machine φ p) (Trees.continuing s.shown (plan_tree p s.source) (plan_tree p s.observer) (name_at (plan_expressions p) s.name) (pattern_of (stored_pattern (plan_expressions p) s.pattern)) (plan_tree p s.body))
-        e x result }
-{
-    let running = Process::within(alloc, plan, form.source, names)?;
-    let around = names.share()?;
-    let continuing = Continuation {
-        shown: form.shown,
-        first: form.source,
-        source: State::Unborn(running),
-        before: State::unborn(form.source),
-        observer: State::Unborn(Process {
-            term: form.observer,
-            names: around,
-        }),
-        name: form.name,
-        pattern: form.pattern,
-        body: form.body,
-    };
-    let node = Rc::new(alloc, continuing)?;
-    Ok(Opened::Continuation(node))
 }
 
 // The members of a collection before their first sample, with the names around it.

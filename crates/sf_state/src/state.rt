@@ -10,6 +10,7 @@ ghost use Rattle.sf_mean.specs.Lives.{base, bind, closure, resumed, empty, runni
 ghost use Rattle.sf_mean.specs.Lives;
 ghost use Rattle.sf_mean.specs.Meaning.{body_of};
 ghost use Rattle.sf_state.specs.declared.env.Env as environments;
+ghost use Rattle.sf_state.specs.declared.state.State.TheVariants as StateOf;
 ghost use Rattle.sf_state.specs.Held.{gathered_holding};
 ghost use Rattle.sf_state.specs.Standing.{IsNames, Stands, Ready, Waits, WaitsContinuation, WaitsGathered, Gathers, IsProcess, AllFollow, frozen_state, is_primitive, is_frozen};
 ghost use Rattle.sf_state.specs.Machine.{Machine, machine};
@@ -675,16 +676,16 @@ impl Switch {
         plan: &Plan,
         names: &Env,
         payload: Rc<Value>,
-    ) -> Result<State, AllocError>
+    ) -> Result<Process, AllocError>
         ensures { let p = plan.now in
             IfOk result (λ begun. (φ : AnswersByName) (e : Environment) → IsNames (machine φ p) names.now e →
-            Stands (machine φ p) begun (body_of (pattern_of (stored_pattern (plan_expressions p) self.now.pattern)) (plan_tree p self.now.body) e payload.value) []) }
+            Stands (machine φ p) (StateOf.Unborn begun) (body_of (pattern_of (stored_pattern (plan_expressions p) self.now.pattern)) (plan_tree p self.now.body) e payload.value) []) }
     {
         let around = names.inside(alloc, plan, self.pattern, payload)?;
-        Ok(State::Unborn(Process {
+        Ok(Process {
             term: self.body,
             names: around,
-        }))
+        })
     }
 }
 
@@ -718,10 +719,10 @@ impl Continuation {
         names: &Env,
         wait: u64,
         payload: Rc<Value>,
-    ) -> Result<State, AllocError>
+    ) -> Result<Process, AllocError>
         ensures { let p = plan.now in
             IfOk result (λ begun. (φ : AnswersByName) (e : Environment) (P : Lives.Process) (L : Life) → IsNames (machine φ p) names.now e → Stands (machine φ p) self.now.before P L →
-            base P ≡ closure (plan_tree p self.now.first) e → Stands (machine φ p) begun (closure (plan_tree p self.now.body)
+            base P ≡ closure (plan_tree p self.now.first) e → Stands (machine φ p) (StateOf.Unborn begun) (closure (plan_tree p self.now.body)
             (bind (pattern_of (stored_pattern (plan_expressions p) self.now.pattern)) payload.value (running (name_at (plan_expressions p) self.now.name) (Lives.frozen P L wait) e))) []) }
     {
         let frozen = self.before.freeze(alloc, wait)?;
@@ -732,10 +733,10 @@ impl Continuation {
         };
         let known = names.with_process(alloc, self.name, handed)?;
         let around = known.inside(alloc, plan, self.pattern, payload)?;
-        Ok(State::Unborn(Process {
+        Ok(Process {
             term: self.body,
             names: around,
-        }))
+        })
     }
 }
 
@@ -785,18 +786,18 @@ impl Releasing {
         names: &Env,
         wait: u64,
         payload: Rc<Value>,
-    ) -> Result<State, AllocError>
+    ) -> Result<Process, AllocError>
         ensures { let p = plan.now in
             IfOk result (λ begun. (φ : AnswersByName) (e : Environment) (ms : Lives.Members) (L : Life) → IsNames (machine φ p) names.now e → Gathers (machine φ p) (gathered_holding self.now.before) ms L →
-            Stands (machine φ p) begun (closure (plan_tree p self.now.body)
+            Stands (machine φ p) (StateOf.Unborn begun) (closure (plan_tree p self.now.body)
             (bind (pattern_of (stored_pattern (plan_expressions p) self.now.pattern)) payload.value (collected (name_at (plan_expressions p) self.now.name) (each_frozen ms L wait) e))) []) }
     {
         let known = names.with_frozen(alloc, self.name, &self.before, wait)?;
         let around = known.inside(alloc, plan, self.pattern, payload)?;
-        Ok(State::Unborn(Process {
+        Ok(Process {
             term: self.body,
             names: around,
-        }))
+        })
     }
 }
 

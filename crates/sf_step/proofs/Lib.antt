@@ -5,6 +5,7 @@ pub mod Rows
 pub mod Parts
 pub mod Forms
 pub mod SwitchTurns
+pub mod FirstSwitches
 pub mod References
 pub mod Exits
 pub mod Stages

@@ -1,5 +1,5 @@
 -- Members of a collection are stepped one after another, each on the same input.
-use Rattle.std.proofs.Common.{◌≡◌, ℕ, suc, ◌+◌, ◌≤◌, ◌<◌, List, [], ◌∷◌, ◌++◌, length, take, drop, get_or, set, Bool, true, false, Option, Some, None, Vec, Result, Ok, Err, refl, sym, ap, ◌∙◌, subst, append_assoc, arith, drop-cons}
+use Rattle.std.proofs.Common.{◌≡◌, ℕ, suc, ◌+◌, ◌≤◌, ◌<◌, List, [], ◌∷◌, ◌++◌, length, take, drop, get_or, set, true, false, Option, Some, None, Vec, Result, Ok, Err, refl, sym, ap, ◌∙◌, subst, append_assoc, arith, drop-cons}
 use mathlib.Core.Path.{ap₂}
 use Rattle.std.proofs.lemmas.List.{drop-set-lt, take_more_set, append-nil}
 use Rattle.std.proofs.Math.Seq.{take-length, drop-length}
@@ -13,21 +13,21 @@ use Rattle.sf_value.specs.declared.fault.Fault.TheVariants.{Memory}
 use Rattle.sf_term.specs.Trees.{Collection, gathered}
 use Rattle.sf_mean.specs.Collections.{leading_row}
 use Rattle.sf_mean.specs.Lives.{Step, step, Life, Process, frozen, Environment, Members, member, first_input}
-use Rattle.sf_mean.specs.Meaning.{Network, Outcome, gave, faulted, combined, Cost, no_cost, both_costs, members_made, Gives, gives, and_gave, of_form, Form, of_gathered, Each, no_more, one_more, Others, others_go_on, others_stop, Tables, and_table}
+use Rattle.sf_mean.specs.Meaning.{Network, Outcome, gave, faulted, combined, Cost, no_cost, both_costs, members_made, Gives, gives, and_gave, of_form, Form, of_gathered, Each, no_more, one_more, Others, others_go_on, others_stop, and_table}
 use Rattle.sf_mean.proofs.Once.{once_each}
 use Rattle.sf_state.specs.declared.state.State.{State}
 use Rattle.sf_state.specs.declared.state.State.TheVariants.{Unborn', Primitive as SPrimitive, Live' as Alive', Switch' as Watching', Continuation', Gathering', Frozen'}
 use Rattle.sf_begin.specs.Beginning.{is_awake}
-use Rattle.sf_state.specs.declared.state.Live.{Live, items_hidden-the_row-State-0 as states_are}
+use Rattle.sf_state.specs.declared.state.Live.{items_hidden-the_row-State-0 as states_are}
 use Rattle.sf_state.specs.declared.state.Live.TheVariants.{Gathered as LGathered}
 use Rattle.sf_state.specs.declared.state.Gathered.{Gathered}
 use Rattle.sf_state.specs.Held.{gathered_holding}
-use Rattle.sf_state.specs.Standing.{Stands, Ready, ready, lives_gathered, gathers, settles, Gathers, EachStands, none_stands, one_stands, StandsAmong, as_it_stands, as_it_stood, AllFollow, keys_in}
+use Rattle.sf_state.specs.Standing.{Stands, Ready, ready, lives_gathered, gathers, settles, Gathers, EachStands, none_stands, one_stands, as_it_stands, as_it_stood, AllFollow, keys_in}
 use Rattle.sf_state.specs.Machine.{Machine, machine_network}
 use Rattle.sf_state.proofs.Copies.{each_follows, held_shown, members_live, IsFresh, HasLived, primitive_lived, alive_lived, watching_lived, continuing_lived, gathering_lived, unborn_fresh, frozen_fresh}
 use Rattle.sf_meter.specs.declared.meter.Meter.{Meter}
 use Rattle.sf_meter.specs.Meters.{entered_of, meter_height, Ticks, left_or}
-use Rattle.sf_step.specs.Answering.{Rel, StopsFor, memory, Answers, answers, fails, LiveSteps}
+use Rattle.sf_step.specs.Answering.{Rel, StopsFor, memory, answers, fails, LiveSteps}
 use Rattle.sf_step.specs.Sampling.{PartSteps, StateSteps, MemberSteps, EachSteps, MembersSteps, left_with}
 use Rattle.sf_step.proofs.SwitchTurns.{gone_on}
 use Rattle.sf_step.proofs.Parts.{Over, counted, single, spent_within, Then, then_on, then_stop, Alike, over_spent, both_spent, fails_alike, over_fails, then_fails, rest_fails, answered, failed}

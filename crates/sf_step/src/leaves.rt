@@ -19,7 +19,7 @@ use std::rc::Rc;
 
 /// Puts the value at the next sample of a primitive, which has been counted, in place of the input. After an error the
 /// primitive keeps nothing that is promised, and the value may be any; the meter has the fault, of its operations or of memory.
-#[inline(always)]
+#[inline(never)]
 pub(crate) fn step_prim<R: Holds>(
     context: &SampleContext<R>,
     prim: &mut PrimState,

@@ -1,7 +1,8 @@
 //! One sample.
 ghost use Rattle.std.specs.Prelude.{◌≡◌, ◌≢◌, ◌≤◌, ◌∷◌, List, None, Some, Ok, length, false, All, Vec, IsTrue, IsFalse};
 ghost use Rattle.sf_begin.specs.Beginning.{OpensItself, is_awake};
-ghost use Rattle.sf_mean.specs.Lives.{step, Life, Process};
+ghost use Rattle.sf_mean.specs.Lives.{step, Life};
+ghost use Rattle.sf_mean.specs.Lives;
 ghost use Rattle.sf_state.specs.declared.state.State as state_forms;
 ghost use Rattle.sf_state.specs.declared.state.State.TheVariants as StateOf;
 ghost use Rattle.sf_state.specs.Held.{gathered_holding, held_as};
@@ -35,12 +36,12 @@ use crate::turning::{Noted, Turn, change_all, table_after, table_before};
 use sf_begin::{Draft, SampleContext, begin, called, collect, draft_of, started, two_of};
 use sf_expr::NameId;
 use sf_func::Holds;
-use sf_law::{Plan, PlanArgument, PlanId, PlanNode, TemplateId};
+use sf_law::{Plan, PlanArgument, PlanContinuation, PlanId, PlanNode, PlanSwitch, TemplateId};
 use sf_meter::{Meter, Stop};
 use sf_probe::Readings;
 use sf_state::{
-    Continuation, Editing, Env, Feedback, Gathered, Gathering, Live, Releasing, State, Switch,
-    Wrap, hold_back_members, own_states,
+    Continuation, Editing, Env, Feedback, Gathered, Gathering, Live, Process, Releasing, State,
+    Switch, Wrap, hold_back_members, own_states,
 };
 use sf_term::{Join, Observation, Start, Switching};
 use sf_value::{Fault, Keys, Value, ValueFault};
@@ -93,7 +94,7 @@ pub fn step<R: Holds>(
     meter: &mut Meter,
 ) -> Result<(Value, Readings), Fault>
     // a state of (P, L) steps to the outcome of P on the longer life
-    ensures answers { (P : Process) (L : Life) → Stands (machine (R.answers functions.now) plan.now) state.old P L →
+    ensures answers { (P : Lives.Process) (L : Life) → Stands (machine (R.answers functions.now) plan.now) state.old P L →
         Steps (machine (R.answers functions.now) plan.now) P (step dt input ∷ L) result state.new meter.new }
     ensures bounded { (entered_of meter.new ≤ 1000000) × (meter_height meter.new ≤ 1600) }
 {
@@ -260,6 +261,11 @@ fn first_node<R: Holds>(
         PlanNode::Started(start, name) => {
             first_of_process(around, state, *start, *name, value, meter)
         }
+        PlanNode::Switching(form) => match form.form {
+            Switching::Basic(_) => first_basic(around, state, form, value, meter),
+            Switching::Recurring(_) => first_recurring(around, state, form, value, meter),
+        },
+        PlanNode::Continuation(form) => first_continuing(around, state, form, value, meter),
         _ => first_other(around, state, node, value, meter),
     }
 }
@@ -342,6 +348,166 @@ fn first_of_process<R: Holds>(
     );
     state.put(process);
     step_state(context, state, around.inside, value, meter)
+}
+
+// The same of a basic switch. Its node is made where its event isn't there.
+#[cycle(step)]
+#[inline(never)]
+fn first_basic<R: Holds>(
+    around: &Around<R>,
+    state: &mut State,
+    form: &PlanSwitch,
+    value: &mut Value,
+    meter: &mut Meter,
+) -> Result<(), Stop>
+    requires { form.now.form ≡ Switching.Basic (observation_of form.now.form) }
+    ensures { (t : Term) → BuildsPlan (plan_around around.now) (NodeOf.Switching form.now) t →
+        TermSteps (machine_around R.answers around.now) t around.now.names.now (step (dt_around around.now) value.old)
+        (left_or result (state.new, value.new) (meter_fault meter.new)) meter.old meter.new around.now.inside }
+{
+    let context = around.context;
+    let output = granted!(meter, value.clone_in(context.alloc));
+    let mut running = State::unborn(form.source);
+    let (old, occurring) = first_apart(around, &mut running, form.source, value, meter)?;
+    *value = old;
+    match occurring {
+        None => {
+            let switch = Switch {
+                form: form.form,
+                running,
+                pattern: form.pattern,
+                body: form.body,
+            };
+            let names = granted!(meter, around.names.share());
+            let node = granted!(meter, Rc::new(context.alloc, switch));
+            state.put(State::Switch(names, node));
+            Ok(())
+        }
+        Some(payload) => {
+            let names = granted!(
+                meter,
+                around
+                    .names
+                    .inside(context.alloc, context.plan, form.pattern, payload)
+            );
+            let within = Around {
+                context: &*context,
+                names: &names,
+                inside: around.inside,
+            };
+            let mut shown = output;
+            first_step(&within, state, form.body, &mut shown, meter)?;
+            show(shown_by(&form.form), value, shown);
+            Ok(())
+        }
+    }
+}
+
+// The same of a recurring switch, which is stepped in its node.
+#[cycle(step)]
+#[inline(never)]
+fn first_recurring<R: Holds>(
+    around: &Around<R>,
+    state: &mut State,
+    form: &PlanSwitch,
+    value: &mut Value,
+    meter: &mut Meter,
+) -> Result<(), Stop>
+    requires { form.now.form ≡ Switching.Recurring (observation_of form.now.form) }
+    ensures { (t : Term) → BuildsPlan (plan_around around.now) (NodeOf.Switching form.now) t →
+        TermSteps (machine_around R.answers around.now) t around.now.names.now (step (dt_around around.now) value.old)
+        (left_or result (state.new, value.new) (meter_fault meter.new)) meter.old meter.new around.now.inside }
+{
+    let context = around.context;
+    let inner = granted!(meter, around.names.share());
+    let mut switch = Switch {
+        form: form.form,
+        running: State::Unborn(Process {
+            term: form.source,
+            names: inner,
+        }),
+        pattern: form.pattern,
+        body: form.body,
+    };
+    step_recurring(
+        context,
+        &mut switch,
+        around.names,
+        around.inside,
+        value,
+        meter,
+    )?;
+    let names = granted!(meter, around.names.share());
+    let node = granted!(meter, Rc::new(context.alloc, switch));
+    state.put(State::Switch(names, node));
+    Ok(())
+}
+
+// The same of a switch that keeps its source. What it keeps has the names that its term mentions alone.
+#[cycle(step)]
+#[inline(never)]
+fn first_continuing<R: Holds>(
+    around: &Around<R>,
+    state: &mut State,
+    form: &PlanContinuation,
+    value: &mut Value,
+    meter: &mut Meter,
+) -> Result<(), Stop>
+    ensures { (t : Term) → BuildsPlan (plan_around around.now) (NodeOf.Continuation form.now) t →
+        TermSteps (machine_around R.answers around.now) t around.now.names.now (step (dt_around around.now) value.old)
+        (left_or result (state.new, value.new) (meter_fault meter.new)) meter.old meter.new around.now.inside }
+{
+    let context = around.context;
+    let alloc = context.alloc;
+    let plan = context.plan;
+    let before = granted!(
+        meter,
+        Process::within(alloc, plan, form.source, around.names)
+    );
+    let (input, output) = granted!(meter, copies(alloc, &*value));
+    let mut source = State::unborn(form.source);
+    let among = Around {
+        context: &*context,
+        names: &before.names,
+        inside: around.inside,
+    };
+    first_step(&among, &mut source, before.term, value, meter)?;
+    let mut seen = granted!(meter, beside(alloc, input, &*value));
+    let mut observer = State::unborn(form.observer);
+    first_step(around, &mut observer, form.observer, &mut seen, meter)?;
+    let continuing = Continuation {
+        shown: form.shown,
+        first: form.source,
+        source,
+        before: State::Unborn(before),
+        observer,
+        name: form.name,
+        pattern: form.pattern,
+        body: form.body,
+    };
+    match payload_of(seen) {
+        None => {
+            let names = granted!(meter, around.names.share());
+            let node = granted!(meter, Rc::new(alloc, continuing));
+            state.put(State::Continuation(names, node));
+            Ok(())
+        }
+        Some(payload) => {
+            let body = granted!(
+                meter,
+                continuing.begin(alloc, plan, around.names, context.dt, payload)
+            );
+            let within = Around {
+                context: &*context,
+                names: &body.names,
+                inside: around.inside,
+            };
+            let mut shown = output;
+            first_step(&within, state, body.term, &mut shown, meter)?;
+            show(form.shown, value, shown);
+            Ok(())
+        }
+    }
 }
 
 // The same of two parts, the right one on the value of the left one.
@@ -441,25 +607,42 @@ fn step_unborn_apart<R: Holds>(
     };
     let term = process.term;
     let names = mem::replace(&mut process.names, Env::Empty);
-    if let PlanNode::Joined(join, left, right) = context.plan.node(term) {
-        if let Join::FannedOut = join {
-            let inside = meter.tick(depth)?;
-            let around = Around {
-                context: &*context,
-                names: &names,
-                inside,
-            };
-            let first = first_halves(&around, state, *left, *right, value, meter)?;
-            let second = mem::replace(value, Value::int(0));
-            return Ok((first, payload_of(second)));
-        }
-    }
     let around = Around {
         context: &*context,
         names: &names,
         inside: depth,
     };
-    first_step(&around, state, term, value, meter)?;
+    first_apart(&around, state, term, value, meter)
+}
+
+// The first sample of a term whose value is taken apart. Two parts on one input give both without a pair.
+#[cycle(step)]
+#[inline(always)]
+fn first_apart<R: Holds>(
+    around: &Around<R>,
+    state: &mut State,
+    term: PlanId,
+    value: &mut Value,
+    meter: &mut Meter,
+) -> Result<(Value, Option<Rc<Value>>), Stop>
+    ensures { GivesApart (λ gives. StateSteps (machine_around R.answers around.now) (StateOf.Unborn (closed_over term around.now.names.now)) (step (dt_around around.now) value.old) gives meter.old meter.new around.now.inside)
+        state.new (meter_fault meter.new) result }
+{
+    let context = around.context;
+    if let PlanNode::Joined(join, left, right) = context.plan.node(term) {
+        if let Join::FannedOut = join {
+            let inside = meter.tick(around.inside)?;
+            let within = Around {
+                context: &*context,
+                names: &*around.names,
+                inside,
+            };
+            let first = first_halves(&within, state, *left, *right, value, meter)?;
+            let second = mem::replace(value, Value::int(0));
+            return Ok((first, payload_of(second)));
+        }
+    }
+    first_step(around, state, term, value, meter)?;
     taken_apart(context.alloc, value, meter)
 }
 
@@ -1376,16 +1559,20 @@ fn step_recurring<R: Holds>(
     match occurring {
         None => step_state(context, &mut switch.running, inside, value, meter),
         Some(payload) => {
-            let begun = granted!(meter, value.clone_in(context.alloc));
+            let mut shown = granted!(meter, value.clone_in(context.alloc));
             let ran = &mut switch.running;
             step_state(context, ran, inside, value, meter)?;
             let body = granted!(
                 meter,
                 switch.begin(context.alloc, context.plan, names, payload)
             );
-            let (body, output) = step_begun(context, body, inside, begun, meter)?;
-            take_over(&mut switch.running, Some(body));
-            show(shown_by(&switch.form), value, output);
+            let around = Around {
+                context: &*context,
+                names: &body.names,
+                inside,
+            };
+            first_step(&around, &mut switch.running, body.term, &mut shown, meter)?;
+            show(shown_by(&switch.form), value, shown);
             Ok(())
         }
     }
@@ -1438,20 +1625,25 @@ fn step_continuing<R: Holds>(
 #[inline(always)]
 fn step_begun<R: Holds>(
     context: &SampleContext<R>,
-    body: State,
+    body: Process,
     inside: u64,
     input: Value,
     meter: &mut Meter,
 ) -> Result<(State, Value), Stop>
-    ensures { StateSteps (context_machine R.answers context.now) body (step (dt_in context.now) input)
+    ensures { StateSteps (context_machine R.answers context.now) (StateOf.Unborn body) (step (dt_in context.now) input)
         (kept result (meter_fault meter.new)) meter.old meter.new inside }
 {
-    let mut body = body;
+    let around = Around {
+        context: &*context,
+        names: &body.names,
+        inside,
+    };
+    let mut state = State::unborn(body.term);
     let mut value = input;
-    match step_state(context, &mut body, inside, &mut value, meter) {
-        Ok(()) => Ok((body, value)),
+    match first_step(&around, &mut state, body.term, &mut value, meter) {
+        Ok(()) => Ok((state, value)),
         Err(Stop) => {
-            drop(body);
+            drop(state);
             drop(value);
             Err(Stop)
         }

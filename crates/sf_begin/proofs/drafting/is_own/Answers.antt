@@ -1,4 +1,4 @@
-use Rattle.std.proofs.Common.{◌≡◌, cond, sym, ap, ◌∙◌}
+use Rattle.std.proofs.Common.{cond, sym, ap, ◌∙◌}
 use Rattle.sf_expr.specs.Arena.{stored_pattern, name_at}
 use Rattle.sf_expr.specs.Patterns.{pattern_of}
 use Rattle.sf_mean.specs.Lives.{members_of, collected}

@@ -1,4 +1,4 @@
-use Rattle.std.proofs.Common.{◌≡◌, ℕ, ◌-◌, [], List, Option, length}
+use Rattle.std.proofs.Common.{ℕ, ◌-◌, [], List, Option, length}
 use Rattle.sf_expr.specs.Expressions.{Function}
 use Rattle.sf_expr.specs.Evaluation.{apply}
 use Rattle.sf_law.specs.Arena.{plan_expressions}

@@ -1,6 +1,6 @@
 use Rattle.std.proofs.Common.{sym}
 use Rattle.sf_term.specs.declared.form.Join.TheVariants.{InParallel}
-use Rattle.sf_begin.proofs.Begins.{parts_joined, open_sided, open_builds_headed, open_builds_transformed, open_builds_switch, open_builds_continuing, open_builds_gathered}
+use Rattle.sf_begin.proofs.Begins.{parts_joined, open_sided, open_builds_headed, open_builds_transformed, open_builds_gathered}
 use Rattle.sf_begin.proofs.opening.open.Goals as goal
 use Rattle.sf_begin.specs.Contexts.{context_machine}
 
@@ -21,19 +21,9 @@ pub returns-in-Transformed : goal.returns-in-Transformed
 returns-in-Transformed g c = λ t B.
     open_builds_transformed (context_machine g.R.Holds.answers c.args.context.now) c.in-Transformed.field-0 c.in-Transformed.code c.in-Transformed.part t c.args.names.now _ (rw c.in-Transformed.is at B) (c.transformed.ensures _)
 
-pub returns-in-Switching : goal.returns-in-Switching
-returns-in-Switching g c = λ t B.
-    let μ = context_machine g.R.Holds.answers c.args.context.now in
-    open_builds_switch μ c.in-Switching.form t c.args.names.now _ (rw c.in-Switching.is at B) (c.switching.ensures μ c.args.input.now)
-
 pub returns-in-Pipeline : goal.returns-in-Pipeline
 returns-in-Pipeline g c = λ t B.
     c.pipeline.ensures (context_machine g.R.Holds.answers c.args.context.now) c.in-Pipeline.stages t (sym c.deref.ensures.value) (rw c.in-Pipeline.is at B) c.args.input.now
-
-pub returns-in-Continuation : goal.returns-in-Continuation
-returns-in-Continuation g c = λ t B.
-    let μ = context_machine g.R.Holds.answers c.args.context.now in
-    open_builds_continuing μ c.in-Continuation.form t c.args.names.now _ (rw c.in-Continuation.is at B) (c.continuing.ensures μ.answers c.args.input.now)
 
 pub returns-in-Gathered : goal.returns-in-Gathered
 returns-in-Gathered g c = λ t B.

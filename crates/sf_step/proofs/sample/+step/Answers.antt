@@ -10,12 +10,14 @@ use Rattle.sf_state.specs.declared.state.Live.TheVariants.{Join as LJoin}
 use Rattle.sf_state.specs.declared.state.Wrap.TheVariants.{First, Second, Loop, Initialized, Replaced, Followed}
 use Rattle.sf_term.specs.declared.form.Join.TheVariants.{InSequence, InParallel, FannedOut}
 use Rattle.sf_value.specs.declared.value.Pair.{Pair}
+use Rattle.sf_coincidence.proofs.Same.{alike_itself}
 use Rattle.sf_mean.specs.Lives.{step, Life, Process, each_frozen}
 use Rattle.sf_state.specs.declared.state.Frozen.{Frozen}
 use Rattle.sf_state.specs.declared.state.State.{State}
+use Rattle.sf_state.specs.declared.state.State.TheVariants.{Unborn}
 use Rattle.sf_state.specs.declared.state.Gathered.{Gathered}
-use Rattle.sf_state.specs.Held.{gathered_holding, held_as}
-use Rattle.sf_state.specs.Standing.{Stands, AllFollow, frozen_state, worth_given, Waits, WaitsContinuation, WaitsGathered}
+use Rattle.sf_state.specs.Held.{held_as}
+use Rattle.sf_state.specs.Standing.{Stands, AllFollow, frozen_state, worth_given, closed_over, itself, unborn, is_closure, watching, continuing_on, Waits, WaitsContinuation, WaitsGathered}
 use Rattle.sf_begin.specs.Contexts.{context_machine}
 use Rattle.sf_expr.specs.Evaluation.{answer}
 use Rattle.sf_mean.specs.Meaning.{switched_value}
@@ -35,6 +37,7 @@ use Rattle.sf_step.proofs.Parts.{pass_exit, pass_apart, failed, own_halves, give
 use Rattle.sf_step.proofs.Stages.{StagesStep, continues_first, continues_next, continues_fails, continues_last, pipeline_steps, pipeline_fails}
 use Rattle.sf_step.proofs.Exits.{ticked_by, tick_fails, first_memory, join_left_fails, join_right_fails, join_steps, join_last, wrap_fails, wrap_steps, wrap_faults, wrap_last, late_memory, late_part, late_waiting, waits_alike, primitive_counted, live_counted, own_steps, primitive_is, live_is, awake_is, counted_steps, live_apart, first_counted, term_counted, begun_steps, begun_fails, late_term, joined_fails, joined_late, joined_steps}
 use Rattle.sf_step.proofs.Recurring.{run_fails, run_memory, new_fails, new_runs, runs_alone}
+use Rattle.sf_step.proofs.FirstSwitches.{new_switch, new_continuation, switch_waits, continuation_waits, term_over, term_on}
 use Rattle.sf_step.proofs.Switches.{source_fails, switch_memory, switch_waits_on, body_fails, body_takes_over}
 use Rattle.sf_step.proofs.Continuation.{runs_alike, kept_fails, kept_memory, observer_fails, observer_memory, keeps_on, kept_body_fails, continuation_takes_over, some_occurs, none_occurs}
 use Rattle.sf_step.proofs.SwitchTurns.{frozen_steps, pass_beside, watching_turns, watching_fails, continuing_turns, continuing_fails, gathering_turns, gathering_fails}
@@ -42,7 +45,7 @@ use Rattle.sf_step.proofs.Members.{memory_now, stopped_at, each_first, each_next
 use Rattle.sf_step.proofs.Releasing.{run_alike, members_stop, members_memory, sight_fails, sight_memory, members_go_on, released_body_fails, released_body_takes_over}
 use Rattle.sf_step.specs.Edits.{IsBetween, HaveStepped, no_memory_noted, HaveTurned, no_memory_before, old_fails, no_memory_between, made_fails, new_run, held_as_made}
 use Rattle.sf_step.specs.Edits
-use Rattle.sf_step.proofs.Turns.{NotesOn, notes_first, notes_next, notes_fail, notes_memory, notes_last, notes_stopped, notes_long, TurnsOn, this_at, turn_at, turns_first, turns_stay, turns_stay_not, turns_begin, turns_begin_not, turns_last, as_held, held_fails, old_step, new_step, new_stop, new_end, turned_so, not_turned_so, shows_so, held_stop, gathers_frozen, stepped_fails, changed_long, edit_stopped, edit_late, pass_edit, pass_notes, pass_turns}
+use Rattle.sf_step.proofs.Turns.{NotesOn, notes_first, notes_next, notes_fail, notes_memory, notes_last, notes_stopped, notes_long, turn_at, turns_first, turns_stay, turns_stay_not, turns_begin, turns_begin_not, turns_last, as_held, held_fails, old_step, new_step, new_stop, new_end, turned_so, not_turned_so, shows_so, held_stop, gathers_frozen, stepped_fails, changed_long, edit_stopped, edit_late, pass_edit, pass_notes, pass_turns}
 use Rattle.sf_step.proofs.Editing.{members_alone, edit_answers, as_made}
 use Rattle.sf_step.proofs.sample.+step.Goals as goal
 use Rattle.sf_step.proofs.sample.+step.Goals.{step_again-in-Stays+in_ok-repeat-in-Stays, step_again-in-Begins+in_ok-step_waiting-in-Begins}
@@ -234,6 +237,15 @@ first_node-first_of_process-requires g t c = λ κs lives. (omega arith, (lives,
 pub first_node-returns-in-Started : goal.first_node-returns-in-Started
 first_node-returns-in-Started g t c = c.first_of_process.ensures _ (rw c.in-Started.is at c.node-node.ensures.builds)
 
+pub first_node-returns-in-Basic : goal.first_node-returns-in-Basic
+first_node-returns-in-Basic g t c = c.first_basic.ensures _ (rw c.in-Switching.is at c.node-node.ensures.builds)
+
+pub first_node-returns-in-Recurring : goal.first_node-returns-in-Recurring
+first_node-returns-in-Recurring g t c = c.first_recurring.ensures _ (rw c.in-Switching.is at c.node-node.ensures.builds)
+
+pub first_node-returns-in-Continuation : goal.first_node-returns-in-Continuation
+first_node-returns-in-Continuation g t c = c.first_continuing.ensures _ (rw c.in-Continuation.is at c.node-node.ensures.builds)
+
 -- ## first_other
 
 pub first_other-returns-in-Err : goal.first_other-returns-in-Err
@@ -375,30 +387,244 @@ first_fan-returns g t c = λ u J. rw (rw c.replace-second.ensures.value at c.in-
 
 -- ## step_unborn_apart
 
-pub step_unborn_apart-returns-in_err-inside : goal.step_unborn_apart-returns-in_err-inside
-step_unborn_apart-returns-in_err-inside g t c = stops_apart c.from_residual.ensures.0 (λ P L A. fails (tick_fails (context_machine g.R.Holds.answers c.args.context.now) P _ c.in_err-inside.ensures.ticked))
-
-pub step_unborn_apart-returns-in_err-first : goal.step_unborn_apart-returns-in_err-first
-step_unborn_apart-returns-in_err-first g t c =
-    let μ = context_machine g.R.Holds.answers c.args.context.now in
-    stops_apart c.from_residual-in_err-first.ensures.0 (rw c.in-Unborn.is (term_counted μ c.in-Unborn.process.term c.in-Unborn.process.names c.args.context.now.dt c.args.value.now (ticked_by c.in_ok-inside.ensures.ticked) _
-    (rw c.replace-names.ensures.value at c.in_err-first.ensures _ (parts_joined μ FannedOut c.in-Joined.left c.in-Joined.right _ (rw c.in-FannedOut.is at (rw c.in-Joined.is at c.node.ensures.builds))))))
-
-pub step_unborn_apart-returns-in-FannedOut : goal.step_unborn_apart-returns-in-FannedOut
-step_unborn_apart-returns-in-FannedOut g t c =
-    let μ = context_machine g.R.Holds.answers c.args.context.now in
-    apart {y = pair c.in_ok-first.first c.first_halves.new.value} (rw c.in-Unborn.is (term_counted μ c.in-Unborn.process.term c.in-Unborn.process.names c.args.context.now.dt c.args.value.now (ticked_by c.in_ok-inside.ensures.ticked) _
-    (rw c.replace-names.ensures.value at c.in_ok-first.ensures _ (parts_joined μ FannedOut c.in-Joined.left c.in-Joined.right _ (rw c.in-FannedOut.is at (rw c.in-Joined.is at c.node.ensures.builds)))))) refl (rw c.replace-second.ensures.value at c.payload_of.ensures)
-
-pub step_unborn_apart-returns-in_err-first_step : goal.step_unborn_apart-returns-in_err-first_step
-step_unborn_apart-returns-in_err-first_step g t c = stops_apart c.from_residual-in_err-first_step.ensures.0 (rw c.in-Unborn.is (rw c.replace-names.ensures.value at c.in_err-first_step.ensures))
-
 pub step_unborn_apart-returns : goal.step_unborn_apart-returns
-step_unborn_apart-returns g t c =
-    let μ = context_machine g.R.Holds.answers c.args.context.now in
-    let first : StateSteps μ c.args.state.now (step c.args.context.now.dt c.args.value.now) (Ok (c.first_step.new.state, c.first_step.new.value)) c.args.meter.now c.first_step.new.meter c.args.depth =
-    rw c.in-Unborn.is (rw c.replace-names.ensures.value at c.in_ok-first_step.ensures) in
-    taken (λ s n. StateSteps μ c.args.state.now (step c.args.context.now.dt c.args.value.now) s c.args.meter.now n c.args.depth) first (late_part μ first) c.taken_apart.ensures
+step_unborn_apart-returns g t c = rw c.in-Unborn.is (rw c.replace-names.ensures.value at c.first_apart.ensures)
+
+-- ## first_apart
+
+pub first_apart-returns-in_err-inside : goal.first_apart-returns-in_err-inside
+first_apart-returns-in_err-inside g t c = stops_apart c.from_residual.ensures.0 (λ P L A. fails (tick_fails (machine_around g.R.Holds.answers c.args.around.now) P _ c.in_err-inside.ensures.ticked))
+
+pub first_apart-returns-in_err-first : goal.first_apart-returns-in_err-first
+first_apart-returns-in_err-first g t c =
+    let μ = machine_around g.R.Holds.answers c.args.around.now in
+    stops_apart c.from_residual-in_err-first.ensures.0 (term_counted μ c.args.term c.args.around.now.names.now (dt_around c.args.around.now) c.args.value.now (ticked_by c.in_ok-inside.ensures.ticked) _
+    (c.in_err-first.ensures _ (parts_joined μ FannedOut c.in-Joined.left c.in-Joined.right _ (rw c.in-FannedOut.is at (rw c.in-Joined.is at c.node.ensures.builds)))))
+
+pub first_apart-returns-in-FannedOut : goal.first_apart-returns-in-FannedOut
+first_apart-returns-in-FannedOut g t c =
+    let μ = machine_around g.R.Holds.answers c.args.around.now in
+    apart {y = pair c.in_ok-first.first c.first_halves.new.value} (term_counted μ c.args.term c.args.around.now.names.now (dt_around c.args.around.now) c.args.value.now (ticked_by c.in_ok-inside.ensures.ticked) _
+    (c.in_ok-first.ensures _ (parts_joined μ FannedOut c.in-Joined.left c.in-Joined.right _ (rw c.in-FannedOut.is at (rw c.in-Joined.is at c.node.ensures.builds))))) refl (rw c.replace-second.ensures.value at c.payload_of.ensures)
+
+pub first_apart-returns-in_err-first_step : goal.first_apart-returns-in_err-first_step
+first_apart-returns-in_err-first_step g t c = stops_apart c.from_residual-in_err-first_step.ensures.0 c.in_err-first_step.ensures
+
+pub first_apart-returns : goal.first_apart-returns
+first_apart-returns g t c =
+    let μ = machine_around g.R.Holds.answers c.args.around.now in
+    taken (λ s n. StateSteps μ (Unborn (closed_over c.args.term c.args.around.now.names.now)) (step (dt_around c.args.around.now) c.args.value.now) s c.args.meter.now n c.args.around.now.inside) c.in_ok-first_step.ensures (late_part μ c.in_ok-first_step.ensures) c.taken_apart.ensures
+
+-- ## first_basic
+
+pub first_basic-returns-in-Err : goal.first_basic-returns-in-Err
+first_basic-returns-in-Err g t c = λ u B m depth T e N. early_memory (machine_around g.R.Holds.answers c.args.around.now) T c.stop.ensures.entered c.stop.ensures.height c.stop.ensures.fault
+
+pub first_basic-returns-in_err-old : goal.first_basic-returns-in_err-old
+first_basic-returns-in_err-old g t c = λ u B m depth T e N.
+    let μ = machine_around g.R.Holds.answers c.args.around.now in
+    let s = c.args.form.now in
+    let names = c.args.around.now.names.now in
+    pass_exit _ _ c.from_residual.ensures.0 (source_fails μ names (new_switch s names) (observation_of s.form) c.requires (step (dt_around c.args.around.now) c.args.value.now) c.args.meter.now c.first_apart.new.meter c.args.around.now.inside
+    _ (gives_no_value c.in_err-old.ensures) m depth T u e [] N (switch_waits μ s u names B e N))
+
+pub first_basic-returns-in-Err-share : goal.first_basic-returns-in-Err-share
+first_basic-returns-in-Err-share g t c = λ u B m depth T e N.
+    let μ = machine_around g.R.Holds.answers c.args.around.now in
+    let s = c.args.form.now in
+    let names = c.args.around.now.names.now in
+    let h = gives_value c.in_ok-old.ensures in
+    memory_exit c.stop-in-Err-share.ensures.fault (switch_memory μ names (new_switch s names) (observation_of s.form) c.requires (step (dt_around c.args.around.now) c.args.value.now) c.args.meter.now c.first_apart.new.meter c.args.around.now.inside
+    c.first_apart.new.state h.y h.steps _ c.stop-in-Err-share.ensures.entered c.stop-in-Err-share.ensures.height m depth T u e [] N (switch_waits μ s u names B e N))
+
+pub first_basic-returns-in-Err-new : goal.first_basic-returns-in-Err-new
+first_basic-returns-in-Err-new g t c = λ u B m depth T e N.
+    let μ = machine_around g.R.Holds.answers c.args.around.now in
+    let s = c.args.form.now in
+    let names = c.args.around.now.names.now in
+    let h = gives_value c.in_ok-old.ensures in
+    memory_exit c.stop-in-Err-new.ensures.fault (switch_memory μ names (new_switch s names) (observation_of s.form) c.requires (step (dt_around c.args.around.now) c.args.value.now) c.args.meter.now c.first_apart.new.meter c.args.around.now.inside
+    c.first_apart.new.state h.y h.steps _ c.stop-in-Err-new.ensures.entered c.stop-in-Err-new.ensures.height m depth T u e [] N (switch_waits μ s u names B e N))
+
+pub first_basic-returns-in-Ok-new : goal.first_basic-returns-in-Ok-new
+first_basic-returns-in-Ok-new g t c = λ u B.
+    let μ = machine_around g.R.Holds.answers c.args.around.now in
+    let s = c.args.form.now in
+    let names = c.args.around.now.names.now in
+    let h = gives_value c.in_ok-old.ensures in
+    rw c.put.ensures (term_on μ (Waits μ) names (new_switch s names) u (switch_waits μ s u names B) _ (λ e N W. watching (c.in-Ok-share.ensures μ e N) W)
+    (switch_waits_on μ names (new_switch s names) (observation_of s.form) c.requires (step (dt_around c.args.around.now) c.args.value.now) c.args.meter.now c.first_apart.new.meter c.args.around.now.inside
+    c.first_apart.new.state h.y h.steps (none_occurs _ c.in_ok-old.occurring (second_of h.y) h.event c.in-None.is)
+    c.in_ok-old.old h.first c.in-Ok-new.value.value c.in-Ok-new.ensures.ok))
+
+pub first_basic-returns-in-Err-inside : goal.first_basic-returns-in-Err-inside
+first_basic-returns-in-Err-inside g t c = λ u B m depth T e N.
+    let μ = machine_around g.R.Holds.answers c.args.around.now in
+    let s = c.args.form.now in
+    let names = c.args.around.now.names.now in
+    let h = gives_value c.in_ok-old.ensures in
+    memory_exit c.stop-in-Err-inside.ensures.fault (switch_memory μ names (new_switch s names) (observation_of s.form) c.requires (step (dt_around c.args.around.now) c.args.value.now) c.args.meter.now c.first_apart.new.meter c.args.around.now.inside
+    c.first_apart.new.state h.y h.steps _ c.stop-in-Err-inside.ensures.entered c.stop-in-Err-inside.ensures.height m depth T u e [] N (switch_waits μ s u names B e N))
+
+pub first_basic-returns-in_err-first_step-in-Some : goal.first_basic-returns-in_err-first_step-in-Some
+first_basic-returns-in_err-first_step-in-Some g t c = λ u B m depth T e N.
+    let μ = machine_around g.R.Holds.answers c.args.around.now in
+    let s = c.args.form.now in
+    let names = c.args.around.now.names.now in
+    let h = gives_value c.in_ok-old.ensures in
+    pass_exit _ _ c.from_residual-in_err-first_step-in-Some.ensures.0 (body_fails μ names (new_switch s names) (observation_of s.form) c.requires (step (dt_around c.args.around.now) c.args.value.now) c.args.meter.now c.first_apart.new.meter c.args.around.now.inside
+    c.first_apart.new.state h.y h.steps c.in-Some.payload.value (some_occurs _ c.in_ok-old.occurring c.in-Some.payload (second_of h.y) h.event c.in-Some.is)
+    _ (λ e N. itself (unborn (is_closure (alike_itself _) (c.in-Ok-inside.ensures μ.answers e N)))) c.first_step.new.meter _ (rw c.in-Ok.ensures at c.in_err-first_step-in-Some.ensures) m depth T u e [] N (switch_waits μ s u names B e N))
+
+pub first_basic-returns-in_ok-first_step-in-Some : goal.first_basic-returns-in_ok-first_step-in-Some
+first_basic-returns-in_ok-first_step-in-Some g t c = λ u B.
+    let μ = machine_around g.R.Holds.answers c.args.around.now in
+    let s = c.args.form.now in
+    let names = c.args.around.now.names.now in
+    let h = gives_value c.in_ok-old.ensures in
+    term_over μ (Waits μ) names (new_switch s names) u (switch_waits μ s u names B)
+    (body_takes_over μ names (new_switch s names) (observation_of s.form) c.requires (step (dt_around c.args.around.now) c.args.value.now) c.args.meter.now c.first_apart.new.meter c.args.around.now.inside
+    c.first_apart.new.state h.y h.steps c.in-Some.payload.value (some_occurs _ c.in_ok-old.occurring c.in-Some.payload (second_of h.y) h.event c.in-Some.is)
+    _ (λ e N. itself (unborn (is_closure (alike_itself _) (c.in-Ok-inside.ensures μ.answers e N)))) c.first_step.new.meter
+    c.first_step.new.state c.first_step.new.value _ (rw c.shown_by.ensures at c.show.ensures ∙ ap (λ d. switched_value (observation_of s.form) d c.first_step.new.value) h.first) (new_switch s names)
+    (rw c.in-Ok.ensures at c.in_ok-first_step-in-Some.ensures))
+
+-- ## first_recurring
+
+pub first_recurring-returns-in-Err : goal.first_recurring-returns-in-Err
+first_recurring-returns-in-Err g t c = λ u B m depth T e N. early_memory (machine_around g.R.Holds.answers c.args.around.now) T c.stop.ensures.entered c.stop.ensures.height c.stop.ensures.fault
+
+pub first_recurring-returns-in_err-step_recurring : goal.first_recurring-returns-in_err-step_recurring
+first_recurring-returns-in_err-step_recurring g t c = λ u B m depth T e N.
+    let μ = machine_around g.R.Holds.answers c.args.around.now in
+    pass_exit _ _ c.from_residual.ensures.0 (failed (c.in_err-step_recurring.ensures m depth T u e [] N (switch_waits μ c.args.form.now u c.in-Ok.value B e (c.in-Ok.ensures μ e N))))
+
+pub first_recurring-returns-in-Err-share : goal.first_recurring-returns-in-Err-share
+first_recurring-returns-in-Err-share g t c = λ u B m depth T e N.
+    let μ = machine_around g.R.Holds.answers c.args.around.now in
+    fails (failed (late_waiting μ (Waits μ) c.in_ok-step_recurring.ensures c.stop-in-Err-share.ensures.entered c.stop-in-Err-share.ensures.height c.stop-in-Err-share.ensures.fault m depth T u e [] N (switch_waits μ c.args.form.now u c.in-Ok.value B e (c.in-Ok.ensures μ e N))))
+
+pub first_recurring-returns-in-Err-new : goal.first_recurring-returns-in-Err-new
+first_recurring-returns-in-Err-new g t c = λ u B m depth T e N.
+    let μ = machine_around g.R.Holds.answers c.args.around.now in
+    fails (failed (late_waiting μ (Waits μ) c.in_ok-step_recurring.ensures c.stop-in-Err-new.ensures.entered c.stop-in-Err-new.ensures.height c.stop-in-Err-new.ensures.fault m depth T u e [] N (switch_waits μ c.args.form.now u c.in-Ok.value B e (c.in-Ok.ensures μ e N))))
+
+pub first_recurring-returns : goal.first_recurring-returns
+first_recurring-returns g t c = λ u B.
+    let μ = machine_around g.R.Holds.answers c.args.around.now in
+    rw c.put.ensures (term_on μ (Waits μ) c.args.around.now.names.now (new_switch c.args.form.now c.in-Ok.value) u (λ e N. switch_waits μ c.args.form.now u c.in-Ok.value B e (c.in-Ok.ensures μ e N)) _
+    (λ e N W. watching (c.in-Ok-share.ensures μ e N) (rw c.in-Ok-new.ensures.ok W)) c.in_ok-step_recurring.ensures)
+
+-- ## first_continuing
+
+pub first_continuing-returns-in-Err : goal.first_continuing-returns-in-Err
+first_continuing-returns-in-Err g t c = λ u B m depth T e N. early_memory (machine_around g.R.Holds.answers c.args.around.now) T c.stop.ensures.entered c.stop.ensures.height c.stop.ensures.fault
+
+pub first_continuing-returns-in-Err-copies : goal.first_continuing-returns-in-Err-copies
+first_continuing-returns-in-Err-copies g t c = λ u B m depth T e N. early_memory (machine_around g.R.Holds.answers c.args.around.now) T c.stop-in-Err-copies.ensures.entered c.stop-in-Err-copies.ensures.height c.stop-in-Err-copies.ensures.fault
+
+pub first_continuing-returns-in_err-first_step : goal.first_continuing-returns-in_err-first_step
+first_continuing-returns-in_err-first_step g t c = λ u B m depth T e N.
+    let μ = machine_around g.R.Holds.answers c.args.around.now in
+    let d = dt_around c.args.around.now in
+    let x = c.args.value.now in
+    let names = c.args.around.now.names.now in
+    let k = new_continuation c.args.form.now c.in-Ok.value (Unborn c.in-Ok.value) names in
+    pass_exit _ _ c.from_residual.ensures.0 (kept_fails μ names k d x c.args.meter.now c.first_step.new.meter c.args.around.now.inside
+    _ c.in_err-first_step.ensures m depth T u e [] N (continuation_waits μ c.args.form.now u c.in-Ok.value (Unborn c.in-Ok.value) names B e N (c.in-Ok.ensures μ.answers e N)))
+
+pub first_continuing-returns-in-Err-beside : goal.first_continuing-returns-in-Err-beside
+first_continuing-returns-in-Err-beside g t c = λ u B m depth T e N.
+    let μ = machine_around g.R.Holds.answers c.args.around.now in
+    let d = dt_around c.args.around.now in
+    let x = c.args.value.now in
+    let names = c.args.around.now.names.now in
+    let k = new_continuation c.args.form.now c.in-Ok.value (Unborn c.in-Ok.value) names in
+    memory_exit c.stop-in-Err-beside.ensures.fault (kept_memory μ names k d x c.args.meter.now c.first_step.new.meter c.args.around.now.inside
+    c.first_step.new.state c.first_step.new.value c.in_ok-first_step.ensures _ c.stop-in-Err-beside.ensures.entered c.stop-in-Err-beside.ensures.height m depth T u e [] N (continuation_waits μ c.args.form.now u c.in-Ok.value (Unborn c.in-Ok.value) names B e N (c.in-Ok.ensures μ.answers e N)))
+
+pub first_continuing-returns-in_err-first_step-2 : goal.first_continuing-returns-in_err-first_step-2
+first_continuing-returns-in_err-first_step-2 g t c = λ u B m depth T e N.
+    let μ = machine_around g.R.Holds.answers c.args.around.now in
+    let d = dt_around c.args.around.now in
+    let x = c.args.value.now in
+    let names = c.args.around.now.names.now in
+    let k = new_continuation c.args.form.now c.in-Ok.value (Unborn c.in-Ok.value) names in
+    pass_exit _ _ c.from_residual-in_err-first_step-2.ensures.0 (observer_fails μ names k d x c.args.meter.now c.first_step.new.meter c.args.around.now.inside
+    c.first_step.new.state c.first_step.new.value c.in_ok-first_step.ensures c.in-Ok-beside.value (rw c.in-Ok-copies.ensures.0 at c.in-Ok-beside.ensures) c.first_step-2.new.meter
+    _ c.in_err-first_step-2.ensures m depth T u e [] N (continuation_waits μ c.args.form.now u c.in-Ok.value (Unborn c.in-Ok.value) names B e N (c.in-Ok.ensures μ.answers e N)))
+
+pub first_continuing-returns-in-Err-share : goal.first_continuing-returns-in-Err-share
+first_continuing-returns-in-Err-share g t c = λ u B m depth T e N.
+    let μ = machine_around g.R.Holds.answers c.args.around.now in
+    let d = dt_around c.args.around.now in
+    let x = c.args.value.now in
+    let names = c.args.around.now.names.now in
+    let k = new_continuation c.args.form.now c.in-Ok.value (Unborn c.in-Ok.value) names in
+    memory_exit c.stop-in-Err-share.ensures.fault (observer_memory μ names k d x c.args.meter.now c.first_step.new.meter c.args.around.now.inside
+    c.first_step.new.state c.first_step.new.value c.in_ok-first_step.ensures c.in-Ok-beside.value (rw c.in-Ok-copies.ensures.0 at c.in-Ok-beside.ensures) c.first_step-2.new.meter
+    c.first_step-2.new.state c.first_step-2.new.value c.in_ok-first_step-2.ensures _ c.stop-in-Err-share.ensures.entered c.stop-in-Err-share.ensures.height m depth T u e [] N (continuation_waits μ c.args.form.now u c.in-Ok.value (Unborn c.in-Ok.value) names B e N (c.in-Ok.ensures μ.answers e N)))
+
+pub first_continuing-returns-in-Err-new : goal.first_continuing-returns-in-Err-new
+first_continuing-returns-in-Err-new g t c = λ u B m depth T e N.
+    let μ = machine_around g.R.Holds.answers c.args.around.now in
+    let d = dt_around c.args.around.now in
+    let x = c.args.value.now in
+    let names = c.args.around.now.names.now in
+    let k = new_continuation c.args.form.now c.in-Ok.value (Unborn c.in-Ok.value) names in
+    memory_exit c.stop-in-Err-new.ensures.fault (observer_memory μ names k d x c.args.meter.now c.first_step.new.meter c.args.around.now.inside
+    c.first_step.new.state c.first_step.new.value c.in_ok-first_step.ensures c.in-Ok-beside.value (rw c.in-Ok-copies.ensures.0 at c.in-Ok-beside.ensures) c.first_step-2.new.meter
+    c.first_step-2.new.state c.first_step-2.new.value c.in_ok-first_step-2.ensures _ c.stop-in-Err-new.ensures.entered c.stop-in-Err-new.ensures.height m depth T u e [] N (continuation_waits μ c.args.form.now u c.in-Ok.value (Unborn c.in-Ok.value) names B e N (c.in-Ok.ensures μ.answers e N)))
+
+pub first_continuing-returns-in-Ok-new : goal.first_continuing-returns-in-Ok-new
+first_continuing-returns-in-Ok-new g t c = λ u B.
+    let μ = machine_around g.R.Holds.answers c.args.around.now in
+    let d = dt_around c.args.around.now in
+    let x = c.args.value.now in
+    let names = c.args.around.now.names.now in
+    let k = new_continuation c.args.form.now c.in-Ok.value (Unborn c.in-Ok.value) names in
+    rw c.put.ensures (term_on μ (WaitsContinuation μ) names k u (λ e N. continuation_waits μ c.args.form.now u c.in-Ok.value (Unborn c.in-Ok.value) names B e N (c.in-Ok.ensures μ.answers e N)) _ (λ e N W. continuing_on (c.in-Ok-share.ensures μ e N) W)
+    (keeps_on μ names k d x c.args.meter.now c.first_step.new.meter c.args.around.now.inside
+    c.first_step.new.state c.first_step.new.value c.in_ok-first_step.ensures c.in-Ok-beside.value (rw c.in-Ok-copies.ensures.0 at c.in-Ok-beside.ensures) c.first_step-2.new.meter
+    c.first_step-2.new.state c.first_step-2.new.value c.in_ok-first_step-2.ensures (none_occurs _ c.payload_of.result c.first_step-2.new.value c.payload_of.ensures c.in-None.is) _ c.in-Ok-new.value.value c.in-Ok-new.ensures.ok))
+
+pub first_continuing-returns-in-Err-begin : goal.first_continuing-returns-in-Err-begin
+first_continuing-returns-in-Err-begin g t c = λ u B m depth T e N.
+    let μ = machine_around g.R.Holds.answers c.args.around.now in
+    let d = dt_around c.args.around.now in
+    let x = c.args.value.now in
+    let names = c.args.around.now.names.now in
+    let k = new_continuation c.args.form.now c.in-Ok.value (Unborn c.in-Ok.value) names in
+    memory_exit c.stop-in-Err-begin.ensures.fault (observer_memory μ names k d x c.args.meter.now c.first_step.new.meter c.args.around.now.inside
+    c.first_step.new.state c.first_step.new.value c.in_ok-first_step.ensures c.in-Ok-beside.value (rw c.in-Ok-copies.ensures.0 at c.in-Ok-beside.ensures) c.first_step-2.new.meter
+    c.first_step-2.new.state c.first_step-2.new.value c.in_ok-first_step-2.ensures _ c.stop-in-Err-begin.ensures.entered c.stop-in-Err-begin.ensures.height m depth T u e [] N (continuation_waits μ c.args.form.now u c.in-Ok.value (Unborn c.in-Ok.value) names B e N (c.in-Ok.ensures μ.answers e N)))
+
+pub first_continuing-returns-in_err-first_step-in-Some : goal.first_continuing-returns-in_err-first_step-in-Some
+first_continuing-returns-in_err-first_step-in-Some g t c = λ u B m depth T e N.
+    let μ = machine_around g.R.Holds.answers c.args.around.now in
+    let d = dt_around c.args.around.now in
+    let x = c.args.value.now in
+    let names = c.args.around.now.names.now in
+    let k = new_continuation c.args.form.now c.in-Ok.value (Unborn c.in-Ok.value) names in
+    pass_exit _ _ c.from_residual-in_err-first_step-in-Some.ensures.0 (kept_body_fails μ names k d x c.args.meter.now c.first_step.new.meter c.args.around.now.inside
+    c.first_step.new.state c.first_step.new.value c.in_ok-first_step.ensures c.in-Ok-beside.value (rw c.in-Ok-copies.ensures.0 at c.in-Ok-beside.ensures) c.first_step-2.new.meter
+    c.first_step-2.new.state c.first_step-2.new.value c.in_ok-first_step-2.ensures c.in-Some.payload.value (some_occurs _ c.payload_of.result c.in-Some.payload c.first_step-2.new.value c.payload_of.ensures c.in-Some.is)
+    (Unborn c.in-Ok-begin.value) (c.in-Ok-begin.ensures μ.answers) c.in-Ok-copies.value.1 c.in-Ok-copies.ensures.1 c.first_step-in-Some.new.meter
+    _ c.in_err-first_step-in-Some.ensures m depth T u e [] N (continuation_waits μ c.args.form.now u c.in-Ok.value (Unborn c.in-Ok.value) names B e N (c.in-Ok.ensures μ.answers e N)))
+
+pub first_continuing-returns-in_ok-first_step-in-Some : goal.first_continuing-returns-in_ok-first_step-in-Some
+first_continuing-returns-in_ok-first_step-in-Some g t c = λ u B.
+    let μ = machine_around g.R.Holds.answers c.args.around.now in
+    let d = dt_around c.args.around.now in
+    let x = c.args.value.now in
+    let names = c.args.around.now.names.now in
+    let k = new_continuation c.args.form.now c.in-Ok.value (Unborn c.in-Ok.value) names in
+    term_over μ (WaitsContinuation μ) names k u (λ e N. continuation_waits μ c.args.form.now u c.in-Ok.value (Unborn c.in-Ok.value) names B e N (c.in-Ok.ensures μ.answers e N))
+    (continuation_takes_over μ names k d x c.args.meter.now c.first_step.new.meter c.args.around.now.inside
+    c.first_step.new.state c.first_step.new.value c.in_ok-first_step.ensures c.in-Ok-beside.value (rw c.in-Ok-copies.ensures.0 at c.in-Ok-beside.ensures) c.first_step-2.new.meter
+    c.first_step-2.new.state c.first_step-2.new.value c.in_ok-first_step-2.ensures c.in-Some.payload.value (some_occurs _ c.payload_of.result c.in-Some.payload c.first_step-2.new.value c.payload_of.ensures c.in-Some.is)
+    (Unborn c.in-Ok-begin.value) (c.in-Ok-begin.ensures μ.answers) c.in-Ok-copies.value.1 c.in-Ok-copies.ensures.1 c.first_step-in-Some.new.meter
+    c.first_step-in-Some.new.state c.first_step-in-Some.new.value _ c.show.ensures k c.in_ok-first_step-in-Some.ensures)
 
 -- ## step_switch
 
@@ -434,14 +660,14 @@ step_basic-returns-in_err-body-in-Some g t c = λ m depth t T e L N W.
     let h = gives_value c.in_ok-old.ensures in
     pass_beside (context_machine g.R.Holds.answers c.args.context.now) _ _ _ c.from_residual-in_err-body-in-Some.ensures.0 (body_fails (context_machine g.R.Holds.answers c.args.context.now) c.args.names.now c.args.switch.now (observation_of c.args.switch.now.form) c.requires.form (step c.args.context.now.dt c.args.value.now) c.args.meter.now c.step_apart.new.meter c.args.inside
     c.step_apart.new.state h.y h.steps c.in-Some.payload.value (some_occurs _ c.in_ok-old.occurring c.in-Some.payload (second_of h.y) h.event c.in-Some.is)
-    c.in-Ok-begin.value (c.in-Ok-begin.ensures (g.R.Holds.answers c.args.context.now.functions.now)) c.step_begun.new.meter _ (rw c.in-Ok.ensures at c.in_err-body-in-Some.ensures) m depth t T e L N W)
+    (Unborn c.in-Ok-begin.value) (c.in-Ok-begin.ensures (g.R.Holds.answers c.args.context.now.functions.now)) c.step_begun.new.meter _ (rw c.in-Ok.ensures at c.in_err-body-in-Some.ensures) m depth t T e L N W)
 
 pub step_basic-returns-in_ok-body-in-Some : goal.step_basic-returns-in_ok-body-in-Some
 step_basic-returns-in_ok-body-in-Some g t c =
     let h = gives_value c.in_ok-old.ensures in
     body_takes_over (context_machine g.R.Holds.answers c.args.context.now) c.args.names.now c.args.switch.now (observation_of c.args.switch.now.form) c.requires.form (step c.args.context.now.dt c.args.value.now) c.args.meter.now c.step_apart.new.meter c.args.inside
     c.step_apart.new.state h.y h.steps c.in-Some.payload.value (some_occurs _ c.in_ok-old.occurring c.in-Some.payload (second_of h.y) h.event c.in-Some.is)
-    c.in-Ok-begin.value (c.in-Ok-begin.ensures (g.R.Holds.answers c.args.context.now.functions.now)) c.step_begun.new.meter
+    (Unborn c.in-Ok-begin.value) (c.in-Ok-begin.ensures (g.R.Holds.answers c.args.context.now.functions.now)) c.step_begun.new.meter
     c.in_ok-body-in-Some.body c.in_ok-body-in-Some.output _ (rw c.shown_by.ensures at c.show.ensures ∙ ap (λ d. switched_value (observation_of c.args.switch.now.form) d c.in_ok-body-in-Some.output) h.first) _
     (rw c.in-Ok.ensures at c.in_ok-body-in-Some.ensures)
 
@@ -572,18 +798,18 @@ step_recurring-returns-in-Err-begin g t c = λ m depth t T e L N W.
     memory_exit c.stop-in-Err-begin.ensures.fault (run_memory (context_machine g.R.Holds.answers c.args.context.now) c.args.names.now c.args.switch.now (observation_of c.args.switch.now.form) c.requires.form c.args.context.now.dt c.args.value.now c.in-Ok.value.0 c.in-Ok.ensures.0 c.args.meter.now c.step_state-in-Some.new.meter c.args.inside
     c.step_state-in-Some.new.state c.step_state-in-Some.new.value c.in_ok-step_state-in-Some.ensures _ c.stop-in-Err-begin.ensures.entered c.stop-in-Err-begin.ensures.height m depth t T e L N W)
 
-pub step_recurring-returns-in_err-body-in-Some : goal.step_recurring-returns-in_err-body-in-Some
-step_recurring-returns-in_err-body-in-Some g t c = λ m depth t T e L N W.
-    pass_exit _ _ c.from_residual-in_err-body-in-Some.ensures.0 (new_fails (context_machine g.R.Holds.answers c.args.context.now) c.args.names.now c.args.switch.now (observation_of c.args.switch.now.form) c.requires.form c.args.context.now.dt c.args.value.now c.in-Ok.value.0 c.in-Ok.ensures.0 c.args.meter.now c.step_state-in-Some.new.meter c.args.inside
+pub step_recurring-returns-in_err-first_step-in-Some : goal.step_recurring-returns-in_err-first_step-in-Some
+step_recurring-returns-in_err-first_step-in-Some g t c = λ m depth t T e L N W.
+    pass_exit _ _ c.from_residual-in_err-first_step-in-Some.ensures.0 (new_fails (context_machine g.R.Holds.answers c.args.context.now) c.args.names.now c.args.switch.now (observation_of c.args.switch.now.form) c.requires.form c.args.context.now.dt c.args.value.now c.in-Ok.value.0 c.in-Ok.ensures.0 c.args.meter.now c.step_state-in-Some.new.meter c.args.inside
     c.step_state-in-Some.new.state c.step_state-in-Some.new.value c.in_ok-step_state-in-Some.ensures c.in-Some.payload.value (some_occurs _ c.in-Ok.value.1 c.in-Some.payload (second_of c.args.value.now) c.in-Ok.ensures.1 c.in-Some.is)
-    c.in-Ok-begin.value c.in-Ok-clone_in.value c.in-Ok-clone_in.ensures (c.in-Ok-begin.ensures (g.R.Holds.answers c.args.context.now.functions.now)) c.step_begun.new.meter _ c.in_err-body-in-Some.ensures m depth t T e L N W)
+    (Unborn c.in-Ok-begin.value) c.in-Ok-clone_in.value c.in-Ok-clone_in.ensures (c.in-Ok-begin.ensures (g.R.Holds.answers c.args.context.now.functions.now)) c.first_step.new.meter _ c.in_err-first_step-in-Some.ensures m depth t T e L N W)
 
-pub step_recurring-returns-in_ok-body-in-Some : goal.step_recurring-returns-in_ok-body-in-Some
-step_recurring-returns-in_ok-body-in-Some g t c =
+pub step_recurring-returns-in_ok-first_step-in-Some : goal.step_recurring-returns-in_ok-first_step-in-Some
+step_recurring-returns-in_ok-first_step-in-Some g t c =
     new_runs (context_machine g.R.Holds.answers c.args.context.now) c.args.names.now c.args.switch.now (observation_of c.args.switch.now.form) c.requires.form c.args.context.now.dt c.args.value.now c.in-Ok.value.0 c.in-Ok.ensures.0 c.args.meter.now c.step_state-in-Some.new.meter c.args.inside
     c.step_state-in-Some.new.state c.step_state-in-Some.new.value c.in_ok-step_state-in-Some.ensures c.in-Some.payload.value (some_occurs _ c.in-Ok.value.1 c.in-Some.payload (second_of c.args.value.now) c.in-Ok.ensures.1 c.in-Some.is)
-    c.in-Ok-begin.value c.in-Ok-clone_in.value c.in-Ok-clone_in.ensures (c.in-Ok-begin.ensures (g.R.Holds.answers c.args.context.now.functions.now)) c.step_begun.new.meter
-    c.in_ok-body-in-Some.body c.in_ok-body-in-Some.output _ (rw c.shown_by.ensures at c.show.ensures) _ (ap (λ (a : State). record { form = c.args.switch.now.form; running = a; pattern = c.args.switch.now.pattern; body = c.args.switch.now.body }) c.take_over.ensures) c.in_ok-body-in-Some.ensures
+    (Unborn c.in-Ok-begin.value) c.in-Ok-clone_in.value c.in-Ok-clone_in.ensures (c.in-Ok-begin.ensures (g.R.Holds.answers c.args.context.now.functions.now)) c.first_step.new.meter
+    c.first_step.new.state c.first_step.new.value _ (rw c.shown_by.ensures at c.show.ensures) _ refl c.in_ok-first_step-in-Some.ensures
 
 -- ## step_pipeline
 
@@ -836,14 +1062,14 @@ step_continuing-returns-in_err-successor-in-Some g t c = λ m depth t T e L N W.
     pass_beside (context_machine g.R.Holds.answers c.args.context.now) _ _ _ c.from_residual-in_err-successor-in-Some.ensures.0 (kept_body_fails (context_machine g.R.Holds.answers c.args.context.now) c.args.names.now c.args.continuing.now c.args.context.now.dt c.args.value.now c.args.meter.now c.step_state.new.meter c.args.inside
     c.step_state.new.state c.step_state.new.value (runs_alike (context_machine g.R.Holds.answers c.args.context.now) (c.in-Ok.ensures.runs_on (context_machine g.R.Holds.answers c.args.context.now)) c.in_ok-step_state.ensures) c.in-Ok-beside.value (rw c.in-Ok-copies.ensures.0 at c.in-Ok-beside.ensures) c.step_state-2.new.meter
     c.step_state-2.new.state c.step_state-2.new.value c.in_ok-step_state-2.ensures c.in-Some.payload.value (some_occurs _ c.payload_of.result c.in-Some.payload c.step_state-2.new.value c.payload_of.ensures c.in-Some.is)
-    c.in-Ok-begin.value (rw c.in-Ok.ensures.held at (c.in-Ok-begin.ensures (g.R.Holds.answers c.args.context.now.functions.now))) c.in-Ok-copies.value.1 c.in-Ok-copies.ensures.1 c.step_begun.new.meter _ c.in_err-successor-in-Some.ensures m depth t T e L N W)
+    (Unborn c.in-Ok-begin.value) (rw c.in-Ok.ensures.held at (c.in-Ok-begin.ensures (g.R.Holds.answers c.args.context.now.functions.now))) c.in-Ok-copies.value.1 c.in-Ok-copies.ensures.1 c.step_begun.new.meter _ c.in_err-successor-in-Some.ensures m depth t T e L N W)
 
 pub step_continuing-returns-in_ok-successor-in-Some : goal.step_continuing-returns-in_ok-successor-in-Some
 step_continuing-returns-in_ok-successor-in-Some g t c =
     continuation_takes_over (context_machine g.R.Holds.answers c.args.context.now) c.args.names.now c.args.continuing.now c.args.context.now.dt c.args.value.now c.args.meter.now c.step_state.new.meter c.args.inside
     c.step_state.new.state c.step_state.new.value (runs_alike (context_machine g.R.Holds.answers c.args.context.now) (c.in-Ok.ensures.runs_on (context_machine g.R.Holds.answers c.args.context.now)) c.in_ok-step_state.ensures) c.in-Ok-beside.value (rw c.in-Ok-copies.ensures.0 at c.in-Ok-beside.ensures) c.step_state-2.new.meter
     c.step_state-2.new.state c.step_state-2.new.value c.in_ok-step_state-2.ensures c.in-Some.payload.value (some_occurs _ c.payload_of.result c.in-Some.payload c.step_state-2.new.value c.payload_of.ensures c.in-Some.is)
-    c.in-Ok-begin.value (rw c.in-Ok.ensures.held at (c.in-Ok-begin.ensures (g.R.Holds.answers c.args.context.now.functions.now))) c.in-Ok-copies.value.1 c.in-Ok-copies.ensures.1 c.step_begun.new.meter
+    (Unborn c.in-Ok-begin.value) (rw c.in-Ok.ensures.held at (c.in-Ok-begin.ensures (g.R.Holds.answers c.args.context.now.functions.now))) c.in-Ok-copies.value.1 c.in-Ok-copies.ensures.1 c.step_begun.new.meter
     c.in_ok-successor-in-Some.successor c.in_ok-successor-in-Some.output _ c.show.ensures _ c.in_ok-successor-in-Some.ensures
 
 -- ## Members that wait
@@ -926,7 +1152,7 @@ step_releasing-returns-in_err-successor-in-Some g t c = λ m depth t T e L N W.
     pass_beside (context_machine g.R.Holds.answers c.args.context.now) _ _ _ c.from_residual-in_err-successor-in-Some.ensures.0 (released_body_fails (context_machine g.R.Holds.answers c.args.context.now) c.args.names.now c.args.releasing.now c.args.context.now.dt c.args.value.now c.args.meter.now c.step_members.new.meter c.args.inside
     c.step_members.new.members c.step_members.new.value (run_alike (context_machine g.R.Holds.answers c.args.context.now) c.args.releasing.now.members c.hold_back_members.new.members (c.in-Ok.ensures.runs_on (context_machine g.R.Holds.answers c.args.context.now)) c.in_ok-step_members.ensures) c.in-Ok-beside.value (rw c.in-Ok-copies.ensures.0 at c.in-Ok-beside.ensures) c.step_state.new.meter
     c.step_state.new.state c.step_state.new.value c.in_ok-step_state.ensures c.in-Some.payload.value (some_occurs _ c.payload_of.result c.in-Some.payload c.step_state.new.value c.payload_of.ensures c.in-Some.is)
-    c.in-Ok-begin.value (rw c.in-Ok.ensures.held at (c.in-Ok-begin.ensures (g.R.Holds.answers c.args.context.now.functions.now)))
+    (Unborn c.in-Ok-begin.value) (rw c.in-Ok.ensures.held at (c.in-Ok-begin.ensures (g.R.Holds.answers c.args.context.now.functions.now)))
     c.in-Ok-copies.value.1 c.in-Ok-copies.ensures.1 c.step_begun.new.meter _ c.in_err-successor-in-Some.ensures m depth t T e L N W)
 
 pub step_releasing-returns-in_ok-successor-in-Some : goal.step_releasing-returns-in_ok-successor-in-Some
@@ -934,7 +1160,7 @@ step_releasing-returns-in_ok-successor-in-Some g t c =
     released_body_takes_over (context_machine g.R.Holds.answers c.args.context.now) c.args.names.now c.args.releasing.now c.args.context.now.dt c.args.value.now c.args.meter.now c.step_members.new.meter c.args.inside
     c.step_members.new.members c.step_members.new.value (run_alike (context_machine g.R.Holds.answers c.args.context.now) c.args.releasing.now.members c.hold_back_members.new.members (c.in-Ok.ensures.runs_on (context_machine g.R.Holds.answers c.args.context.now)) c.in_ok-step_members.ensures) c.in-Ok-beside.value (rw c.in-Ok-copies.ensures.0 at c.in-Ok-beside.ensures) c.step_state.new.meter
     c.step_state.new.state c.step_state.new.value c.in_ok-step_state.ensures c.in-Some.payload.value (some_occurs _ c.payload_of.result c.in-Some.payload c.step_state.new.value c.payload_of.ensures c.in-Some.is)
-    c.in-Ok-begin.value (rw c.in-Ok.ensures.held at (c.in-Ok-begin.ensures (g.R.Holds.answers c.args.context.now.functions.now)))
+    (Unborn c.in-Ok-begin.value) (rw c.in-Ok.ensures.held at (c.in-Ok-begin.ensures (g.R.Holds.answers c.args.context.now.functions.now)))
     c.in-Ok-copies.value.1 c.in-Ok-copies.ensures.1 c.step_begun.new.meter
     c.in_ok-successor-in-Some.successor c.in_ok-successor-in-Some.output _ c.show.ensures _ c.in_ok-successor-in-Some.ensures
 

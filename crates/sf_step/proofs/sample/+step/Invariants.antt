@@ -1,6 +1,5 @@
-use Rattle.std.proofs.Common.{◌≡◌, ◌≤◌, ◌+◌, ◌-◌, ◌*◌, if◌then◌else◌, List, length, take, drop}
+use Rattle.std.proofs.Common.{◌≡◌, ◌≤◌, ◌+◌, ◌-◌, ◌*◌, if◌then◌else◌, length, take, drop}
 use Rattle.std.specs.Prelude.{vec_len, vec_capacity}
-use Rattle.sf_value.specs.Values.{Data}
 use Rattle.sf_state.specs.Standing.{is_frozen}
 use Rattle.sf_begin.specs.Contexts.{context_machine}
 use Rattle.sf_step.proofs.Stages.{Continues}
@@ -33,6 +32,15 @@ decreases-first_of_call g l = 26 * (1600 - l.around.now.inside) + 24
 abbrev pub decreases-first_of_process : goal.decreases-first_of_process
 decreases-first_of_process g l = 26 * (1600 - l.around.now.inside) + 24
 
+abbrev pub decreases-first_basic : goal.decreases-first_basic
+decreases-first_basic g l = 26 * (1600 - l.around.now.inside) + 24
+
+abbrev pub decreases-first_recurring : goal.decreases-first_recurring
+decreases-first_recurring g l = 26 * (1600 - l.around.now.inside) + 24
+
+abbrev pub decreases-first_continuing : goal.decreases-first_continuing
+decreases-first_continuing g l = 26 * (1600 - l.around.now.inside) + 24
+
 abbrev pub decreases-first_sequence : goal.decreases-first_sequence
 decreases-first_sequence g l = 26 * (1600 - l.around.now.inside) + 24
 
@@ -44,6 +52,9 @@ decreases-first_halves g l = 26 * (1600 - l.around.now.inside) + 23
 
 abbrev pub decreases-step_unborn_apart : goal.decreases-step_unborn_apart
 decreases-step_unborn_apart g l = 26 * (1600 - l.depth) + 6
+
+abbrev pub decreases-first_apart : goal.decreases-first_apart
+decreases-first_apart g l = 26 * (1600 - l.around.now.inside) + 1
 
 abbrev pub decreases-step_frozen : goal.decreases-step_frozen
 decreases-step_frozen g l = 26 * (1600 - l.depth) + 4
