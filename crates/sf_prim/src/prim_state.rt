@@ -392,8 +392,15 @@ impl PrimState {
             Remembers self.now q scope L → Remembers copy q scope L) }
     {
         match self {
-            // a value is copied here, and the other forms by a call
+            // the commonest are copied here, and the other forms by a call
             PrimState::Previous(value) => Ok(PrimState::Previous(value.clone_in(alloc)?)),
+            PrimState::Arrow(code) => {
+                let shared = code.clone()?;
+                Ok(PrimState::Arrow(shared))
+            }
+            PrimState::Clock(clock) => Ok(PrimState::Clock(*clock)),
+            PrimState::Area(sum) => Ok(PrimState::Area(*sum)),
+            PrimState::NotYet(begun) => Ok(PrimState::NotYet(*begun)),
             _ => self.clone_form(alloc),
         }
     }
