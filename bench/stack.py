@@ -3,7 +3,7 @@
     python3 bench/stack.py [--exe PATH]
 
 No text is so deep: a process is frozen at its first sample inside more and more of one form, and the next, frozen likewise, runs it.
-For each form the least limit of the stack under which the network still gives what it should is printed: as it is written, beside
+Or a switch fires at its first sample, and its body is another one that does so too. For each form the least limit of the stack under which the network still gives what it should is printed: as it is written, beside
 the bytes a node, and as it is rewritten, where fewer nodes may stand one inside another. An ordinary Linux process has 8,192 KiB.
 `crates/sfplay/out` holds the program of each of the two compilers once `rt ci` has run.
 """
@@ -32,6 +32,11 @@ FORMS = {
 }
 
 
+# Switches that fire at their first sample, and how many nodes stand inside the last call.
+FIRED = {
+    "switch that fires": ("switch((identity &&& {event}), _ => up((n + 1)))", 5),
+    "kSwitch that fires": ("kSwitch(identity, {event}, q, _ => up((n + 1)))", 4),
+}
 # The name of the last row: what runs stays, in a switch that waits, and so is held as it was before each sample.
 HELD = "kSwitch that waits"
 
@@ -52,6 +57,14 @@ def network(before, after, nodes, depth, is_held=False):
         text += f"kSwitch({before * fit}{part}{after * fit}, now (), k{level}, _ => "
         ends = ")" + ends
         high += fit * nodes + 1
+
+
+def fired(form, inside):
+    """The text in which so many switches fire, each in the body of the one before it, and how many nodes stand one inside another."""
+    last = (MOST_NODES - inside) // 2
+    event = f"(constant n >>> arr m => if (m < {last}) then event () else none Unit)"
+    up = f"template up(n: Int): Int ~> Int = {form.format(event=event)};"
+    return f"network 1;\n{up}\ntemplate main(): Int ~> Int = up(0);\n", 2 * last + inside
 
 
 def goes(words, limit):
@@ -78,8 +91,10 @@ def main():
     print(f"{'one inside another':20} {'nodes':>6} {'stack, KiB':>11} {'a node, bytes':>14} {'rewritten, KiB':>15}")
     with tempfile.TemporaryDirectory() as place:
         path = os.path.join(place, "network")
-        for name, form in [*FORMS.items(), (HELD, FORMS[">>>, right"])]:
-            text, high = network(*form, is_held=name == HELD)
+        deep = [(name, network(*form)) for name, form in FORMS.items()]
+        deep += [(name, fired(*form)) for name, form in FIRED.items()]
+        deep.append((HELD, network(*FORMS[">>>, right"], is_held=True)))
+        for name, (text, high) in deep:
             with open(path, "w") as file:
                 file.write(text)
             plain, rewritten = least([exe, path, "--plain"]), least([exe, path])
