@@ -229,6 +229,15 @@ RUNS = [
         makes_chains=True,
     ),
     Run(
+        "hands itself what it froze, of which a switch among its parts alone has what it was given",
+        f"Int ~> Int = go(sf integral);\ntemplate go(f: Int ~> Int): Int ~> Int ="
+        f" kSwitch((arr x => (x, none Unit) >>> rSwitch(identity, _ => run f)), {EVENT}, k, _ => go(sf run k))",
+        ["1"],
+        lambda number: 1,
+        makes_chains=True,
+        grows=True,
+    ),
+    Run(
         "hands itself on, with what it was given, and runs it never",
         f"Int ~> Int = go(sf integral);\ntemplate go(f: Int ~> Int): Int ~> Int = switch((identity &&& {EVENT}), _ => go(sf (identity >>> run f)))",
         ["1"],

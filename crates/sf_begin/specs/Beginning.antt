@@ -24,13 +24,14 @@ use Rattle.sf_law.specs.Headers.{ParameterHeader}
 use Rattle.sf_law.specs.Arena.{plan_tree, plan_expressions, plan_binding, plan_arguments}
 use Rattle.sf_prim.specs.declared.prim_state.PrimState.{PrimState}
 use Rattle.sf_state.specs.declared.state.State.{State}
-use Rattle.sf_state.specs.declared.state.State.TheVariants.{Unborn', Primitive as SPrimitive, Live' as Alive', Switch' as Watching', Continuation', Gathering', Frozen'}
+use Rattle.sf_state.specs.declared.state.State.TheVariants.{Unborn', Primitive as SPrimitive, Primitives as InTurn, Live' as Alive', Switch' as Watching', Continuation', Gathering', Frozen'}
+use Rattle.sf_state.specs.declared.state.Primitives.{Primitives}
 use Rattle.sf_state.specs.declared.state.Live.{Live}
 use Rattle.sf_state.specs.declared.state.Gathering.{Gathering}
 use Rattle.sf_state.specs.declared.env.Env.{Env}
 use Rattle.sf_state.specs.declared.state.Wrap.{Wrap}
 use Rattle.sf_state.specs.declared.env.Given.{Given}
-use Rattle.sf_state.specs.Standing.{IsNames, AreGiven, Recalls, Stands, Waits, WaitsContinuation, WaitsGathered, Ready, Wraps}
+use Rattle.sf_state.specs.Standing.{in_sequence, IsNames, AreGiven, Recalls, Stands, Waits, WaitsContinuation, WaitsGathered, Ready, Wraps}
 use Rattle.sf_state.specs.Machine.{Machine, machine_network}
 use Rattle.sf_begin.specs.declared.opening.Opened.{Opened}
 use Rattle.sf_begin.specs.declared.opening.Opened.TheVariants as opened
@@ -51,6 +52,7 @@ OpensItself _ = Unit {0}
 -- of, and not one that it took over from; x is the input of the first step, past or to come.
 pub data Prepared (μ : Machine) : State → Process → (x : Data) → Life → Type 0 where
   primitive_prepared : {i : PrimState} {P : Process} {x : Data} {L : Life} → Recalls μ i P L → Prepared μ (SPrimitive i) P x L
+  primitives_prepared : {r : Rc Primitives Global} {P : Process} {x : Data} {L : Life} → Ready μ (in_sequence r.value) P x L → Prepared μ (InTurn r) P x L
   live_prepared : {at : _} {names : Env} {l : Live} {t : Term} {e : Environment} {x : Data} {L : Life}
       → IsNames μ names e → Ready μ l (closure t e) x L → Prepared μ (Alive' names at l) (closure t e) x L
   switch_prepared : {at : _} {names : Env} {w : Switching} {a : State} {q : PatternId} {b : PlanId} {t : Term} {e : Environment} {x : Data} {L : Life}
@@ -65,6 +67,7 @@ pub data Prepared (μ : Machine) : State → Process → (x : Data) → Life →
 abbrev pub is_awake : State → Bool
 is_awake (Unborn' t names) = false
 is_awake (SPrimitive i) = true
+is_awake (InTurn r) = true
 is_awake (Alive' names at l) = true
 is_awake (Watching' names at w a q b) = true
 is_awake (Continuation' names at w t a x o k q b) = true

@@ -6,6 +6,7 @@ use Rattle.std.proofs.lemmas.List.{take_more_set}
 use Rattle.std.specs.declared.alloc.Global.{Global}
 use Rattle.std.specs.declared.rc.Rc.{Rc}
 use Rattle.sf_term.specs.declared.form.Join.{Join}
+use Rattle.sf_term.specs.declared.form.Join.TheVariants.{InSequence}
 use Rattle.sf_law.specs.declared.node.PlanCollection.{PlanCollection}
 use Rattle.sf_law.specs.Entries.{IsCodedCollection}
 use Rattle.sf_law.specs.Arena.{plan_collection, plan_expressions}
@@ -20,7 +21,8 @@ use Rattle.sf_mean.specs.Meaning.{Network, Made, members_made, Tables, edit_of, 
 use Rattle.sf_prim.specs.declared.prim_state.PrimState.{PrimState}
 use Rattle.sf_prim.specs.Remembering.{Remembers}
 use Rattle.sf_state.specs.declared.state.State.{State}
-use Rattle.sf_state.specs.declared.state.State.TheVariants.{Unborn, Primitive as SPrimitive, Live' as Alive', Switch' as Watching', Continuation', Gathering', Frozen'}
+use Rattle.sf_state.specs.declared.state.State.TheVariants.{Unborn, Primitive as SPrimitive, Primitives as InTurn, Live' as Alive', Switch' as Watching', Continuation', Gathering', Frozen'}
+use Rattle.sf_state.specs.declared.state.Primitives.{Primitives}
 use Rattle.sf_state.specs.declared.state.Live.{Live}
 use Rattle.sf_state.specs.declared.state.Live.{items_hidden-the_row-State-0 as states_are}
 use Rattle.sf_state.specs.declared.state.Gathered.{Gathered}
@@ -35,10 +37,10 @@ use Rattle.sf_state.specs.declared.state.Releasing.{Releasing}
 use Rattle.sf_state.specs.declared.state.Editing.{Editing}
 use Rattle.sf_state.specs.declared.state.Frozen.{Frozen}
 use Rattle.sf_state.specs.declared.state.FrozenNode.{FrozenNode}
-use Rattle.sf_state.specs.declared.state.FrozenNode.TheVariants.{Primitive as KPrimitive, Live' as KLive', Switch' as KSwitch', Continuation' as KContinuation', Gathering' as KGathering'}
+use Rattle.sf_state.specs.declared.state.FrozenNode.TheVariants.{Primitive as KPrimitive, Primitives as KPrimitives, Live' as KLive', Switch' as KSwitch', Continuation' as KContinuation', Gathering' as KGathering'}
 use Rattle.sf_state.specs.declared.env.Env.{Env}
 use Rattle.sf_state.specs.Held.{Holding, held_as, gathered_holding}
-use Rattle.sf_state.specs.Standing.{Wraps, frozen_state, Turned, fired_to, continued_to, released_to, ran, went_on, was_alike, Stands, itself, took_over, StandsItself, unborn, recalling, recalls, alive, watching, continuing_on, gathering_on, was_frozen, Waits, waits_so, recurs_so, WaitsContinuation, continues_so, WaitsGathered, releases_so, edits_so, Settles, settles, Ready, ready, Lives, lives_probe, lives_join, lives_pipeline, lives_wrap, lives_gathered, keys_in, Gathers, gathers, EachStands, none_stands, one_stands, StandsAmong, as_it_stands, as_it_stood, StagesStand, last_stands, stage_stands, IsProcess, is_closure, IsNames, AllFollow, none_follow, more_follow}
+use Rattle.sf_state.specs.Standing.{Wraps, in_sequence, frozen_state, Turned, fired_to, continued_to, released_to, ran, went_on, was_alike, Stands, itself, took_over, StandsItself, unborn, recalling, recalls, in_turn, alive, watching, continuing_on, gathering_on, was_frozen, Waits, waits_so, recurs_so, WaitsContinuation, continues_so, WaitsGathered, releases_so, edits_so, Settles, settles, Ready, ready, Lives, lives_probe, lives_join, lives_pipeline, lives_wrap, lives_gathered, keys_in, Gathers, gathers, EachStands, none_stands, one_stands, StandsAmong, as_it_stands, as_it_stood, StagesStand, last_stands, stage_stands, IsProcess, is_closure, IsNames, AllFollow, none_follow, more_follow}
 use Rattle.sf_state.specs.Machine.{Machine, machine_network}
 
 -- whether a life has a step
@@ -204,6 +206,23 @@ module _ (μ : Machine) where
   pub join_follows : (j : Join) (a a' b b' : State) → Follows a a' → Follows b b' → NodeFollows (LJoin j a b) (LJoin j a' b')
   join_follows j a a' b b' f g P x L (ready h O (lives_join J OL A B)) = ready h O (lives_join J OL (f _ _ A) (g _ _ B))
 
+  -- the same of primitives in sequence
+  abbrev pub PrimFollows : PrimState → PrimState → Type 0
+  PrimFollows i i' = (q : Primitive) (scope : Scope) (L : Life) → Remembers i q scope L → Remembers i' q scope L
+
+  pub both_follow : (i i' j j' : PrimState) → PrimFollows i i' → PrimFollows j j' → NodeFollows (in_sequence (record { first = i; second = j })) (in_sequence (record { first = i'; second = j' }))
+  both_follow i i' j j' f g = join_follows InSequence (SPrimitive i) (SPrimitive i') (SPrimitive j) (SPrimitive j') (primitive_follows i i' f) (primitive_follows j j' g)
+
+  pub in_turn_follows : (r r' : Rc Primitives Global) → NodeFollows (in_sequence r.value) (in_sequence r'.value) → Follows (InTurn r) (InTurn r')
+  in_turn_follows r r' f = itself_follows (InTurn r) (InTurn r') step
+    where
+      step : (P : Process) (L : Life) → StandsItself μ (InTurn r) P L → StandsItself μ (InTurn r') P L
+      step P L (in_turn S) = in_turn (settled_follows f S)
+
+  -- the same ones under another pointer
+  pub same_in_turn : (r r' : Rc Primitives Global) → r'.value ≡ r.value → Follows (InTurn r) (InTurn r')
+  same_in_turn r r' e = in_turn_follows r r' (subst (λ (both : Primitives). NodeFollows (in_sequence r.value) (in_sequence both)) (sym e) (λ P x L R. R))
+
   pub wrap_follows : (w w' : Wrap) (a a' : State) → ((n : Network) (t : Term) (e : Environment) (m : Made) (L : Life) (u : Term) (K : Life) → Wraps n w t e m L u K → Wraps n w' t e m L u K)
       → Follows a a' → NodeFollows (LWrap w a) (LWrap w' a')
   wrap_follows w w' a a' f g P x L (ready h O (lives_wrap W A)) = ready h O (lives_wrap (f _ _ _ _ _ _ _ W) (g _ _ A))
@@ -338,6 +357,12 @@ module _ (μ : Machine) where
       step : (P : Process) (L : Life) → StandsItself μ (SPrimitive i) P L → has_step L ≡ true
       step P L (recalling R) = refl
 
+  pub in_turn_lived : (r : Rc Primitives Global) → HasLived (InTurn r)
+  in_turn_lived r = itself_lived (InTurn r) step
+    where
+      step : (P : Process) (L : Life) → StandsItself μ (InTurn r) P L → has_step L ≡ true
+      step P L (in_turn (settles R)) = refl
+
   pub watching_lived : {at : _} (names : Env) (s : Switch) → HasLived (Watching' names at s.form s.running s.pattern s.body)
   watching_lived {at} names s = itself_lived (Watching' names at s.form s.running s.pattern s.body) step
     where
@@ -373,6 +398,7 @@ module _ (μ : Machine) where
   -- what was kept, with the same names around it
   pub kept_around : (names around : Env) (k : FrozenNode) → NamesFollow names around → Follows (frozen_state names k) (frozen_state around k)
   kept_around names around (KPrimitive i) N = λ P L A. A
+  kept_around names around (KPrimitives r) N = λ P L A. A
   kept_around names around (KLive' at l) N = alive_follows names around l l N (λ P x L R. R)
   kept_around names around (KSwitch' at w a q b) N = let s : Switch = record { form = w; running = a; pattern = q; body = b } in watching_follows names around s s N (λ P L S. S)
   kept_around names around (KContinuation' at w f a x o i q b) N = let s : Continuation = record { shown = w; first = f; source = a; before = x; observer = o; name = i; pattern = q; body = b } in continuing_follows names around s s N (λ P L S. S)

@@ -22,7 +22,7 @@ use Rattle.std.specs.declared.alloc.Global.{Global}
 use Rattle.std.specs.declared.rc.Rc.{Rc}
 use Rattle.sf_state.specs.declared.env.Env.TheVariants.{Empty as SEmpty, Bound', Running', Collected as ECollected}
 use Rattle.sf_state.specs.Held.{gathered_holding}
-use Rattle.sf_state.proofs.Scopes.{collected_is, collected_holds}
+use Rattle.sf_state.proofs.Scopes.{collected_is}
 use Rattle.sf_state.specs.Standing.{closed_over, HasMentioned, has_mentioned, IsNames, is_empty, is_bound, is_running, Gathers, IsHanded, IsProcess, is_closure}
 use Rattle.sf_state.specs.Machine.{Machine}
 

@@ -36,7 +36,8 @@ use Rattle.sf_law.specs.Arena.{plan_tree, plan_collection, plan_expressions, pla
 use Rattle.sf_prim.specs.declared.prim_state.PrimState.{PrimState}
 use Rattle.sf_prim.specs.Remembering.{Remembers}
 use Rattle.sf_state.specs.declared.state.State.{State}
-use Rattle.sf_state.specs.declared.state.State.TheVariants.{Unborn, Unborn', Primitive as SPrimitive, Live' as Alive', Switch' as Watching', Continuation', Gathering', Frozen'}
+use Rattle.sf_state.specs.declared.state.State.TheVariants.{Unborn, Unborn', Primitive as SPrimitive, Primitives as InTurn, Live' as Alive', Switch' as Watching', Continuation', Gathering', Frozen'}
+use Rattle.sf_state.specs.declared.state.Primitives.{Primitives}
 use Rattle.sf_state.specs.declared.state.Live.{Live}
 use Rattle.sf_state.specs.declared.state.Live.TheVariants.{Probe as LProbe, Join as LJoin, Pipeline' as LPipeline', Wrap as LWrap, Gathered' as LGathered'}
 use Rattle.sf_state.specs.declared.state.Live.{items-the_row-State}
@@ -48,7 +49,7 @@ use Rattle.sf_state.specs.declared.state.Continuation.{Continuation}
 use Rattle.sf_state.specs.declared.state.Gathering.{Gathering}
 use Rattle.sf_state.specs.declared.state.Gathering.TheVariants.{Releasing' as GReleasing', Editing' as GEditing'}
 use Rattle.sf_state.specs.declared.state.FrozenNode.{FrozenNode}
-use Rattle.sf_state.specs.declared.state.FrozenNode.TheVariants.{Primitive as KPrimitive, Live' as KLive', Switch' as KSwitch', Continuation' as KContinuation', Gathering' as KGathering'}
+use Rattle.sf_state.specs.declared.state.FrozenNode.TheVariants.{Primitive as KPrimitive, Primitives as KPrimitives, Live' as KLive', Switch' as KSwitch', Continuation' as KContinuation', Gathering' as KGathering'}
 use Rattle.sf_state.specs.declared.env.Env.{Env}
 use Rattle.sf_state.specs.declared.env.Handed.{Handed}
 use Rattle.sf_state.specs.declared.env.Given.{Given}
@@ -96,9 +97,14 @@ pub data AreJoined : Join → (left right both : Term) → Type 0 where
 abbrev pub closed_over : PlanId → Env → process_states.Process
 closed_over t names = record { term = t; names = names }
 
+-- two primitives in sequence, as a live part
+abbrev pub in_sequence : Primitives → Live
+in_sequence both = LJoin InSequence (SPrimitive both.first) (SPrimitive both.second)
+
 -- what was kept of a part, as a state
 abbrev pub frozen_state : Env → FrozenNode → State
 frozen_state names (KPrimitive i) = SPrimitive i
+frozen_state names (KPrimitives r) = InTurn r
 frozen_state names (KLive' at l) = Alive' names at l
 frozen_state names (KSwitch' at w a q b) = Watching' names at w a q b
 frozen_state names (KContinuation' at w t a x o k q b) = Continuation' names at w t a x o k q b
@@ -108,6 +114,7 @@ frozen_state names (KGathering' at g) = Gathering' names at g
 abbrev pub is_primitive : State → Bool
 is_primitive (Unborn' t names) = false
 is_primitive (SPrimitive i) = true
+is_primitive (InTurn r) = false
 is_primitive (Alive' names at l) = false
 is_primitive (Watching' names at w a q b) = false
 is_primitive (Continuation' names at w t a x o k q b) = false
@@ -118,6 +125,7 @@ is_primitive (Frozen' at d names k) = false
 abbrev pub is_frozen : State → Bool
 is_frozen (Unborn' t names) = false
 is_frozen (SPrimitive i) = false
+is_frozen (InTurn r) = false
 is_frozen (Alive' names at l) = false
 is_frozen (Watching' names at w a q b) = false
 is_frozen (Continuation' names at w t a x o k q b) = false
@@ -200,6 +208,8 @@ mutual
     unborn : {q : process_states.Process} {P : Process} → IsProcess μ q P → StandsItself μ (Unborn q) P []
     -- a primitive, which has what it needs of the names around it
     recalling : {i : PrimState} {P : Process} {s : Step} {L : Life} → Recalls μ i P (s ∷ L) → StandsItself μ (SPrimitive i) P (s ∷ L)
+    -- two of them, each on its own life
+    in_turn : {r : Rc Primitives Global} {P : Process} {L : Life} → Settles μ (in_sequence r.value) P L → StandsItself μ (InTurn r) P L
     -- with the names that are around its term
     alive : {at : _} {names : Env} {l : Live} {t : Term} {e : Environment} {L : Life}
         → IsNames μ names e → Settles μ l (closure t e) L → StandsItself μ (Alive' names at l) (closure t e) L

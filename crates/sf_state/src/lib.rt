@@ -8,6 +8,6 @@ mod state;
 pub use env::{Binding, Call, Collected, Env, Given, Handed, NamesIn, Running};
 pub use feedback::Feedback;
 pub use state::{
-    Continuation, Editing, Frozen, FrozenNode, Gathered, Gathering, Live, Process, Releasing,
-    State, Switch, Wrap, hold_back_members, own_states,
+    Continuation, Editing, Frozen, FrozenNode, Gathered, Gathering, Live, Primitives, Process,
+    Releasing, State, Switch, Wrap, hold_back_members, own_states,
 };

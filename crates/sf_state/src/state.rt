@@ -33,6 +33,8 @@ pub enum State {
     Unborn(Process),
     /// A primitive that has lived through some samples. It is small, and stands here itself.
     Primitive(PrimState),
+    /// Two primitives in sequence that have lived through some samples. Their node may be shared.
+    Primitives(Rc<Primitives>),
     /// It has lived through some samples, with these names around it. Its node may be shared.
     Live(Env, Rc<Live>),
     /// A switch that waits for an event, with these names around it. Its node may be shared.
@@ -52,6 +54,7 @@ impl Drop for State {
         match self {
             State::Unborn(process) => drop(process),
             State::Primitive(prim) => drop(prim),
+            State::Primitives(node) => drop(node),
             State::Live(names, node) => {
                 drop(names);
                 drop(node);
@@ -87,6 +90,10 @@ impl State {
             State::Unborn(process) => process.left(),
             State::Primitive(prim) => {
                 drop(prim);
+                Env::Empty
+            }
+            State::Primitives(node) => {
+                drop(node);
                 Env::Empty
             }
             State::Live(names, node) => {
@@ -251,6 +258,8 @@ pub struct Frozen {
 pub enum FrozenNode {
     /// Of a primitive, which is its own.
     Primitive(PrimState),
+    /// Of two primitives in sequence.
+    Primitives(Rc<Primitives>),
     /// Of a part that goes on as it is.
     Live(Rc<Live>),
     /// Of a switch that waits for an event.
@@ -259,6 +268,15 @@ pub enum FrozenNode {
     Continuation(Rc<Continuation>),
     /// Of members that wait for an event.
     Gathering(Rc<Gathering>),
+}
+
+/// Two primitives, the second on the values of the first. They have what they need of the names around them.
+#[derive(Drop)]
+pub struct Primitives {
+    /// The one that is given the input.
+    pub first: PrimState,
+    /// The one whose value shows.
+    pub second: PrimState,
 }
 
 /// A part that has lived and is no primitive, by its form.
@@ -409,6 +427,10 @@ impl State {
                 let same = process.share()?;
                 Ok(State::Unborn(same))
             }
+            State::Primitives(node) => {
+                let both = node.clone()?;
+                Ok(State::Primitives(both))
+            }
             State::Live(names, node) => {
                 let around = names.share()?;
                 let shared = node.clone()?;
@@ -467,6 +489,11 @@ impl State {
                 let nothing = Env::Empty;
                 freeze_node(alloc, wait, &nothing, FrozenNode::Primitive(copy))
             }
+            State::Primitives(node) => {
+                let both = node.clone()?;
+                let none = Env::Empty;
+                freeze_node(alloc, wait, &none, FrozenNode::Primitives(both))
+            }
         }
     }
 
@@ -478,14 +505,24 @@ impl State {
     pub fn renew(&mut self, alloc: Global, other: &State) -> Result<(), AllocError>
         ensures { OnOk result ((μ : Machine) (P : Lives.Process) (L : Life) → Stands μ other.now P L → Stands μ self.new P L) }
     {
-        if let State::Live(names, node) = other {
-            if let State::Live(around, own) = self {
-                if let Some(live) = Rc::get_mut(own) {
-                    let shared = names.share()?;
-                    *around = shared;
-                    return live.renew(alloc, node);
+        match other {
+            State::Live(names, node) => {
+                if let State::Live(around, own) = self {
+                    if let Some(live) = Rc::get_mut(own) {
+                        let shared = names.share()?;
+                        *around = shared;
+                        return live.renew(alloc, node);
+                    }
                 }
             }
+            State::Primitives(node) => {
+                if let State::Primitives(own) = self {
+                    if let Some(both) = Rc::get_mut(own) {
+                        return both.renew(alloc, node);
+                    }
+                }
+            }
+            _ => {}
         }
         let shared = other.share(alloc)?;
         *self = shared;
@@ -506,6 +543,30 @@ fn freeze_node(alloc: Global, wait: u64, names: &Env, node: FrozenNode) -> Resul
         node,
     };
     Ok(State::Frozen(Rc::new(alloc, frozen)?))
+}
+
+impl Primitives {
+    ghost use Rattle.sf_state.specs.Standing.{in_sequence};
+
+    /// A copy of both. The error is a want of memory, or too many owners of a function's code.
+    #[inline(always)]
+    pub fn clone_in(&self, alloc: Global) -> Result<Primitives, AllocError>
+        ensures { IfOk result (λ copy. (μ : Machine) (P : Lives.Process) (x : Data) (L : Life) → Ready μ (in_sequence self.now) P x L → Ready μ (in_sequence copy) P x L) }
+    {
+        let first = self.first.clone_in(alloc)?;
+        let second = self.second.clone_in(alloc)?;
+        Ok(Primitives { first, second })
+    }
+
+    // Makes these stand for all that others stand for, as `State::renew` does. It is a call, since a state is seldom renewed so.
+    #[inline(never)]
+    fn renew(&mut self, alloc: Global, other: &Primitives) -> Result<(), AllocError>
+        ensures { OnOk result ((μ : Machine) (P : Lives.Process) (x : Data) (L : Life) → Ready μ (in_sequence other.now) P x L → Ready μ (in_sequence self.new) P x L) }
+    {
+        let copy = other.clone_in(alloc)?;
+        *self = copy;
+        Ok(())
+    }
 }
 
 impl Live {
@@ -834,6 +895,10 @@ impl FrozenNode {
                 let copy = primitive.clone_in(alloc)?;
                 Ok(FrozenNode::Primitive(copy))
             }
+            FrozenNode::Primitives(node) => {
+                let both = node.clone()?;
+                Ok(FrozenNode::Primitives(both))
+            }
             FrozenNode::Live(node) => {
                 let live = node.clone()?;
                 Ok(FrozenNode::Live(live))
@@ -868,6 +933,7 @@ impl Frozen {
             FrozenNode::Continuation(node) => Ok(State::Continuation(around, node)),
             FrozenNode::Gathering(node) => Ok(State::Gathering(around, node)),
             FrozenNode::Primitive(primitive) => Ok(State::Primitive(primitive)),
+            FrozenNode::Primitives(node) => Ok(State::Primitives(node)),
         }
     }
 }

@@ -1,4 +1,6 @@
 -- What each function of a sample answers, from what it calls.
+use Rattle.std.specs.declared.alloc.Global.{Global}
+use Rattle.std.specs.declared.rc.Rc.{Rc}
 use Rattle.std.proofs.Common.{◌≡◌, ℕ, IsTrue, ◌+◌, ◌≤◌, List, [], ◌∷◌, ◌++◌, Option, Result, Ok, Err, sym, ap, ◌∙◌, subst, arith}
 use Rattle.sf_value.specs.Values.{Data}
 use Rattle.sf_value.specs.declared.fault.Fault.{Fault}
@@ -16,18 +18,19 @@ use Rattle.sf_mean.specs.Lives.{Step, step, Life, Process, closure, Environment,
 use Rattle.sf_mean.specs.Meaning.{Network, Readings, Outcome, gave, faulted, as_outcome, Cost, count, height, both_costs, over, left_life, right_life, join_value, Gives, gives, Outputs, not_begun, and_gave, of_form, Form}
 use Rattle.sf_prim.specs.declared.prim_state.PrimState.{PrimState}
 use Rattle.sf_state.specs.declared.state.State.{State}
-use Rattle.sf_state.specs.declared.state.State.TheVariants.{Unborn, Primitive as SPrimitive, Live' as Alive'}
+use Rattle.sf_state.specs.declared.state.State.TheVariants.{Unborn, Primitive as SPrimitive, Primitives as InTurn, Live' as Alive'}
+use Rattle.sf_state.specs.declared.state.Primitives.{Primitives}
 use Rattle.sf_state.specs.declared.state.Live.{Live}
 use Rattle.sf_state.specs.declared.state.Live.TheVariants.{Join as LJoin, Wrap as LWrap}
 use Rattle.sf_state.specs.declared.state.Wrap.{Wrap}
-use Rattle.sf_state.specs.Standing.{gathering_on, was_frozen, closed_over, was_alike, Stands, itself, StandsItself, unborn, recalling, alive, watching, continuing_on, Settles, settles, Ready, ready, lives_join, lives_wrap, is_closure, IsNames, AreJoined}
+use Rattle.sf_state.specs.Standing.{in_sequence, in_turn, gathering_on, was_frozen, closed_over, was_alike, Stands, itself, StandsItself, unborn, recalling, alive, watching, continuing_on, Settles, settles, Ready, ready, lives_join, lives_wrap, is_closure, IsNames, AreJoined}
 use Rattle.sf_state.specs.declared.env.Env.{Env}
 use Rattle.sf_state.specs.Machine.{Machine, machine_network}
 use Rattle.sf_meter.specs.declared.meter.Meter.{Meter}
 use Rattle.sf_meter.specs.Meters.{entered_of, meter_height, readings, Ticks, Ticked, ticked, refused, left_or}
 use Rattle.sf_step.specs.Answering.{Rel, Spent, Within, StopsFor, faults, large, memory, Answers, answers, fails, PrimSteps, LiveSteps, TermSteps, FirstSteps}
 use Rattle.sf_begin.proofs.Begins.{join_ready}
-use Rattle.sf_begin.specs.Beginning.{is_awake, Prepared, primitive_prepared, live_prepared, switch_prepared, continuing_prepared, BeginsAs, begins_itself, gathering_prepared}
+use Rattle.sf_begin.specs.Beginning.{is_awake, Prepared, primitive_prepared, primitives_prepared, live_prepared, switch_prepared, continuing_prepared, BeginsAs, begins_itself, gathering_prepared}
 use Rattle.sf_step.proofs.Costs.{memory_exit, counts, begin_stops}
 use Rattle.sf_step.proofs.First.{recalled}
 use Rattle.sf_step.specs.Sampling.{PartSteps, StateSteps, CountedSteps, Waiting, WaitingSteps, GivesApart}
@@ -173,6 +176,17 @@ module _ (μ : Machine) where
 
   -- ## States
 
+  -- what two primitives in sequence answer is their state's
+  both_held : {A E : Type 0} {P : Process} {s : Step} {L : Life} {R : Rel} {m n : Meter} {depth : ℕ} (r : Rc Primitives Global) (v : Data) (q : Result A E) (f : Fault)
+      → Answers {A = Live × Data} (λ y. y.1) (λ y. Settles μ y.0 P (s ∷ L)) R (left_or q (in_sequence r.value, v) f) m n depth
+      → Answers {A = State × Data} (λ y. y.1) (λ y. Stands μ y.0 P (s ∷ L)) R (left_or q (InTurn r, v) f) m n depth
+  both_held r v (Ok u) f h = let w = answered h in answers w.given w.spent (itself (in_turn w.holds))
+  both_held r v (Err e) f h = fails (failed h)
+
+  pub primitives_counted : {A E : Type 0} {n n' : Meter} {inside : ℕ} (r r' : Rc Primitives Global) (s : Step) (v : Data) (q : Result A E) (f : Fault) → LiveSteps μ (in_sequence r.value) s (left_or q (in_sequence r'.value, v) f) n n' inside
+      → CountedSteps μ (InTurn r) s (left_or q (InTurn r', v) f) n n' inside
+  primitives_counted r r' s v q f h m depth t P L (primitives_prepared R) = both_held r' v q f (h m depth t P L R)
+
   -- a live part's answer is its state's
   held : {A E : Type 0} {t : Term} {e : Environment} {s : Step} {L : Life} {R : Rel} {m n : Meter} {depth : ℕ} (at : _) (names : Env) (l : Live) (v : Data) (r : Result A E) (f : Fault) → IsNames μ names e
       → Answers {A = Live × Data} (λ y. y.1) (λ y. Settles μ y.0 (closure t e) (s ∷ L)) R (left_or r (l, v) f) m n depth
@@ -195,6 +209,9 @@ module _ (μ : Machine) where
   pub primitive_is : (i : PrimState) → IsPrepared (SPrimitive i)
   primitive_is i P s L (recalling R) = primitive_prepared R
 
+  pub primitives_are : (r : Rc Primitives Global) → IsPrepared (InTurn r)
+  primitives_are r P s L (in_turn (settles R)) = primitives_prepared R
+
   pub live_is : {at : _} (names : Env) (l : Live) → IsPrepared (Alive' names at l)
   live_is names l P s L (alive N (settles R)) = live_prepared N R
 
@@ -202,6 +219,7 @@ module _ (μ : Machine) where
   pub awake_is : (a : State) → IsTrue (is_awake a) → IsPrepared a
   awake_is a h P s L (unborn A) = absurd cc
   awake_is a h P s L (recalling R) = primitive_prepared R
+  awake_is a h P s L (in_turn (settles R)) = primitives_prepared R
   awake_is a h P s L (alive N (settles R)) = live_prepared N R
   awake_is a h P s L (watching N W) = switch_prepared N W
   awake_is a h P s L (continuing_on N W) = continuing_prepared N W

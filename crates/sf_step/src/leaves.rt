@@ -2,25 +2,33 @@
 ghost use Rattle.std.specs.Prelude.{◌≡◌, ℕ};
 ghost use Rattle.sf_mean.specs.Lives.{step};
 ghost use Rattle.sf_term.specs.Trees.{Term};
-ghost use Rattle.sf_law.specs.Arena.{BuildsPlan};
+ghost use Rattle.sf_law.specs.Arena.{BuildsPlan, plan_tree};
 ghost use Rattle.sf_law.specs.declared.node.PlanNode.TheVariants as NodeOf;
 ghost use Rattle.sf_meter.specs.Meters.{left_or, entered_of, meter_fault};
-ghost use Rattle.sf_step.specs.Answering.{PrimSteps, LiveSteps, FirstSteps};
+ghost use Rattle.sf_step.specs.Answering.{PrimSteps, LiveSteps, FirstSteps, TermSteps};
+ghost use Rattle.sf_state.specs.declared.state.State.TheVariants as StateOf;
+ghost use Rattle.sf_state.specs.Standing.{in_sequence, closed_over, AreJoined};
+ghost use Rattle.sf_term.specs.declared.form.Join.TheVariants as Join;
+ghost use Rattle.sf_law.specs.declared.node.PlanId as plan_ids;
+ghost use Rattle.sf_step.specs.Around.{machine_around, plan_around, dt_around};
+ghost use Rattle.sf_step.specs.Sampling.{StateSteps};
 ghost use Rattle.sf_begin.specs.Contexts.{context_machine, plan_in, dt_in};
 
+use crate::sample::Around;
 use sf_begin::{SampleContext, fault_of};
 use sf_func::Holds;
 use sf_law::PlanPrimitive;
 use sf_meter::{Meter, Stop};
 use sf_prim::PrimState;
-use sf_state::{Env, Live, NamesIn, State};
+use sf_state::{Env, Live, NamesIn, Primitives, State};
 use sf_value::{Fault, Value};
 use std::rc::Rc;
 
 /// Puts the value at the next sample of a primitive, which has been counted, in place of the input. After an error the
 /// primitive keeps nothing that is promised, and the value may be any; the meter has the fault, of its operations or of memory.
-#[inline(never)]
-pub(crate) fn step_prim<R: Holds>(
+/// For the loop over stages, where a call for each costs more than the code of the forms in one more place.
+#[inline(always)]
+pub(crate) fn step_prim_inline<R: Holds>(
     context: &SampleContext<R>,
     prim: &mut PrimState,
     value: &mut Value,
@@ -34,6 +42,77 @@ pub(crate) fn step_prim<R: Holds>(
         Ok(()) => Ok(()),
         Err(fault) => Err(meter.stop(fault_of(fault))),
     }
+}
+
+/// The same as a call.
+#[inline(never)]
+pub(crate) fn step_prim<R: Holds>(
+    context: &SampleContext<R>,
+    prim: &mut PrimState,
+    value: &mut Value,
+    meter: &mut Meter,
+) -> Result<(), Stop>
+    ensures entered { entered_of meter.new ≡ entered_of meter.old }
+    ensures answers { PrimSteps (context_machine R.answers context.now) prim.old (step (dt_in context.now) value.old)
+        (left_or result (prim.new, value.new) (meter_fault meter.new)) meter.old meter.new }
+{
+    step_prim_inline(context, prim, value, meter)
+}
+
+/// Puts the value at the next sample of two primitives in sequence, whose node has been counted and which stand inside `inside`
+/// nodes, in place of the input. Where the node is shared, a copy is stepped, and takes its place. After an error they keep nothing
+/// that is promised, and the value may be any.
+#[inline(never)]
+pub(crate) fn step_primitives<R: Holds>(
+    context: &SampleContext<R>,
+    node: &mut Rc<Primitives>,
+    inside: u64,
+    value: &mut Value,
+    meter: &mut Meter,
+) -> Result<(), Stop>
+    ensures { LiveSteps (context_machine R.answers context.now) (in_sequence node.old.value) (step (dt_in context.now) value.old)
+        (left_or result (in_sequence node.new.value, value.new) (meter_fault meter.new)) meter.old meter.new inside }
+{
+    if let Some(both) = Rc::get_mut(node) {
+        return step_both(context, both, inside, value, meter);
+    }
+    let mut own = granted!(meter, node.clone_in(context.alloc));
+    step_both(context, &mut own, inside, value, meter)?;
+    let copy = granted!(meter, Rc::new(context.alloc, own));
+    *node = copy;
+    Ok(())
+}
+
+// The same of what stands in the node.
+#[inline(always)]
+fn step_both<R: Holds>(
+    context: &SampleContext<R>,
+    both: &mut Primitives,
+    inside: u64,
+    value: &mut Value,
+    meter: &mut Meter,
+) -> Result<(), Stop>
+    ensures { LiveSteps (context_machine R.answers context.now) (in_sequence both.old) (step (dt_in context.now) value.old)
+        (left_or result (in_sequence both.new, value.new) (meter_fault meter.new)) meter.old meter.new inside }
+{
+    count_and_step(context, &mut both.first, inside, value, meter)?;
+    count_and_step(context, &mut both.second, inside, value, meter)
+}
+
+// The next sample of one of them, which is counted here.
+#[inline(always)]
+fn count_and_step<R: Holds>(
+    context: &SampleContext<R>,
+    prim: &mut PrimState,
+    inside: u64,
+    value: &mut Value,
+    meter: &mut Meter,
+) -> Result<(), Stop>
+    ensures { StateSteps (context_machine R.answers context.now) (StateOf.Primitive prim.old) (step (dt_in context.now) value.old)
+        (left_or result (StateOf.Primitive prim.new, value.new) (meter_fault meter.new)) meter.old meter.new inside }
+{
+    meter.tick(inside)?;
+    step_prim(context, prim, value, meter)
 }
 
 /// Puts a primitive after its first sample, with these names around it, in place of a state, and its value in place of the input.
@@ -50,16 +129,75 @@ pub(crate) fn first_primitive<R: Holds>(
     ensures { (t : Term) → BuildsPlan (plan_in context.now) (NodeOf.Primitive primitive.now) t → FirstSteps (context_machine R.answers context.now) t names.now (step (dt_in context.now) value.old)
         (left_or result (state.new, value.new) (meter_fault meter.new)) meter.old meter.new }
 {
-    let plan = context.plan;
-    let around = NamesIn { plan, names };
     state.put(State::Primitive(PrimState::Identity));
     let State::Primitive(prim) = state else {
         unreachable!();
     };
+    begin_and_step(context, prim, primitive, names, value, meter)
+}
+
+// The same in place of a primitive.
+#[inline(always)]
+fn begin_and_step<R: Holds>(
+    context: &SampleContext<R>,
+    prim: &mut PrimState,
+    primitive: &PlanPrimitive,
+    names: &Env,
+    value: &mut Value,
+    meter: &mut Meter,
+) -> Result<(), Stop>
+    ensures { (t : Term) → BuildsPlan (plan_in context.now) (NodeOf.Primitive primitive.now) t → FirstSteps (context_machine R.answers context.now) t names.now (step (dt_in context.now) value.old)
+        (left_or result (StateOf.Primitive prim.new, value.new) (meter_fault meter.new)) meter.old meter.new }
+{
+    let plan = context.plan;
+    let around = NamesIn { plan, names };
     match prim.begin(context.alloc, primitive, context.functions, &around) {
         Ok(()) => step_prim(context, prim, value, meter),
         Err(fault) => Err(meter.stop(fault_of(fault))),
     }
+}
+
+/// Puts two primitives in sequence after their first sample, in one node, in place of a state, and their value in place of the input.
+/// Their node has been counted. After an error the state is as it was, and the value may be any.
+#[inline(never)]
+pub(crate) fn first_primitives<R: Holds>(
+    around: &Around<R>,
+    state: &mut State,
+    before: &PlanPrimitive,
+    after: &PlanPrimitive,
+    value: &mut Value,
+    meter: &mut Meter,
+) -> Result<(), Stop>
+    ensures { let p = plan_around around.now in (left right : plan_ids.PlanId) (t : Term) → BuildsPlan p (NodeOf.Primitive before.now) (plan_tree p left) → BuildsPlan p (NodeOf.Primitive after.now) (plan_tree p right) →
+        AreJoined Join.InSequence (plan_tree p left) (plan_tree p right) t → TermSteps (machine_around R.answers around.now) t around.now.names.now (step (dt_around around.now) value.old)
+        (left_or result (state.new, value.new) (meter_fault meter.new)) meter.old meter.new around.now.inside }
+{
+    let mut both = Primitives {
+        first: PrimState::Identity,
+        second: PrimState::Identity,
+    };
+    first_of_both(around, &mut both.first, before, value, meter)?;
+    first_of_both(around, &mut both.second, after, value, meter)?;
+    let node = granted!(meter, Rc::new(around.context.alloc, both));
+    state.put(State::Primitives(node));
+    Ok(())
+}
+
+// The first sample of one of them, which is counted here.
+#[inline(never)]
+fn first_of_both<R: Holds>(
+    around: &Around<R>,
+    prim: &mut PrimState,
+    primitive: &PlanPrimitive,
+    value: &mut Value,
+    meter: &mut Meter,
+) -> Result<(), Stop>
+    ensures { let p = plan_around around.now in (term : plan_ids.PlanId) → BuildsPlan p (NodeOf.Primitive primitive.now) (plan_tree p term) →
+        StateSteps (machine_around R.answers around.now) (StateOf.Unborn (closed_over term around.now.names.now)) (step (dt_around around.now) value.old)
+        (left_or result (StateOf.Primitive prim.new, value.new) (meter_fault meter.new)) meter.old meter.new around.now.inside }
+{
+    meter.tick(around.inside)?;
+    begin_and_step(around.context, prim, primitive, around.names, value, meter)
 }
 
 /// The next sample of a probe, which has been counted: its input stays, and is recorded under its name. It stops for want of

@@ -26,7 +26,9 @@ ghost use Rattle.sf_step.specs.Edits.{HaveStepped, HaveTurned, EditSteps, DraftS
 ghost use Rattle.sf_step.specs.Stepping.{Steps};
 ghost use Rattle.sf_step.specs.Routing.{observation_of};
 
-use crate::leaves::{first_primitive, step_prim, step_probe};
+use crate::leaves::{
+    first_primitive, first_primitives, step_prim, step_prim_inline, step_primitives, step_probe,
+};
 use crate::routing::{
     beside, copies, hold_back, payload_of, put_first, put_last, put_live, show, take_over,
     value_and_payload,
@@ -131,6 +133,10 @@ fn step_state<R: Holds>(
             meter.tick(depth)?;
             step_prim(context, prim, value, meter)
         }
+        State::Primitives(node) => {
+            let inside = meter.tick(depth)?;
+            step_primitives(context, node, inside, value, meter)
+        }
         State::Live(_, node) => {
             let inside = meter.tick(depth)?;
             step_node(context, node, inside, value, meter)
@@ -194,10 +200,10 @@ fn step_unborn<R: Holds>(
 
 // What is around a term at its first sample: the names, and the nodes inside which it stands.
 #[derive(Drop)]
-struct Around<'a, R> {
-    context: &'a SampleContext<'a, R>,
-    names: &'a Env,
-    inside: u64,
+pub(crate) struct Around<'a, R> {
+    pub(crate) context: &'a SampleContext<'a, R>,
+    pub(crate) names: &'a Env,
+    pub(crate) inside: u64,
 }
 
 // The first sample of a term. What it is from then on takes the place of a state, whatever that was.
@@ -525,6 +531,12 @@ fn first_sequence<R: Holds>(
         TermSteps (machine_around R.answers around.now) t around.now.names.now (step (dt_around around.now) value.old)
         (left_or result (state.new, value.new) (meter_fault meter.new)) meter.old meter.new around.now.inside }
 {
+    let plan = around.context.plan;
+    if let PlanNode::Primitive(before) = plan.node(left) {
+        if let PlanNode::Primitive(after) = plan.node(right) {
+            return first_primitives(around, state, before, after, value, meter);
+        }
+    }
     let mut live = Live::Join(Join::InSequence, State::unborn(left), State::unborn(right));
     let Live::Join(_, first, second) = &mut live else {
         unreachable!();
@@ -690,6 +702,7 @@ fn step_counted<R: Holds>(
 {
     match state {
         State::Primitive(prim) => step_prim(context, prim, value, meter),
+        State::Primitives(node) => step_primitives(context, node, inside, value, meter),
         State::Live(_, node) => step_node(context, node, inside, value, meter),
         State::Switch(names, node) => {
             let over = step_watching(context, node, names, inside, value, meter)?;
@@ -1804,9 +1817,31 @@ fn step_pipeline<R: Holds>(
         (left_or result (Live.Pipeline stages.new, value.new) (meter_fault meter.new)) meter.old meter.new inside }
 {
     for stage in stages.iter_mut() {
-        step_state(context, stage, inside, value, meter)?;
+        step_stage(context, stage, inside, value, meter)?;
     }
     Ok(())
+}
+
+// The next sample of a part, where the steps of primitives stand in the loop and are no calls.
+#[cycle(step)]
+#[inline(always)]
+fn step_stage<R: Holds>(
+    context: &SampleContext<R>,
+    stage: &mut State,
+    depth: u64,
+    value: &mut Value,
+    meter: &mut Meter,
+) -> Result<(), Stop>
+    ensures { StateSteps (context_machine R.answers context.now) stage.old (step (dt_in context.now) value.old)
+        (left_or result (stage.new, value.new) (meter_fault meter.new)) meter.old meter.new depth }
+{
+    match stage {
+        State::Primitive(prim) => {
+            meter.tick(depth)?;
+            step_prim_inline(context, prim, value, meter)
+        }
+        _ => step_state(context, stage, depth, value, meter),
+    }
 }
 
 // The next sample of a part on the first halves of pairs, likewise.

@@ -1,6 +1,5 @@
-use Rattle.std.proofs.Common.{Some, None, subst, sym, ap}
+use Rattle.std.proofs.Common.{Some, None, subst}
 use Rattle.std.specs.Option.{option_map}
-use Rattle.sf_value.specs.Values.{first_of, second_of}
 use Rattle.sf_state.proofs.Parts.{IsPart, second_part, first_part}
 use Rattle.sf_state.proofs.env.+part_of_number.Goals as goal
 

@@ -35,7 +35,7 @@ use Rattle.sf_step.specs.Routing.{observation_of}
 use Rattle.sf_state.proofs.Copies.{list_follows}
 use Rattle.sf_step.proofs.Parts.{pass_exit, pass_apart, failed, own_halves, gives_value, gives_no_value, stops_apart, apart_as, taken}
 use Rattle.sf_step.proofs.Stages.{StagesStep, continues_first, continues_next, continues_fails, continues_last, pipeline_steps, pipeline_fails}
-use Rattle.sf_step.proofs.Exits.{ticked_by, tick_fails, first_memory, join_left_fails, join_right_fails, join_steps, join_last, wrap_fails, wrap_steps, wrap_faults, wrap_last, late_memory, late_part, late_waiting, waits_alike, primitive_counted, live_counted, own_steps, primitive_is, live_is, awake_is, counted_steps, live_apart, first_counted, term_counted, begun_steps, begun_fails, late_term, joined_fails, joined_late, joined_steps}
+use Rattle.sf_step.proofs.Exits.{primitives_counted, primitives_are, ticked_by, tick_fails, first_memory, join_left_fails, join_right_fails, join_steps, join_last, wrap_fails, wrap_steps, wrap_faults, wrap_last, late_memory, late_part, late_waiting, waits_alike, primitive_counted, live_counted, own_steps, primitive_is, live_is, awake_is, counted_steps, live_apart, first_counted, term_counted, begun_steps, begun_fails, late_term, joined_fails, joined_late, joined_steps}
 use Rattle.sf_step.proofs.Recurring.{run_fails, run_memory, new_fails, new_runs, runs_alone}
 use Rattle.sf_step.proofs.FirstSwitches.{new_switch, new_continuation, switch_waits, continuation_waits, term_over, term_on}
 use Rattle.sf_step.proofs.Switches.{source_fails, switch_memory, switch_waits_on, body_fails, body_takes_over}
@@ -59,6 +59,9 @@ there_is e = subst IsOk (sym e) refl
 pub step_state-returns-in_err-tick-in-Primitive : goal.step_state-returns-in_err-tick-in-Primitive
 step_state-returns-in_err-tick-in-Primitive g t c = λ P L A. pass_exit _ _ c.from_residual.ensures.0 (tick_fails (context_machine g.R.Holds.answers c.args.context.now) P _ c.in_err-tick-in-Primitive.ensures.ticked)
 
+pub step_state-returns-in_err-inside-in-Primitives : goal.step_state-returns-in_err-inside-in-Primitives
+step_state-returns-in_err-inside-in-Primitives g t c = λ P L A. pass_exit _ _ c.from_residual-in_err-inside-in-Primitives.ensures.0 (tick_fails (context_machine g.R.Holds.answers c.args.context.now) P _ c.in_err-inside-in-Primitives.ensures.ticked)
+
 pub step_state-returns-in_err-inside-in-Live : goal.step_state-returns-in_err-inside-in-Live
 step_state-returns-in_err-inside-in-Live g t c = λ P L A. pass_exit _ _ c.from_residual-in_err-inside-in-Live.ensures.0 (tick_fails (context_machine g.R.Holds.answers c.args.context.now) P _ c.in_err-inside-in-Live.ensures.ticked)
 
@@ -69,6 +72,11 @@ pub step_state-returns-in_ok-tick-in-Primitive : goal.step_state-returns-in_ok-t
 step_state-returns-in_ok-tick-in-Primitive g t c = λ P L A.
     counted_steps (context_machine g.R.Holds.answers c.args.context.now) _ _ _ (ticked_by c.in_ok-tick-in-Primitive.ensures.ticked) (primitive_is (context_machine g.R.Holds.answers c.args.context.now) c.in-Primitive.prim)
     (primitive_counted (context_machine g.R.Holds.answers c.args.context.now) c.in-Primitive.prim c.step_prim.new.prim _ c.step_prim.new.value c.step_prim.result _ c.step_prim.ensures.answers) P L (rw c.in-Primitive.is at A)
+
+pub step_state-returns-in_ok-inside-in-Primitives : goal.step_state-returns-in_ok-inside-in-Primitives
+step_state-returns-in_ok-inside-in-Primitives g t c = λ P L A.
+    counted_steps (context_machine g.R.Holds.answers c.args.context.now) _ _ _ (ticked_by c.in_ok-inside-in-Primitives.ensures.ticked) (primitives_are (context_machine g.R.Holds.answers c.args.context.now) c.in-Primitives.node)
+    (primitives_counted (context_machine g.R.Holds.answers c.args.context.now) c.in-Primitives.node c.step_primitives.new.node _ c.step_primitives.new.value c.step_primitives.result _ c.step_primitives.ensures) P L (rw c.in-Primitives.is at A)
 
 pub step_state-returns-in_ok-inside-in-Live : goal.step_state-returns-in_ok-inside-in-Live
 step_state-returns-in_ok-inside-in-Live g t c = λ P L A.
@@ -106,6 +114,10 @@ step_node_copy-returns g t c =
 pub step_counted-returns-in-Primitive : goal.step_counted-returns-in-Primitive
 step_counted-returns-in-Primitive g t c = λ m depth t P L A.
     primitive_counted (context_machine g.R.Holds.answers c.args.context.now) c.in-Primitive.prim c.step_prim.new.prim _ c.step_prim.new.value c.step_prim.result _ c.step_prim.ensures.answers m depth t P L (rw c.in-Primitive.is at A)
+
+pub step_counted-returns-in-Primitives : goal.step_counted-returns-in-Primitives
+step_counted-returns-in-Primitives g t c = λ m depth t P L A.
+    primitives_counted (context_machine g.R.Holds.answers c.args.context.now) c.in-Primitives.node c.step_primitives.new.node _ c.step_primitives.new.value c.step_primitives.result _ c.step_primitives.ensures m depth t P L (rw c.in-Primitives.is at A)
 
 pub step_counted-returns-in-Live : goal.step_counted-returns-in-Live
 step_counted-returns-in-Live g t c = λ m depth t P L A.
@@ -289,6 +301,9 @@ first_of_process-returns g t c = λ u B.
     process_steps μ c.args.start c.args.name u c.args.around.now.names.now B (dt_around c.args.around.now) c.args.value.now c.in-Ok.value _ (c.in-Ok.ensures μ.answers) (rw c.put.ensures at c.step_state.ensures)
 
 -- ## first_sequence
+
+pub first_sequence-returns-in-Primitive-node : goal.first_sequence-returns-in-Primitive-node
+first_sequence-returns-in-Primitive-node g t c = λ u J. c.first_primitives.ensures c.args.left c.args.right u (rw c.in-Primitive.is at c.node.ensures.builds) (rw c.in-Primitive-node.is at c.node-in-Primitive.ensures.builds) J
 
 pub first_sequence-returns-in_err-first_step : goal.first_sequence-returns-in_err-first_step
 first_sequence-returns-in_err-first_step g t c = λ u J m depth T e N.
@@ -820,15 +835,15 @@ step_pipeline-loop-stage-init g t c =
       goes_on = continues_first μ c.deref_mut-stage-items.result.now c.args.context.now.dt c.args.value.now c.args.meter.now c.args.inside;
     }
 
-pub step_pipeline-returns-in_err-step_state : goal.step_pipeline-returns-in_err-step_state
-step_pipeline-returns-in_err-step_state g t c = λ m depth t P L R.
+pub step_pipeline-returns-in_err-step_stage : goal.step_pipeline-returns-in_err-step_stage
+step_pipeline-returns-in_err-step_stage g t c = λ m depth t P L R.
     let μ = context_machine g.R.Holds.answers c.args.context.now in
     let l = c.loop-stage in
-    let f = meter_fault c.step_state.new.meter in
+    let f = meter_fault c.step_stage.new.meter in
     let failed = continues_fails μ _ c.args.context.now.dt c.args.value.now c.args.meter.now l.stage-items l.stage-index l.value l.meter c.args.inside c.stage-item.result (omega (arith, c.loop-stage-test.true, l.auto.stage-items)) l.invariant.goes_on
-    f c.step_state.new.meter c.in_err-step_state.ensures in
-    pass_exit _ _ c.from_residual.ensures.0 (pipeline_fails μ c.args.stages.now c.args.context.now.dt c.args.value.now c.args.meter.now c.step_state.new.meter c.args.inside f
-    (subst (λ bs. StagesStep μ bs c.args.context.now.dt c.args.value.now (Err f) c.args.meter.now c.step_state.new.meter c.args.inside) c.deref_mut-stage-items.ensures.value failed) m depth t P L R)
+    f c.step_stage.new.meter c.in_err-step_stage.ensures in
+    pass_exit _ _ c.from_residual.ensures.0 (pipeline_fails μ c.args.stages.now c.args.context.now.dt c.args.value.now c.args.meter.now c.step_stage.new.meter c.args.inside f
+    (subst (λ bs. StagesStep μ bs c.args.context.now.dt c.args.value.now (Err f) c.args.meter.now c.step_stage.new.meter c.args.inside) c.deref_mut-stage-items.ensures.value failed) m depth t P L R)
 
 pub step_pipeline-loop-stage-preserved : goal.step_pipeline-loop-stage-preserved
 step_pipeline-loop-stage-preserved g t c =
@@ -836,7 +851,7 @@ step_pipeline-loop-stage-preserved g t c =
     let l = c.loop-stage in
     record {
       goes_on = continues_next μ _ c.args.context.now.dt c.args.value.now c.args.meter.now l.stage-items l.stage-index l.value l.meter c.args.inside c.stage-item.result (omega (arith, c.loop-stage-test.true, l.auto.stage-items)) l.invariant.goes_on
-          c.step_state.new.state c.step_state.new.value c.step_state.new.meter c.in_ok-step_state.ensures;
+          c.step_stage.new.stage c.step_stage.new.value c.step_stage.new.meter c.in_ok-step_stage.ensures;
     }
 
 pub step_pipeline-returns : goal.step_pipeline-returns
@@ -848,6 +863,19 @@ step_pipeline-returns g t c =
     let all = continues_last μ _ c.args.context.now.dt c.args.value.now c.args.meter.now l.stage-items l.stage-index l.value l.meter c.args.inside last l.invariant.goes_on in
     pipeline_steps μ c.args.stages.now c.args.context.now.dt c.args.value.now c.args.meter.now l.meter c.args.inside (with_items c.args.stages.now l.stage-items) l.value
     (rw whole (subst (λ bs. StagesStep μ bs c.args.context.now.dt c.args.value.now (Ok (l.stage-items, l.value)) c.args.meter.now l.meter c.args.inside) c.deref_mut-stage-items.ensures.value all))
+
+-- ## step_stage
+
+pub step_stage-returns-in_err-tick-in-Primitive : goal.step_stage-returns-in_err-tick-in-Primitive
+step_stage-returns-in_err-tick-in-Primitive g t c = λ P L A. pass_exit _ _ c.from_residual.ensures.0 (tick_fails (context_machine g.R.Holds.answers c.args.context.now) P _ c.in_err-tick-in-Primitive.ensures.ticked)
+
+pub step_stage-returns-in_ok-tick-in-Primitive : goal.step_stage-returns-in_ok-tick-in-Primitive
+step_stage-returns-in_ok-tick-in-Primitive g t c = λ P L A.
+    counted_steps (context_machine g.R.Holds.answers c.args.context.now) _ _ _ (ticked_by c.in_ok-tick-in-Primitive.ensures.ticked) (primitive_is (context_machine g.R.Holds.answers c.args.context.now) c.in-Primitive.prim)
+    (primitive_counted (context_machine g.R.Holds.answers c.args.context.now) c.in-Primitive.prim c.step_prim_inline.new.prim _ c.step_prim_inline.new.value c.step_prim_inline.result _ c.step_prim_inline.ensures.answers) P L (rw c.in-Primitive.is at A)
+
+pub step_stage-returns-in_default : goal.step_stage-returns-in_default
+step_stage-returns-in_default g t c = c.step_state.ensures
 
 -- ## step_sequence
 

@@ -101,6 +101,9 @@ decreases-step_counted g l = 26 * (1600 - l.inside) + 22
 abbrev pub decreases-step_pipeline : goal.decreases-step_pipeline
 decreases-step_pipeline g l = 26 * (1600 - l.inside) + 8
 
+abbrev pub decreases-step_stage : goal.decreases-step_stage
+decreases-step_stage g l = 26 * (1600 - l.depth) + 7
+
 abbrev pub decreases-step_watching : goal.decreases-step_watching
 decreases-step_watching g l = 26 * (1600 - l.inside) + 15
 

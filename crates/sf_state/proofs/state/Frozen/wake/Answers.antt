@@ -6,6 +6,11 @@ returns-in-Primitive-clause-stands c = λ μ P L A.
     let names = c.args.self.now.names in
     rw c.in-Primitive.is at (kept_around μ names c.in_ok-around.around c.in_ok-node.field-0 (c.in_ok-around.ensures μ) P L (c.in_ok-node.ensures μ names P L A))
 
+pub returns-in-Primitives-clause-stands : goal.returns-in-Primitives-clause-stands
+returns-in-Primitives-clause-stands c = λ μ P L A.
+    let names = c.args.self.now.names in
+    rw c.in-Primitives.is at (kept_around μ names c.in_ok-around.around c.in_ok-node.field-0 (c.in_ok-around.ensures μ) P L (c.in_ok-node.ensures μ names P L A))
+
 pub returns-in-Live-clause-stands : goal.returns-in-Live-clause-stands
 returns-in-Live-clause-stands c = λ μ P L A.
     let names = c.args.self.now.names in

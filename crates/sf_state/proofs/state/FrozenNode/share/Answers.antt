@@ -1,9 +1,13 @@
-use Rattle.sf_state.proofs.Copies.{same_follows, primitive_follows, alive_follows, same_waits, watching_follows, same_keeps, continuing_follows, same_gathers, gathering_follows}
+use Rattle.sf_state.proofs.Copies.{same_follows, same_in_turn, primitive_follows, alive_follows, same_waits, watching_follows, same_keeps, continuing_follows, same_gathers, gathering_follows}
 use Rattle.sf_state.proofs.state.FrozenNode.share.Goals as goal
 
 pub returns-in_ok-copy-in-Primitive : goal.returns-in_ok-copy-in-Primitive
 returns-in_ok-copy-in-Primitive c = λ μ names P L A.
     primitive_follows μ c.in-Primitive.primitive c.in_ok-copy-in-Primitive.copy c.in_ok-copy-in-Primitive.ensures P L (rw c.in-Primitive.is at A)
+
+pub returns-in_ok-both-in-Primitives : goal.returns-in_ok-both-in-Primitives
+returns-in_ok-both-in-Primitives c = λ μ names P L A.
+    same_in_turn μ c.in-Primitives.node c.in_ok-both-in-Primitives.both c.in_ok-both-in-Primitives.ensures.cases P L (rw c.in-Primitives.is at A)
 
 pub returns-in_ok-live-in-Live : goal.returns-in_ok-live-in-Live
 returns-in_ok-live-in-Live c = λ μ names P L A.

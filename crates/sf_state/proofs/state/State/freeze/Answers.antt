@@ -1,5 +1,5 @@
 use Rattle.std.proofs.Common.{sym, subst, ⊎_elim}
-use Rattle.sf_state.proofs.Copies.{IsFresh, same_follows, primitive_follows, alive_follows, same_waits, watching_follows, same_keeps, continuing_follows, same_gathers, gathering_follows, primitive_lived, alive_lived, watching_lived, continuing_lived, gathering_lived, unborn_fresh, frozen_fresh, lived_frozen, fresh_frozen}
+use Rattle.sf_state.proofs.Copies.{IsFresh, same_follows, same_in_turn, primitive_follows, alive_follows, same_waits, watching_follows, same_keeps, continuing_follows, same_gathers, gathering_follows, primitive_lived, in_turn_lived, alive_lived, watching_lived, continuing_lived, gathering_lived, unborn_fresh, frozen_fresh, lived_frozen, fresh_frozen}
 use Rattle.sf_state.proofs.state.State.freeze.Goals as goal
 
 pub returns-in_ok-copy-in-Primitive : goal.returns-in_ok-copy-in-Primitive
@@ -7,6 +7,13 @@ returns-in_ok-copy-in-Primitive c =
     let old = c.in-Primitive.primitive in
     rw c.in-Primitive.is (lived_frozen _ _ c.args.wait c.freeze_node-in-Primitive.result (λ μ. primitive_lived μ old)
     (λ μ. primitive_follows μ old c.in_ok-copy-in-Primitive.copy c.in_ok-copy-in-Primitive.ensures) c.freeze_node-in-Primitive.ensures)
+
+pub returns-in_ok-both-in-Primitives : goal.returns-in_ok-both-in-Primitives
+returns-in_ok-both-in-Primitives c =
+    let old = c.in-Primitives.node in
+    let new = c.in_ok-both-in-Primitives.both in
+    rw c.in-Primitives.is (lived_frozen _ _ c.args.wait c.freeze_node-in-Primitives.result (λ μ. in_turn_lived μ old)
+    (λ μ. same_in_turn μ old new c.in_ok-both-in-Primitives.ensures.cases) c.freeze_node-in-Primitives.ensures)
 
 pub returns-in_ok-live-in-Live : goal.returns-in_ok-live-in-Live
 returns-in_ok-live-in-Live c =

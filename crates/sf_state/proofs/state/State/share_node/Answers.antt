@@ -1,9 +1,13 @@
-use Rattle.sf_state.proofs.Copies.{same_follows, unborn_follows, alive_follows, same_waits, watching_follows, same_keeps, continuing_follows, same_gathers, gathering_follows, frozen_follows}
+use Rattle.sf_state.proofs.Copies.{same_follows, same_in_turn, unborn_follows, alive_follows, same_waits, watching_follows, same_keeps, continuing_follows, same_gathers, gathering_follows, frozen_follows}
 use Rattle.sf_state.proofs.state.State.share_node.Goals as goal
 
 pub returns-in_ok-same-in-Unborn : goal.returns-in_ok-same-in-Unborn
 returns-in_ok-same-in-Unborn c = λ μ P L A.
     unborn_follows μ c.in-Unborn.process c.in_ok-same-in-Unborn.same (c.in_ok-same-in-Unborn.ensures μ) P L (rw c.in-Unborn.is at A)
+
+pub returns-in_ok-both-in-Primitives : goal.returns-in_ok-both-in-Primitives
+returns-in_ok-both-in-Primitives c = λ μ P L A.
+    same_in_turn μ c.in-Primitives.node c.in_ok-both-in-Primitives.both c.in_ok-both-in-Primitives.ensures.cases P L (rw c.in-Primitives.is at A)
 
 pub returns-in_ok-shared-in-Live : goal.returns-in_ok-shared-in-Live
 returns-in_ok-shared-in-Live c = λ μ P L A.

@@ -1,6 +1,5 @@
 use Rattle.sf_coincidence.proofs.Same.{alike_itself}
 use Rattle.sf_state.specs.Standing.{itself, unborn, is_closure}
-use Rattle.sf_state.specs.Machine.{machine}
 use Rattle.sf_state.proofs.state.Switch.begin.Goals as goal
 
 pub returns : goal.returns

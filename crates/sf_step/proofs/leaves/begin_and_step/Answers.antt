@@ -1,6 +1,6 @@
 use Rattle.std.proofs.Common.{◌∙◌}
 use Rattle.sf_step.proofs.First.{first_steps, first_fails}
-use Rattle.sf_step.proofs.leaves.first_primitive.Goals as goal
+use Rattle.sf_step.proofs.leaves.begin_and_step.Goals as goal
 use Rattle.sf_begin.specs.Contexts.{context_machine}
 
 pub returns-in-Ok : goal.returns-in-Ok

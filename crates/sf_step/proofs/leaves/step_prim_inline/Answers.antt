@@ -1,6 +1,6 @@
 use Rattle.std.proofs.Common.{◌∙◌}
 use Rattle.sf_step.proofs.Primitives.{prim_steps, prim_fails}
-use Rattle.sf_step.proofs.leaves.step_prim.Goals as goal
+use Rattle.sf_step.proofs.leaves.step_prim_inline.Goals as goal
 use Rattle.sf_begin.specs.Contexts.{context_machine}
 
 pub returns-in-Ok-clause-answers : goal.returns-in-Ok-clause-answers
