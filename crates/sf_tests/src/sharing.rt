@@ -12,6 +12,10 @@ use std::test::Fail;
 
 const DELAYS: &[u8] = b"network 1;\ntemplate main(): Int ~> Int = (iPre 7 >>> iPre 8);\n";
 
+/// The same, of parts that are no primitives.
+const PARTS: &[u8] =
+    b"network 1;\ntemplate main(): Int ~> Int = ((iPre 7 &&& identity) >>> (arr (x, _) => x >>> iPre 8));\n";
+
 /// A delay until the third sample, when another one takes over.
 const SWITCH: &[u8] =
     b"network 1;\ntemplate main(): Int ~> Int = switch((iPre 7 &&& after 2000 ()), _ => iPre 8);\n";
@@ -45,6 +49,7 @@ fn owners(state: &State) -> usize {
     match state {
         State::Unborn(_) => 0,
         State::Primitive(_) => 1,
+        State::Primitives(node) => Rc::strong_count(node),
         State::Live(_, node) => Rc::strong_count(node),
         State::Switch(_, node) => Rc::strong_count(node),
         State::Continuation(_, node) => Rc::strong_count(node),
@@ -212,20 +217,23 @@ fn tables_of_members_share_their_keys(rt: HostRuntime) -> Result<(), Fail> {
 fn a_renewed_state_goes_on_by_itself(rt: HostRuntime) -> Result<(), Fail> {
     let alloc = rt.alloc();
     let functions = Registry::new(alloc);
-    let plan = planned(alloc, DELAYS, &functions)?;
-    let mut running = State::unborn(plan.main());
-    let mut renewed = State::unborn(plan.main());
-    assert!(rt; renewed_goes_on(alloc, &mut renewed, &mut running, &plan, &functions)?);
+    for network in [DELAYS, PARTS] {
+        let plan = planned(alloc, network, &functions)?;
+        let mut running = State::unborn(plan.main());
+        let mut renewed = State::unborn(plan.main());
+        assert!(rt; renewed_goes_on(alloc, &mut renewed, &mut running, &plan, &functions)?);
+    }
     Ok(())
 }
 
 #[test]
 fn a_shared_state_and_a_copy_share(rt: HostRuntime) -> Result<(), Fail> {
     let alloc = rt.alloc();
-    // Two delays, as members too, give 8, 7, 5, the others 7, 5, 8. A step that is refused for want of memory leaves the shared state as it
+    // Two delays, among other parts and as members too, give 8, 7, 5, the others 7, 5, 8. A step that is refused for want of memory leaves the shared state as it
     // was. After a sample without an event a source that was held back has nodes of its own.
     for (network, second) in [
         (DELAYS, 7),
+        (PARTS, 7),
         (SWITCH, 5),
         (RECURRING, 5),
         (KEEPING, 5),
