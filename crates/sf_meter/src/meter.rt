@@ -145,6 +145,9 @@ impl Meter {
     }
 
     /// A part has no value, for this fault.
+    // A call that is seldom made: so the ways that lead to it stand behind those of a sample that goes well.
+    #[cold]
+    #[inline(never)]
     pub fn stop(&mut self, fault: Fault) -> Stop
         ensures fault { meter_fault self.new ≡ fault }
         ensures entered { entered_of self.new ≡ entered_of self.old }

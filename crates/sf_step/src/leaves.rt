@@ -73,9 +73,25 @@ pub(crate) fn step_primitives<R: Holds>(
     ensures { LiveSteps (context_machine R.answers context.now) (in_sequence node.old.value) (step (dt_in context.now) value.old)
         (left_or result (in_sequence node.new.value, value.new) (meter_fault meter.new)) meter.old meter.new inside }
 {
-    if let Some(both) = Rc::get_mut(node) {
-        return step_both(context, both, inside, value, meter);
+    match Rc::get_mut(node) {
+        Some(both) => step_both(context, both, inside, value, meter),
+        None => step_primitives_copy(context, node, inside, value, meter),
     }
+}
+
+// The same where other states share the node: a copy takes its place.
+#[cold]
+#[inline(never)]
+fn step_primitives_copy<R: Holds>(
+    context: &SampleContext<R>,
+    node: &mut Rc<Primitives>,
+    inside: u64,
+    value: &mut Value,
+    meter: &mut Meter,
+) -> Result<(), Stop>
+    ensures { LiveSteps (context_machine R.answers context.now) (in_sequence node.old.value) (step (dt_in context.now) value.old)
+        (left_or result (in_sequence node.new.value, value.new) (meter_fault meter.new)) meter.old meter.new inside }
+{
     let mut own = granted!(meter, node.clone_in(context.alloc));
     step_both(context, &mut own, inside, value, meter)?;
     let copy = granted!(meter, Rc::new(context.alloc, own));
@@ -158,7 +174,7 @@ fn begin_and_step<R: Holds>(
 }
 
 /// Puts two primitives in sequence after their first sample, in one node, in place of a state, and their value in place of the input.
-/// Their node has been counted. After an error the state is as it was, and the value may be any.
+/// Their node has been counted. After an error the state stands for nothing, and the value may be any.
 #[inline(never)]
 pub(crate) fn first_primitives<R: Holds>(
     around: &Around<R>,
