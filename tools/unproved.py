@@ -50,7 +50,7 @@ def answer(top, command, say):
     if command.takes_lines and os.fstat(0).st_size > MOST_LINES:
         say(too_long)
         return 1
-    say(f"this answer is not proved yet: rt try gives it from the sources, in about a minute; {prove}, which is then played at once")
+    say(f"this answer is not proved yet: rt try gives it from the sources, in a minute or two; {prove}, which is then played at once")
     lines = sys.stdin.buffer.read(MOST_LINES + 1) if command.takes_lines else b""
     if len(lines) > MOST_LINES:
         say(too_long)
