@@ -1,5 +1,5 @@
 -- What a part is before its first sample, and when a state is prepared for a sample.
-use Rattle.std.specs.Prelude.{◌≡◌, ◌≢◌, ℕ, Bool, true, false, List, [], ◌∷◌, length, Result, Ok, Err}
+use Rattle.std.specs.Prelude.{◌≡◌, ◌≢◌, ℕ, Bool, true, false, List, [], ◌∷◌, length, Some, Result, Ok, Err}
 use Rattle.std.specs.declared.rc.Rc.{Rc}
 use Rattle.std.specs.declared.alloc.Global.{Global}
 use Rattle.sf_value.specs.Values.{Data}
@@ -17,21 +17,23 @@ use Rattle.sf_term.specs.Trees.{Term}
 use Rattle.sf_mean.specs.Lives.{step, Life, Process, closure, Environment}
 use Rattle.sf_mean.specs.Meaning.{Network, faulted, entered_cost, argued, make, Gives}
 use Rattle.sf_law.specs.declared.node.PlanId.{PlanId}
+use Rattle.sf_law.specs.declared.node.ShortId.{ShortId}
 use Rattle.sf_law.specs.declared.node.PlanArgument.{PlanArgument}
 use Rattle.sf_law.specs.declared.node.PlanNode.{PlanNode}
 use Rattle.sf_law.specs.declared.node.PlanNode.TheVariants as nodes
 use Rattle.sf_law.specs.Headers.{ParameterHeader}
-use Rattle.sf_law.specs.Arena.{plan_tree, plan_expressions, plan_binding, plan_arguments}
+use Rattle.sf_law.specs.Arena.{plan_tree, plan_node_at, full_id, node_arrow, plan_expressions, plan_binding, plan_arguments}
+use Rattle.sf_code.specs.declared.open.OpenCode.{OpenCode}
 use Rattle.sf_prim.specs.declared.prim_state.PrimState.{PrimState}
 use Rattle.sf_state.specs.declared.state.State.{State}
-use Rattle.sf_state.specs.declared.state.State.TheVariants.{Unborn', Primitive as SPrimitive, Primitives as InTurn, Live' as Alive', Switch' as Watching', Continuation', Gathering', Frozen'}
+use Rattle.sf_state.specs.declared.state.State.TheVariants.{Unborn', Primitive as SPrimitive, Mapped as SMapped, Primitives as InTurn, Live' as Alive', Switch' as Watching', Continuation', Gathering', Frozen'}
 use Rattle.sf_state.specs.declared.state.Primitives.{Primitives}
 use Rattle.sf_state.specs.declared.state.Live.{Live}
 use Rattle.sf_state.specs.declared.state.Gathering.{Gathering}
 use Rattle.sf_state.specs.declared.env.Env.{Env}
 use Rattle.sf_state.specs.declared.state.Wrap.{Wrap}
 use Rattle.sf_state.specs.declared.env.Given.{Given}
-use Rattle.sf_state.specs.Standing.{in_sequence, IsNames, AreGiven, Recalls, Stands, Waits, WaitsContinuation, WaitsGathered, Ready, Wraps}
+use Rattle.sf_state.specs.Standing.{in_sequence, behind_arrow, IsNames, AreGiven, Recalls, Stands, Waits, WaitsContinuation, WaitsGathered, Ready, Wraps}
 use Rattle.sf_state.specs.Machine.{Machine, machine_network}
 use Rattle.sf_begin.specs.declared.opening.Opened.{Opened}
 use Rattle.sf_begin.specs.declared.opening.Opened.TheVariants as opened
@@ -52,6 +54,8 @@ OpensItself _ = Unit {0}
 -- of, and not one that it took over from; x is the input of the first step, past or to come.
 pub data Prepared (μ : Machine) : State → Process → (x : Data) → Life → Type 0 where
   primitive_prepared : {i : PrimState} {P : Process} {x : Data} {L : Life} → Recalls μ i P L → Prepared μ (SPrimitive i) P x L
+  mapped_prepared : {m : ShortId} {c : Rc OpenCode Global} {i : PrimState} {P : Process} {x : Data} {L : Life}
+      → node_arrow (plan_node_at μ.plan (full_id m)) ≡ Some c → Ready μ (behind_arrow c i) P x L → Prepared μ (SMapped m i) P x L
   primitives_prepared : {r : Rc Primitives Global} {P : Process} {x : Data} {L : Life} → Ready μ (in_sequence r.value) P x L → Prepared μ (InTurn r) P x L
   live_prepared : {at : _} {names : Env} {l : Live} {t : Term} {e : Environment} {x : Data} {L : Life}
       → IsNames μ names e → Ready μ l (closure t e) x L → Prepared μ (Alive' names at l) (closure t e) x L
@@ -67,6 +71,7 @@ pub data Prepared (μ : Machine) : State → Process → (x : Data) → Life →
 abbrev pub is_awake : State → Bool
 is_awake (Unborn' t names) = false
 is_awake (SPrimitive i) = true
+is_awake (SMapped m i) = true
 is_awake (InTurn r) = true
 is_awake (Alive' names at l) = true
 is_awake (Watching' names at w a q b) = true

@@ -18,7 +18,7 @@ use crate::context::{SampleContext, constant_in, fault_of};
 use sf_expr::NameId;
 use sf_func::Holds;
 use sf_law::{Plan, PlanArgument, PlanId, PlanParameter, PlanTemplate, TemplateId};
-use sf_state::{Env, Given, Handed, Process, State};
+use sf_state::{Env, Given, Handed, Payload, Process, State};
 use sf_term::Start;
 use sf_value::Fault;
 use std::alloc::{AllocError, Global};
@@ -189,8 +189,8 @@ fn bind<R: Holds>(
 {
     match given {
         Given::Value(value) => {
-            let shared = Rc::new(context.alloc, value)?;
-            bound.inside(context.alloc, context.plan, parameter.pattern(), shared)
+            let own = Payload::Own(value);
+            bound.inside(context.alloc, context.plan, parameter.pattern(), own)
         }
         Given::Process(handed) => bound.with_process(context.alloc, parameter.name(), handed),
         Given::Members(members) => bound.with_members(context.alloc, parameter.name(), members),

@@ -204,7 +204,7 @@ fn operated(
 
 /// The number that arithmetic makes of two codes, or the first fault: the number 0 of what is no number.
 #[cycle(run)]
-#[inline(always)]
+#[inline(never)]
 fn arithmetic<F: Holds>(
     alloc: Global,
     left: &Code,
@@ -568,9 +568,10 @@ fn filter<F: Holds>(
 ) -> Result<Value, EvalFault>
     ensures { Evaluates result (mapped_value mappings.Filter event.now (λ x. Running.run (code_of body.now) (x ∷ frames_of frames.now) (F.answers functions.now))) }
 {
-    match payload_in(event) {
+    let unit = Value::unit();
+    match payload_in(event, &unit) {
         Some(Some(payload)) => {
-            let inner = (&*frames).within(&**payload);
+            let inner = (&*frames).within(payload);
             kept(alloc, &*event, truth(alloc, body, &inner, &*functions))
         }
         Some(None) => Ok(Value::no_event()),
@@ -605,7 +606,8 @@ fn map<F: Holds>(
 ) -> Result<Value, EvalFault>
     ensures { Evaluates result (mapped_value mappings.Map event.now (λ x. Running.run (code_of body.now) (x ∷ frames_of frames.now) (F.answers functions.now))) }
 {
-    match payload_in(event) {
+    let unit = Value::unit();
+    match payload_in(event, &unit) {
         Some(Some(payload)) => occurring(alloc, answer(alloc, body, payload, frames, functions)),
         Some(None) => Ok(Value::no_event()),
         None => Ok(Value::int(0)),
@@ -634,8 +636,9 @@ fn matched<F: Holds>(
 ) -> Result<Value, EvalFault>
     ensures { Evaluates result (Running.run (trees.folded (code_of first.now) foldings.Match (code_of second.now) (code_of body.now)) (frames_of frames.now) (F.answers functions.now)) }
 {
+    let unit = Value::unit();
     let first = worth_of(alloc, first, frames, functions)?;
-    match payload_in(&first) {
+    match payload_in(&first, &unit) {
         Some(Some(payload)) => answer(alloc, body, payload, frames, functions),
         Some(None) => worth_of(alloc, second, frames, functions),
         None => Ok(Value::int(0)),
@@ -672,8 +675,9 @@ fn merge<F: Holds>(
 ) -> Result<Value, EvalFault>
     ensures { Evaluates result (folded_value foldings.Merge first.now (Outcomes.answer second.now) (λ x. Running.run (code_of body.now) (x ∷ frames_of frames.now) (F.answers functions.now))) }
 {
-    match payload_in(first) {
-        Some(Some(left)) => match payload_in(second) {
+    let unit = Value::unit();
+    match payload_in(first, &unit) {
+        Some(Some(left)) => match payload_in(second, &unit) {
             Some(Some(right)) => {
                 let both = pair_of(alloc, left, right)?;
                 let made = answer(alloc, body, &both, frames, functions);
@@ -682,7 +686,7 @@ fn merge<F: Holds>(
             Some(None) => copied(alloc, first),
             None => Ok(Value::int(0)),
         },
-        Some(None) => match payload_in(second) {
+        Some(None) => match payload_in(second, &unit) {
             Some(_) => copied(alloc, second),
             None => Ok(Value::int(0)),
         },

@@ -1,5 +1,5 @@
 -- Plans, seen by their trees.
-use Rattle.std.specs.Prelude.{◌≡◌, Bool, ℕ, ◌+◌, ◌<◌, ◌≤◌, List, length, map, nat_le, IsTrue, unwrap_or, slice_index_or, All, Vec, String, string_bytes}
+use Rattle.std.specs.Prelude.{◌≡◌, Bool, ℕ, ◌+◌, ◌<◌, ◌≤◌, List, length, map, nat_le, Option, Some, None, IsTrue, unwrap_or, slice_index_or, All, Vec, String, string_bytes}
 use Rattle.sf_value.specs.Values.{Name}
 use Rattle.std.specs.declared.rc.Rc.{Rc}
 use Rattle.std.specs.declared.alloc.Global.{Global}
@@ -22,6 +22,7 @@ use Rattle.sf_term.specs.Trees.{Term, primitive, probe, reference, started, call
 use Rattle.sf_term.specs.Parameters.{NameKind}
 use Rattle.sf_mean.specs.Meaning.{Network}
 use Rattle.sf_law.specs.declared.node.PlanId.{PlanId}
+use Rattle.sf_law.specs.declared.node.ShortId.{ShortId}
 use Rattle.sf_law.specs.declared.node.TemplateId.{TemplateId}
 use Rattle.sf_law.specs.declared.node.PlanArgument.{PlanArgument}
 use Rattle.sf_law.specs.declared.node.PlanCollection.{PlanCollection}
@@ -31,6 +32,7 @@ use Rattle.sf_law.specs.declared.node.PlanReleasing.{PlanReleasing}
 use Rattle.sf_law.specs.declared.node.PlanEditing.{PlanEditing}
 use Rattle.sf_law.specs.declared.node.PlanNode.{PlanNode}
 use Rattle.sf_law.specs.declared.node.PlanPrimitive.{PlanPrimitive}
+use Rattle.sf_law.specs.declared.node.PlanPrimitive.TheVariants as primitives
 use Rattle.sf_law.specs.declared.node.PlanNode.TheVariants as nodes
 use Rattle.sf_law.specs.declared.plan.Plan.{Plan}
 use Rattle.sf_law.specs.declared.mentioned.Mentioned.{Mentioned}
@@ -71,6 +73,20 @@ node_count p = length p.nodes.items
 -- the node at an id, with the ids of its parts; the identity where the plan holds none
 unfoldable pub plan_node_at : Plan → PlanId → PlanNode
 plan_node_at p id = node_among p.nodes.items id.0
+
+-- the term of a short id
+abbrev pub full_id : ShortId → PlanId
+full_id m = record { 0 = m.0 }
+
+-- the code of the function, where a primitive is `arr`
+abbrev pub arrow_code : PlanPrimitive → Option (Rc OpenCode Global)
+arrow_code (primitives.Arrow f c) = Some c
+arrow_code _ = None
+
+-- the same of a node
+abbrev pub node_arrow : PlanNode → Option (Rc OpenCode Global)
+node_arrow (nodes.Primitive q) = arrow_code q
+node_arrow _ = None
 
 -- the term at an id; the identity where the plan holds none
 unfoldable pub plan_tree : Plan → PlanId → Term

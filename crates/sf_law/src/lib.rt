@@ -17,7 +17,7 @@ pub use members::TermPlans;
 pub use mentioned::{Binder, Mentioned};
 pub use node::{
     PlanArgument, PlanChain, PlanCollection, PlanContinuation, PlanEditing, PlanId, PlanNode,
-    PlanPrimitive, PlanReleasing, PlanSwitch, TemplateId,
+    PlanPrimitive, PlanReleasing, PlanSwitch, ShortId, TemplateId,
 };
 pub use plain::{empty_plan, plain_plan, plan_node};
 pub use plan::Plan;

@@ -1,4 +1,6 @@
 //! Nodes of an arena of plans.
+ghost use Rattle.std.specs.Prelude.{◌≡◌, IfSome, option_map};
+ghost use Rattle.sf_law.specs.Arena.{full_id, arrow_code, node_arrow};
 
 use sf_code::OpenCode;
 use sf_expr::{ConstantId, ExprId, FunctionId, NameId, PatternId};
@@ -12,6 +14,33 @@ use std::rc::Rc;
 /// A term in its plan.
 #[derive(Clone, Copy, Debug, PartialEq, Eq)]
 pub struct PlanId(pub(crate) usize);
+
+/// A term in its plan, in four bytes.
+#[derive(Clone, Copy, Debug, PartialEq, Eq)]
+pub struct ShortId(u32);
+
+impl PlanId {
+    /// The same term in four bytes; none where its number takes more.
+    #[inline(always)]
+    pub fn short(self) -> Option<ShortId>
+        ensures { IfSome result (λ short. full_id short ≡ self) }
+    {
+        match u32::try_from(self.0) {
+            Ok(number) => Some(ShortId(number)),
+            Err(_) => None,
+        }
+    }
+}
+
+impl ShortId {
+    /// The term.
+    #[inline(always)]
+    pub fn id(self) -> PlanId
+        ensures { result ≡ full_id self }
+    {
+        PlanId(self.0 as usize)
+    }
+}
 
 /// A template in its plan.
 #[derive(Clone, Copy, Debug, PartialEq, Eq)]
@@ -132,6 +161,19 @@ pub enum PlanPrimitive {
     Accumulated(Accumulation, ExprId, OpenCode, FunctionId, Rc<OpenCode>),
 }
 
+impl PlanPrimitive {
+    /// The code of the function, where this is `arr`.
+    #[inline(always)]
+    pub fn arrow(&self) -> Option<&Rc<OpenCode>>
+        ensures { option_map (λ code. code.now) result ≡ arrow_code self.now }
+    {
+        match self {
+            PlanPrimitive::Arrow(_, code) => Some(code),
+            _ => None,
+        }
+    }
+}
+
 /// A term of a plan, whose parts are ids of terms before it.
 #[derive(Drop)]
 pub enum PlanNode {
@@ -163,6 +205,19 @@ pub enum PlanNode {
     Editing(PlanEditing),
     /// Two or more stages, each before the others.
     Pipeline(Vec<PlanId>),
+}
+
+impl PlanNode {
+    /// The code of the function, where this is `arr`.
+    #[inline(always)]
+    pub fn arrow(&self) -> Option<&Rc<OpenCode>>
+        ensures { option_map (λ code. code.now) result ≡ node_arrow self.now }
+    {
+        match self {
+            PlanNode::Primitive(primitive) => primitive.arrow(),
+            _ => None,
+        }
+    }
 }
 
 /// A term that waits for its event, and the body that takes over inside a pattern.

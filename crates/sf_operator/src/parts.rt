@@ -1,6 +1,7 @@
 //! The parts of values of each type.
 ghost use Rattle.std.specs.Prelude.{◌≡◌, IfOk, IfSome, map, length};
 ghost use Rattle.std.specs.Option.{option_map};
+ghost use Rattle.sf_value.specs.Values;
 ghost use Rattle.sf_value.specs.View.{key_of, keyed_rows};
 ghost use Rattle.sf_operator.specs.Operations.{truth_held, number_held, halves_held, payload_held, rows_held, key_held};
 ghost use Rattle.sf_operator.specs.Operations;
@@ -9,7 +10,6 @@ ghost use Rattle.sf_operator.specs.FunctionForms;
 use sf_value::{Form, Key, Rows, Value};
 use std::alloc::AllocError;
 use std::cmp::Ordering;
-use std::rc::Rc;
 
 /// The truth that a value is, if it is one.
 pub fn is_true(value: &Value) -> Option<bool>
@@ -41,13 +41,16 @@ pub(crate) fn halves_in(value: &Value) -> Option<(&Value, &Value)>
     }
 }
 
-/// The payload of an event, if it occurs; none of another value.
-pub fn payload_in(value: &Value) -> Option<Option<&Rc<Value>>>
-    ensures { option_map (λ e. option_map (λ x. x.now.value) e) result ≡ payload_held value.now }
+/// The payload of an event, if it occurs; none of another value. An event of the unit has no node: its payload is the unit that
+/// is lent.
+pub fn payload_in<'a>(value: &'a Value, unit: &'a Value) -> Option<Option<&'a Value>>
+    requires { unit.now ≡ Values.unit }
+    ensures { option_map (λ e. option_map (λ x. x.now) e) result ≡ payload_held value.now }
 {
     match value.form() {
         Form::NoEvent => Some(None),
-        Form::Event(payload) => Some(Some(payload)),
+        Form::UnitEvent => Some(Some(unit)),
+        Form::Event(payload) => Some(Some(&**payload)),
         _ => None,
     }
 }

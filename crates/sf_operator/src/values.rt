@@ -6,6 +6,7 @@ ghost use Rattle.sf_operator.specs.Outcomes.{answer, tested};
 ghost use Rattle.sf_operator.specs.Outcomes;
 ghost use Rattle.sf_operator.specs.Operations.{unary_value, decided, operated, row_count, same_data, of_equality, of_comparison};
 ghost use Rattle.sf_operator.specs.Answers.{Evaluates};
+ghost use Rattle.sf_operator.specs.declared.operator.Unary.TheVariants as Unaries;
 
 use crate::arithmetic::{calculate, narrow};
 use crate::fault::EvalFault;
@@ -56,14 +57,22 @@ pub fn operate_on(alloc: Global, operator: Unary, value: &Value) -> Result<Value
             Some((_, second)) => copied(alloc, second),
             None => Ok(nonsense()),
         },
-        Unary::IsEvent => match payload_in(value) {
-            Some(payload) => Ok(Value::bool(payload.is_some())),
-            None => Ok(nonsense()),
-        },
+        Unary::IsEvent => is_event(value),
         Unary::Size => match rows_in(value) {
             Some(rows) => size(rows),
             None => Ok(nonsense()),
         },
+    }
+}
+
+/// Whether an event occurs.
+fn is_event(value: &Value) -> Result<Value, EvalFault>
+    ensures { Evaluates result (unary_value Unaries.IsEvent value.now) }
+{
+    let unit = Value::unit();
+    match payload_in(value, &unit) {
+        Some(payload) => Ok(Value::bool(payload.is_some())),
+        None => Ok(nonsense()),
     }
 }
 
@@ -157,7 +166,8 @@ fn compare(operator: Comparison, order: Ordering) -> bool
 fn tag(alloc: Global, event: &Value, value: &Value) -> Result<Value, EvalFault>
     ensures { Evaluates result (operated Operator.Tag event.now value.now) }
 {
-    match payload_in(event) {
+    let unit = Value::unit();
+    match payload_in(event, &unit) {
         Some(Some(_)) => event_of(alloc, value),
         Some(None) => Ok(Value::no_event()),
         None => Ok(nonsense()),
@@ -168,7 +178,8 @@ fn tag(alloc: Global, event: &Value, value: &Value) -> Result<Value, EvalFault>
 fn attach(alloc: Global, event: &Value, value: &Value) -> Result<Value, EvalFault>
     ensures { Evaluates result (operated Operator.Attach event.now value.now) }
 {
-    match payload_in(event) {
+    let unit = Value::unit();
+    match payload_in(event, &unit) {
         Some(Some(payload)) => {
             let both = Value::pair(alloc, payload.clone_in(alloc)?, value.clone_in(alloc)?)?;
             Ok(Value::event(alloc, both)?)
@@ -182,7 +193,8 @@ fn attach(alloc: Global, event: &Value, value: &Value) -> Result<Value, EvalFaul
 fn from_event(alloc: Global, event: &Value, default: &Value) -> Result<Value, EvalFault>
     ensures { Evaluates result (operated Operator.FromEvent event.now default.now) }
 {
-    match payload_in(event) {
+    let unit = Value::unit();
+    match payload_in(event, &unit) {
         Some(Some(payload)) => copied(alloc, payload),
         Some(None) => copied(alloc, default),
         None => Ok(nonsense()),
@@ -193,12 +205,13 @@ fn from_event(alloc: Global, event: &Value, default: &Value) -> Result<Value, Ev
 fn merge(alloc: Global, operator: Merge, left: &Value, right: &Value) -> Result<Value, EvalFault>
     ensures { Evaluates result (operated (Operator.Merge operator) left.now right.now) }
 {
-    match payload_in(left) {
-        Some(None) => match payload_in(right) {
+    let unit = Value::unit();
+    match payload_in(left, &unit) {
+        Some(None) => match payload_in(right, &unit) {
             Some(_) => copied(alloc, right),
             None => Ok(nonsense()),
         },
-        Some(Some(_)) => match payload_in(right) {
+        Some(Some(_)) => match payload_in(right, &unit) {
             Some(None) => copied(alloc, left),
             Some(Some(_)) => match operator {
                 Merge::Left => copied(alloc, left),

@@ -51,8 +51,9 @@ impl Accumulator {
 fn coming(alloc: Global, form: Accumulation, value: &Value) -> Result<Option<Value>, AllocError>
     ensures { IfOk result (λ o. o ≡ Remembering.coming form value.now) }
 {
+    let unit = Value::unit();
     match form {
-        Accumulation::AccumBy | Accumulation::AccumHoldBy => match occurs(value) {
+        Accumulation::AccumBy | Accumulation::AccumHoldBy => match occurs(value, &unit) {
             Some(payload) => Ok(Some(payload.clone_in(alloc)?)),
             None => Ok(None),
         },

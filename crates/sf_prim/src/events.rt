@@ -2,6 +2,7 @@
 ghost use Rattle.std.specs.Prelude.{◌≡◌, ◌&&◌, ◌+ℤ◌, pos, true, cond, OnOk};
 ghost use Rattle.std.specs.Option.{option_map};
 ghost use Rattle.sf_value.specs.Values.{event, no_event};
+ghost use Rattle.sf_value.specs.Values;
 ghost use Rattle.sf_operator.specs.Outcomes.{answer, tested};
 ghost use Rattle.sf_operator.specs.Operations.{payload_or};
 ghost use Rattle.sf_operator.specs.Answers.{Computes, Evaluates};
@@ -14,7 +15,6 @@ use sf_term::Selection;
 use sf_value::{Value, ValueFault};
 use std::alloc::Global;
 use std::mem;
-use std::rc::Rc;
 
 /// Whether a value is the truth false.
 pub(crate) fn is_low(value: &Value) -> bool
@@ -77,11 +77,12 @@ pub(crate) fn pass_later(begun: &mut bool, value: &mut Value)
     *begun = true;
 }
 
-/// The payload of an event that occurs; none of another value.
-pub(crate) fn occurs(value: &Value) -> Option<&Rc<Value>>
-    ensures { option_map (λ x. x.now.value) result ≡ occurring value.now }
+/// The payload of an event that occurs; none of another value. That of an event of the unit is the unit that is lent.
+pub(crate) fn occurs<'a>(value: &'a Value, unit: &'a Value) -> Option<&'a Value>
+    requires { unit.now ≡ Values.unit }
+    ensures { option_map (λ x. x.now) result ≡ occurring value.now }
 {
-    match payload_in(value) {
+    match payload_in(value, unit) {
         Some(payload) => payload,
         None => None,
     }
@@ -104,7 +105,8 @@ pub(crate) fn count_event(
     ensures told { Evaluates (gift result value.new) (counted_after (occurring value.old) count.old) }
     ensures kept { OnOk result (count.new ≡ count_after (occurring value.old) count.old) }
 {
-    if occurs(value).is_some() {
+    let unit = Value::unit();
+    if occurs(value, &unit).is_some() {
         let next = one_more(*count)?;
         *value = Value::event(alloc, Value::int(next))?;
         *count = next;
@@ -120,8 +122,9 @@ pub(crate) fn select(form: Selection, left: &mut u64, value: &mut Value)
     ensures told { value.new ≡ passed_on form left.old value.old }
     ensures kept { left.new ≡ left_after (occurring value.old) left.old }
 {
+    let unit = Value::unit();
     let over = *left == 0;
-    if !over && occurs(value).is_some() {
+    if !over && occurs(value, &unit).is_some() {
         *left -= 1;
     }
     let passes = match form {
@@ -149,7 +152,8 @@ pub(crate) fn hold(alloc: Global, last: &mut Value, value: &mut Value) -> Result
     ensures told { Evaluates (gift result value.new) (answer (payload_or (occurring value.old) last.old)) }
     ensures kept { OnOk result (last.new ≡ payload_or (occurring value.old) last.old) }
 {
-    if let Some(payload) = occurs(value) {
+    let unit = Value::unit();
+    if let Some(payload) = occurs(value, &unit) {
         *last = payload.clone_in(alloc)?;
     }
     *value = last.clone_in(alloc)?;
@@ -166,7 +170,8 @@ pub(crate) fn hold_before(
     ensures told { Evaluates (gift result value.new) (answer last.old) }
     ensures kept { OnOk result (last.new ≡ payload_or (occurring value.old) last.old) }
 {
-    let next = match occurs(value) {
+    let unit = Value::unit();
+    let next = match occurs(value, &unit) {
         Some(payload) => payload.clone_in(alloc)?,
         None => last.clone_in(alloc)?,
     };

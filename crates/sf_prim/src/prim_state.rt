@@ -105,7 +105,7 @@ impl Drop for PrimState {
 }
 
 impl PrimState {
-    ghost use Rattle.std.specs.Prelude.{◌∷◌};
+    ghost use Rattle.std.specs.Prelude.{◌∷◌, ℕ};
     ghost use Rattle.std.specs.declared.rc.Rc.{Rc};
     ghost use Rattle.std.specs.declared.alloc.Global.{Global};
     ghost use Rattle.sf_code.specs.declared.open.OpenCode.{OpenCode};
@@ -120,6 +120,32 @@ impl PrimState {
     /// here; the error is the first fault of that, or `Memory`.
     #[inline(always)]
     pub fn begin<R: Holds, N: Names>(
+        &mut self,
+        alloc: Global,
+        primitive: &PlanPrimitive,
+        functions: &R,
+        names: &N,
+    ) -> Result<(), EvalFault>
+        ensures { let x = N.expressions names.now in IsCodedPrimitive x primitive.now →
+            Begins (scope_with (N.values names.now) (R.answers functions.now)) (primitive_over x primitive.now) (gift result self.new) }
+    {
+        match primitive {
+            // the commonest begin here, and the other forms by a call
+            PlanPrimitive::Bare(form) => {
+                self.begin_bare(*form);
+                Ok(())
+            }
+            PlanPrimitive::WithValue(form, _, code) => {
+                self.begin_with_value(alloc, *form, code, functions, names)
+            }
+            PlanPrimitive::Arrow(_, code) => Ok(self.begin_arrow(alloc, code, names)?),
+            _ => self.begin_form(alloc, primitive, functions, names),
+        }
+    }
+
+    // The same of any form.
+    #[inline(never)]
+    fn begin_form<R: Holds, N: Names>(
         &mut self,
         alloc: Global,
         primitive: &PlanPrimitive,
@@ -382,6 +408,21 @@ impl PrimState {
             PrimState::Hold(last) => hold(alloc, last, value),
             PrimState::DelayedHold(last) => hold_before(alloc, last, value),
         }
+    }
+
+    /// Puts the value at the next sample of `arr` of a function, of which the state is this code, in place of the input. The error is
+    /// the first fault of the function, or `Memory`; after it the value may be any.
+    #[inline(always)]
+    pub fn step_arrow<R: Holds>(
+        alloc: Global,
+        code: &Rc<OpenCode>,
+        functions: &R,
+        value: &mut Value,
+    ) -> Result<(), EvalFault>
+        ensures { (dt : ℕ) (q : Primitive) (scope : Scope) (L : Life) → scope_functions scope ≡ R.answers functions.now →
+            Remembers (PrimState.Arrow code.now) q scope L → GoesOn q scope (step dt value.old) L (PrimState.Arrow code.now) (gift result value.new) }
+    {
+        replace(alloc, code, functions, value)
     }
 
     /// A copy, which keeps the same of a life. It shares the code of a function; the error is a want of memory, or too

@@ -145,6 +145,7 @@ fn is_text(value: &Value) -> bool
         | Form::Int(_)
         | Form::Pair(_)
         | Form::NoEvent
+        | Form::UnitEvent
         | Form::Event(_)
         | Form::Table(_) => false,
     }

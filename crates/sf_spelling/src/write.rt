@@ -36,6 +36,7 @@ fn append(value: &Value, out: &mut Vec<u8>) -> Result<(), AllocError>
         Form::Text(s) => append_text(s.as_str(), out),
         Form::Pair(halves) => append_pair(&halves.first, &halves.second, out),
         Form::NoEvent => out.extend_from_slice(b"none"),
+        Form::UnitEvent => out.extend_from_slice(b"event ()"),
         Form::Event(payload) => {
             out.extend_from_slice(b"event ")?;
             append(payload, out)

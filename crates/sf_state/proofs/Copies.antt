@@ -7,6 +7,7 @@ use Rattle.std.specs.declared.alloc.Global.{Global}
 use Rattle.std.specs.declared.rc.Rc.{Rc}
 use Rattle.sf_term.specs.declared.form.Join.{Join}
 use Rattle.sf_term.specs.declared.form.Join.TheVariants.{InSequence}
+use Rattle.sf_law.specs.declared.node.ShortId.{ShortId}
 use Rattle.sf_law.specs.declared.node.PlanCollection.{PlanCollection}
 use Rattle.sf_law.specs.Entries.{IsCodedCollection}
 use Rattle.sf_law.specs.Arena.{plan_collection, plan_expressions}
@@ -19,9 +20,10 @@ use Rattle.sf_value.specs.Values.{KeyData, Name, Data}
 use Rattle.sf_mean.specs.Lives.{Step, Life, Process, closure, resumed, Environment, after, frozen, Members, no_members, member, each_frozen}
 use Rattle.sf_mean.specs.Meaning.{Network, Made, members_made, Tables, edit_of, which_run, Outputs, Watched, Takeover, fired, stands_after, Since, had_fired, watched}
 use Rattle.sf_prim.specs.declared.prim_state.PrimState.{PrimState}
+use Rattle.sf_prim.specs.declared.prim_state.PrimState.TheVariants.{Arrow}
 use Rattle.sf_prim.specs.Remembering.{Remembers}
 use Rattle.sf_state.specs.declared.state.State.{State}
-use Rattle.sf_state.specs.declared.state.State.TheVariants.{Unborn, Primitive as SPrimitive, Primitives as InTurn, Live' as Alive', Switch' as Watching', Continuation', Gathering', Frozen'}
+use Rattle.sf_state.specs.declared.state.State.TheVariants.{Unborn, Primitive as SPrimitive, Mapped as SMapped, Primitives as InTurn, Live' as Alive', Switch' as Watching', Continuation', Gathering', Frozen'}
 use Rattle.sf_state.specs.declared.state.Primitives.{Primitives}
 use Rattle.sf_state.specs.declared.state.Live.{Live}
 use Rattle.sf_state.specs.declared.state.Live.{items_hidden-the_row-State-0 as states_are}
@@ -37,10 +39,10 @@ use Rattle.sf_state.specs.declared.state.Releasing.{Releasing}
 use Rattle.sf_state.specs.declared.state.Editing.{Editing}
 use Rattle.sf_state.specs.declared.state.Frozen.{Frozen}
 use Rattle.sf_state.specs.declared.state.FrozenNode.{FrozenNode}
-use Rattle.sf_state.specs.declared.state.FrozenNode.TheVariants.{Primitive as KPrimitive, Primitives as KPrimitives, Live' as KLive', Switch' as KSwitch', Continuation' as KContinuation', Gathering' as KGathering'}
+use Rattle.sf_state.specs.declared.state.FrozenNode.TheVariants.{Primitive as KPrimitive, Mapped as KMapped, Primitives as KPrimitives, Live' as KLive', Switch' as KSwitch', Continuation' as KContinuation', Gathering' as KGathering'}
 use Rattle.sf_state.specs.declared.env.Env.{Env}
 use Rattle.sf_state.specs.Held.{Holding, held_as, gathered_holding}
-use Rattle.sf_state.specs.Standing.{Wraps, in_sequence, frozen_state, Turned, fired_to, continued_to, released_to, ran, went_on, was_alike, Stands, itself, took_over, StandsItself, unborn, recalling, recalls, in_turn, alive, watching, continuing_on, gathering_on, was_frozen, Waits, waits_so, recurs_so, WaitsContinuation, continues_so, WaitsGathered, releases_so, edits_so, Settles, settles, Ready, ready, Lives, lives_probe, lives_join, lives_pipeline, lives_wrap, lives_gathered, keys_in, Gathers, gathers, EachStands, none_stands, one_stands, StandsAmong, as_it_stands, as_it_stood, StagesStand, last_stands, stage_stands, IsProcess, is_closure, IsNames, AllFollow, none_follow, more_follow}
+use Rattle.sf_state.specs.Standing.{Wraps, in_sequence, frozen_state, Turned, fired_to, continued_to, released_to, ran, went_on, was_alike, Stands, itself, took_over, StandsItself, unborn, recalling, recalls, mapped, in_turn, alive, watching, continuing_on, gathering_on, was_frozen, Waits, waits_so, recurs_so, WaitsContinuation, continues_so, WaitsGathered, releases_so, edits_so, Settles, settles, Ready, ready, Lives, lives_probe, lives_join, lives_pipeline, lives_wrap, lives_gathered, keys_in, Gathers, gathers, EachStands, none_stands, one_stands, StandsAmong, as_it_stands, as_it_stood, StagesStand, last_stands, stage_stands, IsProcess, is_closure, IsNames, AllFollow, none_follow, more_follow}
 use Rattle.sf_state.specs.Machine.{Machine, machine_network}
 
 -- whether a life has a step
@@ -213,6 +215,12 @@ module _ (μ : Machine) where
   pub both_follow : (i i' j j' : PrimState) → PrimFollows i i' → PrimFollows j j' → NodeFollows (in_sequence (record { first = i; second = j })) (in_sequence (record { first = i'; second = j' }))
   both_follow i i' j j' f g = join_follows InSequence (SPrimitive i) (SPrimitive i') (SPrimitive j) (SPrimitive j') (primitive_follows i i' f) (primitive_follows j j' g)
 
+  pub mapped_follows : (m : ShortId) (i i' : PrimState) → PrimFollows i i' → Follows (SMapped m i) (SMapped m i')
+  mapped_follows m i i' f = itself_follows (SMapped m i) (SMapped m i') step
+    where
+      step : (P : Process) (L : Life) → StandsItself μ (SMapped m i) P L → StandsItself μ (SMapped m i') P L
+      step P L (mapped {c = c} h S) = mapped h (settled_follows (both_follow (Arrow c) (Arrow c) i i' (λ q scope L R. R) f) S)
+
   pub in_turn_follows : (r r' : Rc Primitives Global) → NodeFollows (in_sequence r.value) (in_sequence r'.value) → Follows (InTurn r) (InTurn r')
   in_turn_follows r r' f = itself_follows (InTurn r) (InTurn r') step
     where
@@ -357,6 +365,12 @@ module _ (μ : Machine) where
       step : (P : Process) (L : Life) → StandsItself μ (SPrimitive i) P L → has_step L ≡ true
       step P L (recalling R) = refl
 
+  pub mapped_lived : (m : ShortId) (i : PrimState) → HasLived (SMapped m i)
+  mapped_lived m i = itself_lived (SMapped m i) step
+    where
+      step : (P : Process) (L : Life) → StandsItself μ (SMapped m i) P L → has_step L ≡ true
+      step P L (mapped h (settles R)) = refl
+
   pub in_turn_lived : (r : Rc Primitives Global) → HasLived (InTurn r)
   in_turn_lived r = itself_lived (InTurn r) step
     where
@@ -398,6 +412,7 @@ module _ (μ : Machine) where
   -- what was kept, with the same names around it
   pub kept_around : (names around : Env) (k : FrozenNode) → NamesFollow names around → Follows (frozen_state names k) (frozen_state around k)
   kept_around names around (KPrimitive i) N = λ P L A. A
+  kept_around names around (KMapped m i) N = λ P L A. A
   kept_around names around (KPrimitives r) N = λ P L A. A
   kept_around names around (KLive' at l) N = alive_follows names around l l N (λ P x L R. R)
   kept_around names around (KSwitch' at w a q b) N = let s : Switch = record { form = w; running = a; pattern = q; body = b } in watching_follows names around s s N (λ P L S. S)

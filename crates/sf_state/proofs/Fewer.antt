@@ -58,7 +58,7 @@ module _ (μ : Machine) where
   term_closed a C (has_mentioned N A) = is_closure (alike_back (of_closures (λ x h. A x (C x h)))) N
 
   -- what follows inside a pattern
-  pub inside_pattern : {at : _} (b : Binding) (C : Environment → Type 0) → ((e : Environment) → IsNames μ b.around e → C (bind (pattern_of (stored_pattern (plan_expressions μ.plan) b.pattern)) b.value.value e))
+  pub inside_pattern : {at : _} (b : Binding) (C : Environment → Type 0) → ((e : Environment) → IsNames μ b.around e → C (bind (pattern_of (stored_pattern (plan_expressions μ.plan) b.pattern)) b.value e))
       → (e : Environment) → IsNames μ (Bound' at b.pattern b.value b.around) e → C e
   inside_pattern b C h e (is_bound {e = around} N) = h around N
 
@@ -69,8 +69,8 @@ module _ (μ : Machine) where
 
   -- a pattern over fewer names
   pub over_fewer : {at : _} {m l : Mentioned} {e : Environment} (b : Binding) → ((x : Name) → IsTrue (is_mentioned (plan_expressions μ.plan) m x) → BindsOthers (pattern_of (stored_pattern (plan_expressions μ.plan) b.pattern)) x → IsTrue (is_mentioned (plan_expressions μ.plan) l x))
-      → HasMentioned μ l b.around e → HasMentioned μ m (Bound' at b.pattern b.value b.around) (bind (pattern_of (stored_pattern (plan_expressions μ.plan) b.pattern)) b.value.value e)
-  over_fewer b h (has_mentioned N A) = has_mentioned (is_bound N) (λ x k. at_bound (pattern_of (stored_pattern (plan_expressions μ.plan) b.pattern)) b.value.value (λ free. A x (h x k free)))
+      → HasMentioned μ l b.around e → HasMentioned μ m (Bound' at b.pattern b.value b.around) (bind (pattern_of (stored_pattern (plan_expressions μ.plan) b.pattern)) b.value e)
+  over_fewer b h (has_mentioned N A) = has_mentioned (is_bound N) (λ x k. at_bound (pattern_of (stored_pattern (plan_expressions μ.plan) b.pattern)) b.value (λ free. A x (h x k free)))
 
   -- a process over fewer names
   pub process_over_fewer : {at : _} {m l : Mentioned} {e : Environment} {P : Process} (r : Running) → ((x : Name) → IsTrue (is_mentioned (plan_expressions μ.plan) m x) → BindsOthers (named (name_at (plan_expressions μ.plan) r.name)) x → IsTrue (is_mentioned (plan_expressions μ.plan) l x))
@@ -88,13 +88,13 @@ module _ (μ : Machine) where
       has_mentioned (collected_is μ r G N) (λ x w. at_collected k (members_themselves ms) (λ free. A x (h x w (others (named k) x free))))
 
   -- a binding that was made over fewer names
-  pub over_made : {at : _} {m l : Mentioned} {e : Environment} (b c : Binding) → c ≡ b → (d : Data) → b.value.value ≡ d
+  pub over_made : {at : _} {m l : Mentioned} {e : Environment} (b c : Binding) → c ≡ b → (d : Data) → b.value ≡ d
       → ((x : Name) → IsTrue (is_mentioned (plan_expressions μ.plan) m x) → BindsOthers (pattern_of (stored_pattern (plan_expressions μ.plan) b.pattern)) x → IsTrue (is_mentioned (plan_expressions μ.plan) l x))
       → HasMentioned μ l b.around e → HasMentioned μ m (Bound' at c.pattern c.value c.around) (bind (pattern_of (stored_pattern (plan_expressions μ.plan) b.pattern)) d e)
   over_made {at} {m} {e = e} b c same d value h H =
       let q = pattern_of (stored_pattern (plan_expressions μ.plan) b.pattern) in
       subst (λ (v : Data). HasMentioned μ m (Bound' at c.pattern c.value c.around) (bind q v e)) value
-      (subst (λ (c : Binding). HasMentioned μ m (Bound' at c.pattern c.value c.around) (bind q b.value.value e)) (sym same) (over_fewer b h H))
+      (subst (λ (c : Binding). HasMentioned μ m (Bound' at c.pattern c.value c.around) (bind q b.value e)) (sym same) (over_fewer b h H))
 
   -- the same of a process under its name
   pub process_made : {at : _} {m l : Mentioned} {e : Environment} {P : Process} (r c : Running) → c ≡ r

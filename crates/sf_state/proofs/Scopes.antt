@@ -5,7 +5,6 @@ use Rattle.std.specs.List.{slice_get}
 use Rattle.std.proofs.lemmas.Slice.Eq.{bytes_eq-Decides}
 use Rattle.std.specs.declared.alloc.Global.{Global}
 use Rattle.std.specs.declared.rc.Rc.{Rc}
-use Rattle.sf_value.specs.declared.value.Value.{Value}
 use Rattle.sf_value.specs.Values.{Name, Data, first_of, second_of}
 use Rattle.sf_func.specs.Registries.{AnswersByName}
 use Rattle.sf_expr.specs.Expressions.{Pattern, unnamed, named, both}
@@ -78,9 +77,9 @@ pub scope_is : (μ : Machine) (names : Env) (e : Environment) → IsNames μ nam
 scope_is μ names e is_empty = refl
 scope_is μ names e (is_bound {q = i} {v = v} {names = outer} {e = around} N) =
     let q = pattern_of (stored_pattern (plan_expressions μ.plan) i) in
-    values_bound μ.answers q v.value (values_around μ.plan outer)
-    ∙ ap (bound_in q v.value) (scope_is μ outer around N)
-    ∙ sym (environment_bound μ.answers q v.value around)
+    values_bound μ.answers q v (values_around μ.plan outer)
+    ∙ ap (bound_in q v) (scope_is μ outer around N)
+    ∙ sym (environment_bound μ.answers q v around)
 scope_is μ names e (is_running {k = k} {names = outer} {e = around} A B N) = ap (other_name (name_at (plan_expressions μ.plan) k)) (scope_is μ outer around N)
 scope_is μ names e (is_collected {k = k} {names = outer} {e = around} G N) = ap (other_name (name_at (plan_expressions μ.plan) k)) (scope_is μ outer around N)
 scope_is μ names e (is_called {g = g} {row = row} G) = scope_given μ (names_of_parameters (plan_expressions μ.plan) (header_at μ.plan g).parameters) (items-the_row-Given _ row) empty e G [] refl
@@ -109,17 +108,17 @@ module _ {A : Type 0} (none : A) (x : Name) (under : Environment → A) (hides :
 
   module _ (μ : Machine) where
     -- none stands under a name of a pattern
-    under_value : {at : _} (i : PatternId) (v : Rc Value Global) (names : Env) (d : Data) (e : Environment) → value_named (values_inside (pattern_of (stored_pattern (plan_expressions μ.plan) i)) v.value []) x ≡ Some d
+    under_value : {at : _} (i : PatternId) (v : Data) (names : Env) (d : Data) (e : Environment) → value_named (values_inside (pattern_of (stored_pattern (plan_expressions μ.plan) i)) v []) x ≡ Some d
         → IsNames μ (Bound' at i v names) e → under e ≡ none
     unfolding hidden_by
-    under_value i v names d e h (is_bound {e = around} N) = under_inside (pattern_of (stored_pattern (plan_expressions μ.plan) i)) v.value around ∙ ap (λ o. hidden_by none o (under around)) h
+    under_value i v names d e h (is_bound {e = around} N) = under_inside (pattern_of (stored_pattern (plan_expressions μ.plan) i)) v around ∙ ap (λ o. hidden_by none o (under around)) h
 
     -- behind a pattern without the name stands what stands around it
-    under_pattern : {at : _} (C : A → Type 0) (i : PatternId) (v : Rc Value Global) (names : Env) (e : Environment) → value_named (values_inside (pattern_of (stored_pattern (plan_expressions μ.plan) i)) v.value []) x ≡ None
+    under_pattern : {at : _} (C : A → Type 0) (i : PatternId) (v : Data) (names : Env) (e : Environment) → value_named (values_inside (pattern_of (stored_pattern (plan_expressions μ.plan) i)) v []) x ≡ None
         → ((e : Environment) → IsNames μ names e → C (under e)) → IsNames μ (Bound' at i v names) e → C (under e)
     unfolding hidden_by
     under_pattern C i v names e h outside (is_bound {e = around} N) =
-        subst C (sym (under_inside (pattern_of (stored_pattern (plan_expressions μ.plan) i)) v.value around ∙ ap (λ o. hidden_by none o (under around)) h)) (outside around N)
+        subst C (sym (under_inside (pattern_of (stored_pattern (plan_expressions μ.plan) i)) v around ∙ ap (λ o. hidden_by none o (under around)) h)) (outside around N)
 
 module _ (μ : Machine) where
   -- the part of a value under a name of a pattern, if there is one
@@ -127,18 +126,18 @@ module _ (μ : Machine) where
   part_of i d x = value_named (values_inside (pattern_of (stored_pattern (plan_expressions μ.plan) i)) d []) x
 
   -- no process and no members stand under a name of a pattern
-  pub found_value : {at : _} (x : Name) (i : PatternId) (v : Rc Value Global) (names : Env) (d : Data) (e : Environment) → part_of i v.value x ≡ Some d → IsNames μ (Bound' at i v names) e → process_of x e ≡ passing
+  pub found_value : {at : _} (x : Name) (i : PatternId) (v : Data) (names : Env) (d : Data) (e : Environment) → part_of i v x ≡ Some d → IsNames μ (Bound' at i v names) e → process_of x e ≡ passing
   found_value x = under_value passing x (process_of x) (λ y d e. refl) μ
 
-  pub members_value : {at : _} (x : Name) (i : PatternId) (v : Rc Value Global) (names : Env) (d : Data) (e : Environment) → part_of i v.value x ≡ Some d → IsNames μ (Bound' at i v names) e → members_of x e ≡ no_members
+  pub members_value : {at : _} (x : Name) (i : PatternId) (v : Data) (names : Env) (d : Data) (e : Environment) → part_of i v x ≡ Some d → IsNames μ (Bound' at i v names) e → members_of x e ≡ no_members
   members_value x = under_value no_members x (members_of x) (λ y d e. refl) μ
 
   -- behind a pattern without a name stands what stands around it
-  pub found_outside : {at : _} (x : Name) (i : PatternId) (v : Rc Value Global) (names : Env) (found : Option Handed) (e : Environment) → part_of i v.value x ≡ None
+  pub found_outside : {at : _} (x : Name) (i : PatternId) (v : Data) (names : Env) (found : Option Handed) (e : Environment) → part_of i v x ≡ None
       → ((e : Environment) → IsNames μ names e → IsFound μ x found (process_of x e)) → IsNames μ (Bound' at i v names) e → IsFound μ x found (process_of x e)
   found_outside x i v names found = under_pattern passing x (process_of x) (λ y d e. refl) μ (IsFound μ x found) i v names
 
-  pub members_outside : {at : _} (x : Name) (i : PatternId) (v : Rc Value Global) (names : Env) (found : Option Holding) (e : Environment) → part_of i v.value x ≡ None
+  pub members_outside : {at : _} (x : Name) (i : PatternId) (v : Data) (names : Env) (found : Option Holding) (e : Environment) → part_of i v x ≡ None
       → ((e : Environment) → IsNames μ names e → AreFound μ found (members_of x e)) → IsNames μ (Bound' at i v names) e → AreFound μ found (members_of x e)
   members_outside x i v names found = under_pattern no_members x (members_of x) (λ y d e. refl) μ (AreFound μ found) i v names
 
@@ -219,8 +218,11 @@ module _ (μ : Machine) where
   collected_follows b c same e N = collected_holds b (λ e. IsNames μ (ECollected c) e) (λ d ms G M. names_collected_inside b.value c same d ms M G) e N
 
   -- a pattern's names around a part, once they are bound
-  pub names_bound_inside : {at : _} (b c : Binding) → c ≡ b → (e : Environment) → IsNames μ b.around e → IsNames μ (Bound' at c.pattern c.value c.around) (bind (pattern_of (stored_pattern (plan_expressions μ.plan) b.pattern)) b.value.value e)
-  names_bound_inside {at} b c same e N = subst (λ (c : Binding). IsNames μ (Bound' at c.pattern c.value c.around) (bind (pattern_of (stored_pattern (plan_expressions μ.plan) b.pattern)) b.value.value e)) (sym same) (is_bound N)
+  pub names_bound_inside : {at : _} (b c : Binding) → c ≡ b → (d : Data) → b.value ≡ d → (e : Environment) → IsNames μ b.around e → IsNames μ (Bound' at c.pattern c.value c.around) (bind (pattern_of (stored_pattern (plan_expressions μ.plan) b.pattern)) d e)
+  names_bound_inside {at} b c same d value e N =
+      let q = pattern_of (stored_pattern (plan_expressions μ.plan) b.pattern) in
+      subst (λ (d : Data). IsNames μ (Bound' at c.pattern c.value c.around) (bind q d e)) value
+      (subst (λ (c : Binding). IsNames μ (Bound' at c.pattern c.value c.around) (bind q b.value e)) (sym same) (is_bound N))
 
   -- the same of a process under its name
   pub names_running_inside : {at : _} (b c : Running) → c ≡ b → (e : Environment) (P : Process) → IsNames μ b.around e → IsHanded μ (name_at (plan_expressions μ.plan) b.name) b.handed P → IsNames μ (Running' at c.name c.handed.process c.handed.base.term c.handed.base.names c.around) (running (name_at (plan_expressions μ.plan) b.name) P e)

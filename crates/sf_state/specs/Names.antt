@@ -14,6 +14,8 @@ use Rattle.sf_state.specs.declared.env.Call.{items-the_row-Given}
 use Rattle.sf_state.specs.declared.env.Handed.{Handed}
 use Rattle.sf_state.specs.declared.env.Given.{Given}
 use Rattle.sf_state.specs.declared.env.Given.TheVariants.{Value, Process', Members'}
+use Rattle.sf_state.specs.declared.env.Payload.{Payload}
+use Rattle.sf_state.specs.declared.env.Payload.TheVariants.{Shared, Own}
 use Rattle.sf_state.specs.declared.state.Live.{items-the_row-State}
 use Rattle.sf_state.specs.Held.{Holding, held_as}
 use Rattle.sf_state.specs.declared.env.Env.TheVariants.{Empty as SEmpty, Bound', Running', Collected', Called'}
@@ -22,6 +24,11 @@ use Rattle.sf_state.specs.declared.env.Env.TheVariants.{Empty as SEmpty, Bound',
 abbrev pub found_or : {A : Type 0} → Option A → Option A → Option A
 found_or (Some a) o = Some a
 found_or None o = o
+
+-- the value that is bound
+abbrev pub bound_value : Payload → Data
+bound_value (Shared node) = node.value
+bound_value (Own d) = d
 
 -- the names of a pattern with the parts of a value, before others
 abbrev pub values_inside : Pattern → Data → ValuesByName → ValuesByName
@@ -64,7 +71,7 @@ values_given (x ∷ xs) (g ∷ gs) vs = values_given xs gs ((x, given_value (Som
 -- the names around a part, with their values where they stand for any, where they are those of a plan
 abbrev pub values_around : Plan → Env → ValuesByName
 values_around p SEmpty = []
-values_around p (Bound' at q v names) = values_inside (pattern_of (stored_pattern (plan_expressions p) q)) v.value (values_around p names)
+values_around p (Bound' at q v names) = values_inside (pattern_of (stored_pattern (plan_expressions p) q)) v (values_around p names)
 values_around p (Running' at k a b inner names) = (name_at (plan_expressions p) k, None) ∷ values_around p names
 values_around p (Collected' at k keys list shape row w names) = (name_at (plan_expressions p) k, None) ∷ values_around p names
 values_around p (Called' at g shape row) = values_given (names_of_parameters (plan_expressions p) (header_at p g).parameters) (items-the_row-Given _ row) []

@@ -2,7 +2,6 @@
 use Rattle.std.specs.Prelude.{◌≡◌, ℕ, Bool, true, false, IsTrue, List, [], ◌∷◌, Option, Some, None, Result, Ok, Err, String, string_bytes}
 use Rattle.std.specs.declared.alloc.Global.{Global}
 use Rattle.std.specs.declared.rc.Rc.{Rc}
-use Rattle.sf_value.specs.declared.value.Value.{Value}
 use Rattle.sf_value.specs.Values.{Name, KeyData, Data, first_of}
 use Rattle.sf_value.specs.declared.fault.ValueFault.{ValueFault}
 use Rattle.sf_expr.specs.Expressions.{Pattern, Expression, Function}
@@ -26,17 +25,20 @@ use Rattle.sf_mean.specs.Meaning.{Network, Made, value_made, members_made, newes
 use Rattle.sf_mean.specs.Meaning
 use Rattle.sf_coincidence.specs.Alike.{Alike, AlikeName}
 use Rattle.sf_law.specs.declared.node.PlanId.{PlanId}
+use Rattle.sf_law.specs.declared.node.ShortId.{ShortId}
 use Rattle.sf_law.specs.declared.node.PlanCollection.{PlanCollection}
 use Rattle.sf_law.specs.declared.node.TemplateId.{TemplateId}
 use Rattle.sf_law.specs.declared.mentioned.Mentioned.{Mentioned}
 use Rattle.sf_law.specs.Mentioned.{is_mentioned}
 use Rattle.sf_law.specs.Places.{names_of_parameters}
 use Rattle.sf_law.specs.Entries.{IsCodedCollection}
-use Rattle.sf_law.specs.Arena.{plan_tree, plan_collection, plan_expressions, plan_asks, header_at}
+use Rattle.sf_law.specs.Arena.{plan_tree, plan_node_at, full_id, node_arrow, plan_collection, plan_expressions, plan_asks, header_at}
+use Rattle.sf_code.specs.declared.open.OpenCode.{OpenCode}
 use Rattle.sf_prim.specs.declared.prim_state.PrimState.{PrimState}
+use Rattle.sf_prim.specs.declared.prim_state.PrimState.TheVariants.{Arrow}
 use Rattle.sf_prim.specs.Remembering.{Remembers}
 use Rattle.sf_state.specs.declared.state.State.{State}
-use Rattle.sf_state.specs.declared.state.State.TheVariants.{Unborn, Unborn', Primitive as SPrimitive, Primitives as InTurn, Live' as Alive', Switch' as Watching', Continuation', Gathering', Frozen'}
+use Rattle.sf_state.specs.declared.state.State.TheVariants.{Unborn, Unborn', Primitive as SPrimitive, Mapped as SMapped, Primitives as InTurn, Live' as Alive', Switch' as Watching', Continuation', Gathering', Frozen'}
 use Rattle.sf_state.specs.declared.state.Primitives.{Primitives}
 use Rattle.sf_state.specs.declared.state.Live.{Live}
 use Rattle.sf_state.specs.declared.state.Live.TheVariants.{Probe as LProbe, Join as LJoin, Pipeline' as LPipeline', Wrap as LWrap, Gathered' as LGathered'}
@@ -49,7 +51,7 @@ use Rattle.sf_state.specs.declared.state.Continuation.{Continuation}
 use Rattle.sf_state.specs.declared.state.Gathering.{Gathering}
 use Rattle.sf_state.specs.declared.state.Gathering.TheVariants.{Releasing' as GReleasing', Editing' as GEditing'}
 use Rattle.sf_state.specs.declared.state.FrozenNode.{FrozenNode}
-use Rattle.sf_state.specs.declared.state.FrozenNode.TheVariants.{Primitive as KPrimitive, Primitives as KPrimitives, Live' as KLive', Switch' as KSwitch', Continuation' as KContinuation', Gathering' as KGathering'}
+use Rattle.sf_state.specs.declared.state.FrozenNode.TheVariants.{Primitive as KPrimitive, Mapped as KMapped, Primitives as KPrimitives, Live' as KLive', Switch' as KSwitch', Continuation' as KContinuation', Gathering' as KGathering'}
 use Rattle.sf_state.specs.declared.env.Env.{Env}
 use Rattle.sf_state.specs.declared.env.Handed.{Handed}
 use Rattle.sf_state.specs.declared.env.Given.{Given}
@@ -101,30 +103,37 @@ closed_over t names = record { term = t; names = names }
 abbrev pub in_sequence : Primitives → Live
 in_sequence both = LJoin InSequence (SPrimitive both.first) (SPrimitive both.second)
 
+-- a primitive on the values of `arr`, of which the state is this code, as a live part
+abbrev pub behind_arrow : Rc OpenCode Global → PrimState → Live
+behind_arrow c i = LJoin InSequence (SPrimitive (Arrow c)) (SPrimitive i)
+
 -- what was kept of a part, as a state
 abbrev pub frozen_state : Env → FrozenNode → State
 frozen_state names (KPrimitive i) = SPrimitive i
+frozen_state names (KMapped m i) = SMapped m i
 frozen_state names (KPrimitives r) = InTurn r
 frozen_state names (KLive' at l) = Alive' names at l
 frozen_state names (KSwitch' at w a q b) = Watching' names at w a q b
 frozen_state names (KContinuation' at w t a x o k q b) = Continuation' names at w t a x o k q b
 frozen_state names (KGathering' at g) = Gathering' names at g
 
--- whether a state is a primitive
-abbrev pub is_primitive : State → Bool
-is_primitive (Unborn' t names) = false
-is_primitive (SPrimitive i) = true
-is_primitive (InTurn r) = false
-is_primitive (Alive' names at l) = false
-is_primitive (Watching' names at w a q b) = false
-is_primitive (Continuation' names at w t a x o k q b) = false
-is_primitive (Gathering' names at g) = false
-is_primitive (Frozen' at d names k) = false
+-- whether a state that shares what another one has is a copy: of primitives without a node
+abbrev pub is_copied : State → Bool
+is_copied (Unborn' t names) = false
+is_copied (SPrimitive i) = true
+is_copied (SMapped m i) = true
+is_copied (InTurn r) = false
+is_copied (Alive' names at l) = false
+is_copied (Watching' names at w a q b) = false
+is_copied (Continuation' names at w t a x o k q b) = false
+is_copied (Gathering' names at g) = false
+is_copied (Frozen' at d names k) = false
 
 -- whether a state is frozen
 abbrev pub is_frozen : State → Bool
 is_frozen (Unborn' t names) = false
 is_frozen (SPrimitive i) = false
+is_frozen (SMapped m i) = false
 is_frozen (InTurn r) = false
 is_frozen (Alive' names at l) = false
 is_frozen (Watching' names at w a q b) = false
@@ -170,8 +179,8 @@ mutual
   -- Where functions answer this, names stand for these values and processes.
   pub data IsNames (μ : Machine) : Env → Environment → Type 0 where
     is_empty : IsNames μ SEmpty empty
-    is_bound : {at : _} {q : PatternId} {v : Rc Value Global} {names : Env} {e : Environment}
-        → IsNames μ names e → IsNames μ (Bound' at q v names) (bind (pattern_of (stored_pattern (plan_expressions μ.plan) q)) v.value e)
+    is_bound : {at : _} {q : PatternId} {v : Data} {names : Env} {e : Environment}
+        → IsNames μ names e → IsNames μ (Bound' at q v names) (bind (pattern_of (stored_pattern (plan_expressions μ.plan) q)) v e)
     -- a process that has lived no step, beside what it began as, where that is asked of its name
     is_running : {at : _} {k : NameId} {a : State} {b : PlanId} {inner names : Env} {P : Process} {e : Environment}
         → Stands μ a P [] → (IsTrue (plan_asks μ.plan (name_at (plan_expressions μ.plan) k)) → IsProcess μ (closed_over b inner) (base P)) → IsNames μ names e → IsNames μ (Running' at k a b inner names) (running (name_at (plan_expressions μ.plan) k) P e)
@@ -208,6 +217,9 @@ mutual
     unborn : {q : process_states.Process} {P : Process} → IsProcess μ q P → StandsItself μ (Unborn q) P []
     -- a primitive, which has what it needs of the names around it
     recalling : {i : PrimState} {P : Process} {s : Step} {L : Life} → Recalls μ i P (s ∷ L) → StandsItself μ (SPrimitive i) P (s ∷ L)
+    -- one on the values of an `arr` of the plan
+    mapped : {m : ShortId} {c : Rc OpenCode Global} {i : PrimState} {P : Process} {L : Life}
+        → node_arrow (plan_node_at μ.plan (full_id m)) ≡ Some c → Settles μ (behind_arrow c i) P L → StandsItself μ (SMapped m i) P L
     -- two of them, each on its own life
     in_turn : {r : Rc Primitives Global} {P : Process} {L : Life} → Settles μ (in_sequence r.value) P L → StandsItself μ (InTurn r) P L
     -- with the names that are around its term

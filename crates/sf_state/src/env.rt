@@ -21,7 +21,7 @@ ghost use Rattle.sf_state.specs.declared.env.Collected.{size-Collected};
 ghost use Rattle.sf_state.specs.declared.env.Call.{size-Call};
 ghost use Rattle.sf_state.specs.declared.env.Given.{size-Given};
 ghost use Rattle.sf_state.specs.Held.{gathered_holding};
-ghost use Rattle.sf_state.specs.Names.{found_or, given_at, handed_of, given_value, given_members, values_inside, values_around};
+ghost use Rattle.sf_state.specs.Names.{bound_value, found_or, given_at, handed_of, given_value, given_members, values_inside, values_around};
 ghost use Rattle.sf_coincidence.specs.Mentions.{BindsOthers};
 ghost use Rattle.sf_law.specs.declared.mentioned.Mentioned as mention_lists;
 ghost use Rattle.sf_law.specs.Mentioned.{is_mentioned};
@@ -140,13 +140,13 @@ impl Binding {
     fn over(&self, alloc: Global, fewer: Option<Env>) -> Result<Option<Env>, AllocError>
         ensures { IfOk result (λ names. (μ : Machine) (m l : mention_lists.Mentioned) (e : Environment) →
             ((x : Name) → IsTrue (is_mentioned (plan_expressions μ.plan) m x) → BindsOthers (pattern_of (stored_pattern (plan_expressions μ.plan) self.now.pattern)) x → IsTrue (is_mentioned (plan_expressions μ.plan) l x)) →
-            IfSome fewer (λ names. HasMentioned μ l names e) → IfSome names (λ names. HasMentioned μ m names (bind (pattern_of (stored_pattern (plan_expressions μ.plan) self.now.pattern)) self.now.value.value e))) }
+            IfSome fewer (λ names. HasMentioned μ l names e) → IfSome names (λ names. HasMentioned μ m names (bind (pattern_of (stored_pattern (plan_expressions μ.plan) self.now.pattern)) self.now.value e))) }
     {
         let around = match fewer {
             Some(around) => around,
             None => return Ok(None),
         };
-        let value = self.value.clone()?;
+        let value = self.value.clone_in(alloc)?;
         let binding = Rc::new(
             alloc,
             Binding {
@@ -314,14 +314,38 @@ impl Given {
     }
 }
 
+/// What is bound to a pattern.
+#[derive(Drop)]
+pub enum Payload {
+    /// A value in a node, which may be shared, as in an event.
+    Shared(Rc<Value>),
+    /// A value without a node, as that of a parameter, or the unit of an event.
+    Own(Value),
+}
+
+impl Payload {
+    /// The value. The error is a want of memory, or too many owners.
+    fn value(self, alloc: Global) -> Result<Value, AllocError>
+        ensures { IfOk result (λ value. value ≡ bound_value self) }
+    {
+        match self {
+            Payload::Shared(node) => {
+                let value = node.clone_in(alloc)?;
+                Ok(value)
+            }
+            Payload::Own(value) => Ok(value),
+        }
+    }
+}
+
 /// The names of a pattern that is bound to a value.
 #[derive(Drop)]
 #[cycle(state)]
 pub struct Binding {
     /// The pattern, in the expressions of the plan.
     pub pattern: PatternId,
-    /// The value, which may be shared.
-    pub value: Rc<Value>,
+    /// The value.
+    pub value: Value,
     /// The names around it.
     pub around: Env,
 }
@@ -563,16 +587,17 @@ impl Env {
         alloc: Global,
         plan: &Plan,
         pattern: PatternId,
-        value: Rc<Value>,
+        value: Payload,
     ) -> Result<Env, AllocError>
         ensures { let p = plan.now in
             IfOk result (λ names. (φ : AnswersByName) (e : Environment) → IsNames (machine φ p) self.now e →
-            IsNames (machine φ p) names (bind (pattern_of (stored_pattern (plan_expressions p) pattern)) value.value e)) }
+            IsNames (machine φ p) names (bind (pattern_of (stored_pattern (plan_expressions p) pattern)) (bound_value value) e)) }
     {
         let around = self.share()?;
         if binds_nothing(plan.numbered(pattern)) {
             return Ok(around);
         }
+        let value = value.value(alloc)?;
         let binding = Rc::new(
             alloc,
             Binding {
@@ -672,7 +697,7 @@ impl Env {
         match self {
             Env::Empty => None,
             Env::Bound(binding) => {
-                match part_named(plan, binding.pattern, &*binding.value, name) {
+                match part_named(plan, binding.pattern, &binding.value, name) {
                     Some(_) => None,
                     None => binding.around.running(plan, name),
                 }
@@ -704,7 +729,7 @@ impl Env {
         match self {
             Env::Empty => None,
             Env::Bound(binding) => {
-                match part_named(plan, binding.pattern, &*binding.value, name) {
+                match part_named(plan, binding.pattern, &binding.value, name) {
                     Some(_) => {
                         // a value hides members of its name
                         None
@@ -751,7 +776,7 @@ impl Env {
                 }
             }
             Env::Bound(binding) => {
-                match part_named(plan, binding.pattern, &*binding.value, name) {
+                match part_named(plan, binding.pattern, &binding.value, name) {
                     Some(value) => Some(value),
                     None => binding.around.value(plan, name),
                 }

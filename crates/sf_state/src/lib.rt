@@ -5,7 +5,7 @@ mod env;
 mod feedback;
 mod state;
 
-pub use env::{Binding, Call, Collected, Env, Given, Handed, NamesIn, Running};
+pub use env::{Binding, Call, Collected, Env, Given, Handed, NamesIn, Payload, Running};
 pub use feedback::Feedback;
 pub use state::{
     Continuation, Editing, Frozen, FrozenNode, Gathered, Gathering, Live, Primitives, Process,

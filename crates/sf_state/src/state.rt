@@ -12,13 +12,14 @@ ghost use Rattle.sf_mean.specs.Meaning.{body_of};
 ghost use Rattle.sf_state.specs.declared.env.Env as environments;
 ghost use Rattle.sf_state.specs.declared.state.State.TheVariants as StateOf;
 ghost use Rattle.sf_state.specs.Held.{gathered_holding};
-ghost use Rattle.sf_state.specs.Standing.{IsNames, Stands, Ready, Waits, WaitsContinuation, WaitsGathered, Gathers, IsProcess, AllFollow, frozen_state, is_primitive, is_frozen};
+ghost use Rattle.sf_state.specs.Standing.{IsNames, Stands, Ready, Waits, WaitsContinuation, WaitsGathered, Gathers, IsProcess, AllFollow, frozen_state, is_copied, is_frozen};
 ghost use Rattle.sf_state.specs.Machine.{Machine, machine};
+ghost use Rattle.sf_state.specs.Names.{bound_value};
 
-use crate::env::{Env, Handed};
+use crate::env::{Env, Handed, Payload};
 use crate::feedback::Feedback;
 use sf_expr::{NameId, PatternId};
-use sf_law::{Plan, PlanCollection, PlanId};
+use sf_law::{Plan, PlanCollection, PlanId, ShortId};
 use sf_prim::PrimState;
 use sf_term::{Join, Observation, Switching};
 use sf_value::{Keys, Value, ValueFault};
@@ -33,6 +34,9 @@ pub enum State {
     Unborn(Process),
     /// A primitive that has lived through some samples. It is small, and stands here itself.
     Primitive(PrimState),
+    /// A primitive that has lived through some samples on the values of an `arr` of its plan, which keeps nothing. It is small, and
+    /// stands here itself.
+    Mapped(ShortId, PrimState),
     /// Two primitives in sequence that have lived through some samples. Their node may be shared.
     Primitives(Rc<Primitives>),
     /// It has lived through some samples, with these names around it. Its node may be shared.
@@ -54,6 +58,7 @@ impl Drop for State {
         match self {
             State::Unborn(process) => drop(process),
             State::Primitive(prim) => drop(prim),
+            State::Mapped(_, mapped) => drop(mapped),
             State::Primitives(node) => drop(node),
             State::Live(names, node) => {
                 drop(names);
@@ -90,6 +95,10 @@ impl State {
             State::Unborn(process) => process.left(),
             State::Primitive(prim) => {
                 drop(prim);
+                Env::Empty
+            }
+            State::Mapped(_, mapped) => {
+                drop(mapped);
                 Env::Empty
             }
             State::Primitives(node) => {
@@ -258,6 +267,8 @@ pub struct Frozen {
 pub enum FrozenNode {
     /// Of a primitive, which is its own.
     Primitive(PrimState),
+    /// Of a primitive on the values of an `arr` of its plan.
+    Mapped(ShortId, PrimState),
     /// Of two primitives in sequence.
     Primitives(Rc<Primitives>),
     /// Of a part that goes on as it is.
@@ -401,7 +412,7 @@ impl State {
         })
     }
 
-    /// The same state, over the same node: it copies a primitive alone, and no step of one of the two changes the other.
+    /// The same state, over the same node: it copies primitives without a node alone, and no step of one of the two changes the other.
     /// The error is a want of memory, or too many owners of one node.
     #[inline(always)]
     pub fn share(&self, alloc: Global) -> Result<State, AllocError>
@@ -412,14 +423,18 @@ impl State {
                 let copy = primitive.clone_in(alloc)?;
                 Ok(State::Primitive(copy))
             }
+            State::Mapped(arrow, mapped) => {
+                let next = mapped.clone_in(alloc)?;
+                Ok(State::Mapped(*arrow, next))
+            }
             _ => self.share_node(),
         }
     }
 
-    // The same of a state that is no primitive.
+    // The same of a state that is not copied.
     #[inline(never)]
     fn share_node(&self) -> Result<State, AllocError>
-        requires { IsFalse (is_primitive self.now) }
+        requires { IsFalse (is_copied self.now) }
         ensures { IfOk result (λ shared. (μ : Machine) (P : Lives.Process) (L : Life) → Stands μ self.now P L → Stands μ shared P L) }
     {
         match self {
@@ -455,7 +470,7 @@ impl State {
                 let rest = frozen.clone()?;
                 Ok(State::Frozen(rest))
             }
-            State::Primitive(_) => unreachable!(),
+            State::Primitive(_) | State::Mapped(_, _) => unreachable!(),
         }
     }
 
@@ -488,6 +503,11 @@ impl State {
                 let copy = primitive.clone_in(alloc)?;
                 let nothing = Env::Empty;
                 freeze_node(alloc, wait, &nothing, FrozenNode::Primitive(copy))
+            }
+            State::Mapped(arrow, mapped) => {
+                let next = mapped.clone_in(alloc)?;
+                let without = Env::Empty;
+                freeze_node(alloc, wait, &without, FrozenNode::Mapped(*arrow, next))
             }
             State::Primitives(node) => {
                 let both = node.clone()?;
@@ -736,11 +756,11 @@ impl Switch {
         alloc: Global,
         plan: &Plan,
         names: &Env,
-        payload: Rc<Value>,
+        payload: Payload,
     ) -> Result<Process, AllocError>
         ensures { let p = plan.now in
             IfOk result (λ begun. (φ : AnswersByName) (e : Environment) → IsNames (machine φ p) names.now e →
-            Stands (machine φ p) (StateOf.Unborn begun) (body_of (pattern_of (stored_pattern (plan_expressions p) self.now.pattern)) (plan_tree p self.now.body) e payload.value) []) }
+            Stands (machine φ p) (StateOf.Unborn begun) (body_of (pattern_of (stored_pattern (plan_expressions p) self.now.pattern)) (plan_tree p self.now.body) e (bound_value payload)) []) }
     {
         let around = names.inside(alloc, plan, self.pattern, payload)?;
         Ok(Process {
@@ -779,12 +799,12 @@ impl Continuation {
         plan: &Plan,
         names: &Env,
         wait: u64,
-        payload: Rc<Value>,
+        payload: Payload,
     ) -> Result<Process, AllocError>
         ensures { let p = plan.now in
             IfOk result (λ begun. (φ : AnswersByName) (e : Environment) (P : Lives.Process) (L : Life) → IsNames (machine φ p) names.now e → Stands (machine φ p) self.now.before P L →
             base P ≡ closure (plan_tree p self.now.first) e → Stands (machine φ p) (StateOf.Unborn begun) (closure (plan_tree p self.now.body)
-            (bind (pattern_of (stored_pattern (plan_expressions p) self.now.pattern)) payload.value (running (name_at (plan_expressions p) self.now.name) (Lives.frozen P L wait) e))) []) }
+            (bind (pattern_of (stored_pattern (plan_expressions p) self.now.pattern)) (bound_value payload) (running (name_at (plan_expressions p) self.now.name) (Lives.frozen P L wait) e))) []) }
     {
         let frozen = self.before.freeze(alloc, wait)?;
         let base = Process::where_asked(alloc, plan, self.name, self.first, names)?;
@@ -846,12 +866,12 @@ impl Releasing {
         plan: &Plan,
         names: &Env,
         wait: u64,
-        payload: Rc<Value>,
+        payload: Payload,
     ) -> Result<Process, AllocError>
         ensures { let p = plan.now in
             IfOk result (λ begun. (φ : AnswersByName) (e : Environment) (ms : Lives.Members) (L : Life) → IsNames (machine φ p) names.now e → Gathers (machine φ p) (gathered_holding self.now.before) ms L →
             Stands (machine φ p) (StateOf.Unborn begun) (closure (plan_tree p self.now.body)
-            (bind (pattern_of (stored_pattern (plan_expressions p) self.now.pattern)) payload.value (collected (name_at (plan_expressions p) self.now.name) (each_frozen ms L wait) e))) []) }
+            (bind (pattern_of (stored_pattern (plan_expressions p) self.now.pattern)) (bound_value payload) (collected (name_at (plan_expressions p) self.now.name) (each_frozen ms L wait) e))) []) }
     {
         let known = names.with_frozen(alloc, self.name, &self.before, wait)?;
         let around = known.inside(alloc, plan, self.pattern, payload)?;
@@ -872,11 +892,11 @@ impl Editing {
         plan: &Plan,
         names: &Env,
         wait: u64,
-        payload: Rc<Value>,
+        payload: Payload,
     ) -> Result<Env, AllocError>
         ensures { let p = plan.now in
             IfOk result (λ inside. (φ : AnswersByName) (e : Environment) (ms : Lives.Members) (L : Life) → IsNames (machine φ p) names.now e → Gathers (machine φ p) (gathered_holding self.now.members) ms L →
-            IsNames (machine φ p) inside (bind (pattern_of (stored_pattern (plan_expressions p) self.now.pattern)) payload.value (collected (name_at (plan_expressions p) self.now.name) (each_frozen ms L wait) e))) }
+            IsNames (machine φ p) inside (bind (pattern_of (stored_pattern (plan_expressions p) self.now.pattern)) (bound_value payload) (collected (name_at (plan_expressions p) self.now.name) (each_frozen ms L wait) e))) }
     {
         let known = names.with_frozen(alloc, self.name, &self.members, wait)?;
         let around = known.inside(alloc, plan, self.pattern, payload)?;
@@ -894,6 +914,10 @@ impl FrozenNode {
             FrozenNode::Primitive(primitive) => {
                 let copy = primitive.clone_in(alloc)?;
                 Ok(FrozenNode::Primitive(copy))
+            }
+            FrozenNode::Mapped(arrow, mapped) => {
+                let next = mapped.clone_in(alloc)?;
+                Ok(FrozenNode::Mapped(*arrow, next))
             }
             FrozenNode::Primitives(node) => {
                 let both = node.clone()?;
@@ -933,6 +957,7 @@ impl Frozen {
             FrozenNode::Continuation(node) => Ok(State::Continuation(around, node)),
             FrozenNode::Gathering(node) => Ok(State::Gathering(around, node)),
             FrozenNode::Primitive(primitive) => Ok(State::Primitive(primitive)),
+            FrozenNode::Mapped(arrow, mapped) => Ok(State::Mapped(arrow, mapped)),
             FrozenNode::Primitives(node) => Ok(State::Primitives(node)),
         }
     }

@@ -1,7 +1,7 @@
 -- What each function of a sample answers, from what it calls.
 use Rattle.std.specs.declared.alloc.Global.{Global}
 use Rattle.std.specs.declared.rc.Rc.{Rc}
-use Rattle.std.proofs.Common.{◌≡◌, ℕ, IsTrue, ◌+◌, ◌≤◌, List, [], ◌∷◌, ◌++◌, Option, Result, Ok, Err, sym, ap, ◌∙◌, subst, arith}
+use Rattle.std.proofs.Common.{◌≡◌, ℕ, IsTrue, ◌+◌, ◌≤◌, List, [], ◌∷◌, ◌++◌, Option, Some, Result, Ok, Err, sym, ap, ◌∙◌, subst, arith}
 use Rattle.sf_value.specs.Values.{Data}
 use Rattle.sf_value.specs.declared.fault.Fault.{Fault}
 use Rattle.sf_probe.specs.declared.reading.Readings as declared
@@ -12,25 +12,27 @@ use Rattle.sf_expr.specs.Evaluation.{Evaluated, answer}
 use Rattle.sf_expr.specs.Evaluation
 use Rattle.sf_term.specs.declared.form.Join.{Join}
 use Rattle.sf_law.specs.declared.node.PlanId.{PlanId}
+use Rattle.sf_law.specs.declared.node.ShortId.{ShortId}
+use Rattle.sf_code.specs.declared.open.OpenCode.{OpenCode}
 use Rattle.sf_term.specs.Trees.{Term}
-use Rattle.sf_law.specs.Arena.{plan_tree}
+use Rattle.sf_law.specs.Arena.{plan_tree, plan_node_at, full_id, node_arrow}
 use Rattle.sf_mean.specs.Lives.{Step, step, Life, Process, closure, Environment, first_input}
 use Rattle.sf_mean.specs.Meaning.{Network, Readings, Outcome, gave, faulted, as_outcome, Cost, count, height, both_costs, over, left_life, right_life, join_value, Gives, gives, Outputs, not_begun, and_gave, of_form, Form}
 use Rattle.sf_prim.specs.declared.prim_state.PrimState.{PrimState}
 use Rattle.sf_state.specs.declared.state.State.{State}
-use Rattle.sf_state.specs.declared.state.State.TheVariants.{Unborn, Primitive as SPrimitive, Primitives as InTurn, Live' as Alive'}
+use Rattle.sf_state.specs.declared.state.State.TheVariants.{Unborn, Primitive as SPrimitive, Mapped as SMapped, Primitives as InTurn, Live' as Alive'}
 use Rattle.sf_state.specs.declared.state.Primitives.{Primitives}
 use Rattle.sf_state.specs.declared.state.Live.{Live}
 use Rattle.sf_state.specs.declared.state.Live.TheVariants.{Join as LJoin, Wrap as LWrap}
 use Rattle.sf_state.specs.declared.state.Wrap.{Wrap}
-use Rattle.sf_state.specs.Standing.{in_sequence, in_turn, gathering_on, was_frozen, closed_over, was_alike, Stands, itself, StandsItself, unborn, recalling, alive, watching, continuing_on, Settles, settles, Ready, ready, lives_join, lives_wrap, is_closure, IsNames, AreJoined}
+use Rattle.sf_state.specs.Standing.{in_sequence, behind_arrow, mapped, in_turn, gathering_on, was_frozen, closed_over, was_alike, Stands, itself, StandsItself, unborn, recalling, alive, watching, continuing_on, Settles, settles, Ready, ready, lives_join, lives_wrap, is_closure, IsNames, AreJoined}
 use Rattle.sf_state.specs.declared.env.Env.{Env}
 use Rattle.sf_state.specs.Machine.{Machine, machine_network}
 use Rattle.sf_meter.specs.declared.meter.Meter.{Meter}
 use Rattle.sf_meter.specs.Meters.{entered_of, meter_height, readings, Ticks, Ticked, ticked, refused, left_or}
 use Rattle.sf_step.specs.Answering.{Rel, Spent, Within, StopsFor, faults, large, memory, Answers, answers, fails, PrimSteps, LiveSteps, TermSteps, FirstSteps}
 use Rattle.sf_begin.proofs.Begins.{join_ready}
-use Rattle.sf_begin.specs.Beginning.{is_awake, Prepared, primitive_prepared, primitives_prepared, live_prepared, switch_prepared, continuing_prepared, BeginsAs, begins_itself, gathering_prepared}
+use Rattle.sf_begin.specs.Beginning.{is_awake, Prepared, primitive_prepared, mapped_prepared, primitives_prepared, live_prepared, switch_prepared, continuing_prepared, BeginsAs, begins_itself, gathering_prepared}
 use Rattle.sf_step.proofs.Costs.{memory_exit, counts, begin_stops}
 use Rattle.sf_step.proofs.First.{recalled}
 use Rattle.sf_step.specs.Sampling.{PartSteps, StateSteps, CountedSteps, Waiting, WaitingSteps, GivesApart}
@@ -176,6 +178,18 @@ module _ (μ : Machine) where
 
   -- ## States
 
+  -- what a primitive on the values of `arr` answers is its state's
+  mapped_held : {A E : Type 0} {P : Process} {s : Step} {L : Life} {R : Rel} {m n : Meter} {depth : ℕ} (a : ShortId) (c : Rc OpenCode Global) (i : PrimState) (v : Data) (q : Result A E) (f : Fault) → node_arrow (plan_node_at μ.plan (full_id a)) ≡ Some c
+      → Answers {A = Live × Data} (λ y. y.1) (λ y. Settles μ y.0 P (s ∷ L)) R (left_or q (behind_arrow c i, v) f) m n depth
+      → Answers {A = State × Data} (λ y. y.1) (λ y. Stands μ y.0 P (s ∷ L)) R (left_or q (SMapped a i, v) f) m n depth
+  mapped_held a c i v (Ok u) f h g = let w = answered g in answers w.given w.spent (itself (mapped h w.holds))
+  mapped_held a c i v (Err e) f h g = fails (failed g)
+
+  pub mapped_counted : {A E : Type 0} {n n' : Meter} {inside : ℕ} (a : ShortId) (i i' : PrimState) (s : Step) (v : Data) (q : Result A E) (f : Fault)
+      → ((c : Rc OpenCode Global) → node_arrow (plan_node_at μ.plan (full_id a)) ≡ Some c → LiveSteps μ (behind_arrow c i) s (left_or q (behind_arrow c i', v) f) n n' inside)
+      → CountedSteps μ (SMapped a i) s (left_or q (SMapped a i', v) f) n n' inside
+  mapped_counted a i i' s v q f hs m depth t P L (mapped_prepared {c = c} h R) = mapped_held a c i' v q f h (hs c h m depth t P L R)
+
   -- what two primitives in sequence answer is their state's
   both_held : {A E : Type 0} {P : Process} {s : Step} {L : Life} {R : Rel} {m n : Meter} {depth : ℕ} (r : Rc Primitives Global) (v : Data) (q : Result A E) (f : Fault)
       → Answers {A = Live × Data} (λ y. y.1) (λ y. Settles μ y.0 P (s ∷ L)) R (left_or q (in_sequence r.value, v) f) m n depth
@@ -209,6 +223,9 @@ module _ (μ : Machine) where
   pub primitive_is : (i : PrimState) → IsPrepared (SPrimitive i)
   primitive_is i P s L (recalling R) = primitive_prepared R
 
+  pub mapped_is : (a : ShortId) (i : PrimState) → IsPrepared (SMapped a i)
+  mapped_is a i P s L (mapped h (settles R)) = mapped_prepared h R
+
   pub primitives_are : (r : Rc Primitives Global) → IsPrepared (InTurn r)
   primitives_are r P s L (in_turn (settles R)) = primitives_prepared R
 
@@ -219,6 +236,7 @@ module _ (μ : Machine) where
   pub awake_is : (a : State) → IsTrue (is_awake a) → IsPrepared a
   awake_is a h P s L (unborn A) = absurd cc
   awake_is a h P s L (recalling R) = primitive_prepared R
+  awake_is a h P s L (mapped j (settles R)) = mapped_prepared j R
   awake_is a h P s L (in_turn (settles R)) = primitives_prepared R
   awake_is a h P s L (alive N (settles R)) = live_prepared N R
   awake_is a h P s L (watching N W) = switch_prepared N W

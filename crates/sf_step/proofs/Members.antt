@@ -16,7 +16,7 @@ use Rattle.sf_mean.specs.Lives.{Step, step, Life, Process, frozen, Environment, 
 use Rattle.sf_mean.specs.Meaning.{Network, Outcome, gave, faulted, combined, Cost, no_cost, both_costs, members_made, Gives, gives, and_gave, of_form, Form, of_gathered, Each, no_more, one_more, Others, others_go_on, others_stop, and_table}
 use Rattle.sf_mean.proofs.Once.{once_each}
 use Rattle.sf_state.specs.declared.state.State.{State}
-use Rattle.sf_state.specs.declared.state.State.TheVariants.{Unborn', Primitive as SPrimitive, Primitives as InTurn, Live' as Alive', Switch' as Watching', Continuation', Gathering', Frozen'}
+use Rattle.sf_state.specs.declared.state.State.TheVariants.{Unborn', Primitive as SPrimitive, Mapped as SMapped, Primitives as InTurn, Live' as Alive', Switch' as Watching', Continuation', Gathering', Frozen'}
 use Rattle.sf_begin.specs.Beginning.{is_awake}
 use Rattle.sf_state.specs.declared.state.Live.{items_hidden-the_row-State-0 as states_are}
 use Rattle.sf_state.specs.declared.state.Live.TheVariants.{Gathered as LGathered}
@@ -24,7 +24,7 @@ use Rattle.sf_state.specs.declared.state.Gathered.{Gathered}
 use Rattle.sf_state.specs.Held.{gathered_holding}
 use Rattle.sf_state.specs.Standing.{Stands, Ready, ready, lives_gathered, gathers, settles, Gathers, EachStands, none_stands, one_stands, as_it_stands, as_it_stood, AllFollow, keys_in}
 use Rattle.sf_state.specs.Machine.{Machine, machine_network}
-use Rattle.sf_state.proofs.Copies.{each_follows, held_shown, members_live, IsFresh, HasLived, primitive_lived, in_turn_lived, alive_lived, watching_lived, continuing_lived, gathering_lived, unborn_fresh, frozen_fresh}
+use Rattle.sf_state.proofs.Copies.{each_follows, held_shown, members_live, IsFresh, HasLived, primitive_lived, mapped_lived, in_turn_lived, alive_lived, watching_lived, continuing_lived, gathering_lived, unborn_fresh, frozen_fresh}
 use Rattle.sf_meter.specs.declared.meter.Meter.{Meter}
 use Rattle.sf_meter.specs.Meters.{entered_of, meter_height, Ticks, left_or}
 use Rattle.sf_step.specs.Answering.{Rel, StopsFor, memory, answers, fails, LiveSteps}
@@ -179,6 +179,7 @@ module _ (μ : Machine) where
   pub awake_lived : (a : State) → is_awake a ≡ true → HasLived μ a
   awake_lived (Unborn' t names) e = absurd cc
   awake_lived (SPrimitive i) e = primitive_lived μ i
+  awake_lived (SMapped m i) e = mapped_lived μ m i
   awake_lived (InTurn r) e = in_turn_lived μ r
   awake_lived (Alive' names at l) e = alive_lived μ names l
   awake_lived (Watching' names at w a q b) e = watching_lived μ names (record { form = w; running = a; pattern = q; body = b })
@@ -189,6 +190,7 @@ module _ (μ : Machine) where
   pub asleep_fresh : (a : State) → is_awake a ≡ false → IsFresh μ a
   asleep_fresh (Unborn' t names) e = unborn_fresh μ (record { term = t; names = names })
   asleep_fresh (SPrimitive i) e = absurd cc
+  asleep_fresh (SMapped m i) e = absurd cc
   asleep_fresh (InTurn r) e = absurd cc
   asleep_fresh (Alive' names at l) e = absurd cc
   asleep_fresh (Watching' names at w a q b) e = absurd cc

@@ -16,6 +16,8 @@ use Rattle.sf_mean.specs.Meaning.{Readings, Outcome, gave, faulted, answered_by,
 use Rattle.sf_meter.specs.declared.meter.Meter.{Meter}
 use Rattle.sf_meter.specs.declared.meter.Stop.{Stop}
 use Rattle.sf_meter.specs.Meters.{entered_of, meter_height, meter_fault, readings, Ticks, left_or}
+use Rattle.sf_state.specs.declared.env.Payload.{Payload}
+use Rattle.sf_state.specs.Names.{bound_value}
 use Rattle.sf_state.specs.declared.state.State.{State}
 use Rattle.sf_step.specs.Answering.{Rel, Spent, AtMost, Within, StopsFor, faults, large, memory, Answers, answers, fails, left_apart}
 use Rattle.sf_step.specs.Sampling.{GivesApart, apart, stopped, TakenApart, halved, not_granted}
@@ -188,31 +190,31 @@ pass_apart (Err q) a y e h = fails h
 -- ## What is taken apart
 
 -- what a step gave that was taken apart
-pub record Apart {A : Type 0} (Steps : Result (A × Data) Fault → Type 0) (a : A) (x : Data) (o : Option (Rc Value Global)) : Type 0 where
+pub record Apart {A : Type 0} (Steps : Result (A × Data) Fault → Type 0) (a : A) (x : Data) (o : Option Payload) : Type 0 where
   pub y : Data
   pub steps : Steps (Ok (a, y))
   pub first : x ≡ first_of y
-  pub event : option_map (λ r. r.value) o ≡ occurring (second_of y)
+  pub event : option_map bound_value o ≡ occurring (second_of y)
 
-pub gives_value : {A : Type 0} {Steps : Result (A × Data) Fault → Type 0} {a : A} {f : Fault} {x : Data} {o : Option (Rc Value Global)} → GivesApart Steps a f (Ok (x, o)) → Apart Steps a x o
+pub gives_value : {A : Type 0} {Steps : Result (A × Data) Fault → Type 0} {a : A} {f : Fault} {x : Data} {o : Option Payload} → GivesApart Steps a f (Ok (x, o)) → Apart Steps a x o
 gives_value (apart {y = y} S e h) = record { y = y; steps = S; first = e; event = h }
 
 pub gives_no_value : {A : Type 0} {Steps : Result (A × Data) Fault → Type 0} {a : A} {f : Fault} {e : Stop} → GivesApart Steps a f (Err e) → Steps (Err f)
 gives_no_value (stopped S) = S
 
 -- a `?` that passes a failure on
-pub stops_apart : {A : Type 0} {Steps : Result (A × Data) Fault → Type 0} {a : A} {f : Fault} {r : Result (Value × Option (Rc Value Global)) Stop} → IsErr r → Steps (Err f) → GivesApart Steps a f r
+pub stops_apart : {A : Type 0} {Steps : Result (A × Data) Fault → Type 0} {a : A} {f : Fault} {r : Result (Value × Option Payload) Stop} → IsErr r → Steps (Err f) → GivesApart Steps a f r
 stops_apart {r = Ok x} e S = absurd cc
 stops_apart {r = Err q} e S = stopped S
 
 -- steps of one thing are steps of another
-pub apart_as : {A B : Type 0} {S : Result (A × Data) Fault → Type 0} {T : Result (B × Data) Fault → Type 0} {a : A} {b : B} {f : Fault} {r : Result (Value × Option (Rc Value Global)) Stop}
+pub apart_as : {A B : Type 0} {S : Result (A × Data) Fault → Type 0} {T : Result (B × Data) Fault → Type 0} {a : A} {b : B} {f : Fault} {r : Result (Value × Option Payload) Stop}
     → ((y : Data) → S (Ok (a, y)) → T (Ok (b, y))) → (S (Err f) → T (Err f)) → GivesApart S a f r → GivesApart T b f r
 apart_as h k (apart {y = y} s e o) = apart (h y s) e o
 apart_as h k (stopped s) = stopped (k s)
 
 -- what was given whole is taken apart
-pub taken : {A : Type 0} (Steps : Result (A × Data) Fault → Meter → Type 0) {a : A} {y : Data} {n n' : Meter} {r : Result (Value × Option (Rc Value Global)) Stop}
+pub taken : {A : Type 0} (Steps : Result (A × Data) Fault → Meter → Type 0) {a : A} {y : Data} {n n' : Meter} {r : Result (Value × Option Payload) Stop}
     → Steps (Ok (a, y)) n → (entered_of n' ≡ entered_of n → meter_height n' ≡ meter_height n → meter_fault n' ≡ Memory → Steps (Err (meter_fault n')) n') → TakenApart y n n' r → GivesApart (λ s. Steps s n') a (meter_fault n') r
 taken Steps {a = a} {y = y} h k (halved same e o) = apart (subst (λ m. Steps (Ok (a, y)) m) (sym same) h) e o
 taken Steps h k (not_granted en hn q) = stopped (k en hn q)

@@ -13,7 +13,7 @@ use Rattle.sf_mean.proofs.Once.{onces}
 use Rattle.sf_state.specs.declared.state.State.{State}
 use Rattle.sf_state.specs.declared.state.Live.{items_hidden-the_row-State-0}
 use Rattle.sf_state.specs.declared.state.Live.TheVariants.{Pipeline as LPipeline}
-use Rattle.sf_state.specs.Standing.{Stands, itself, took_over, unborn, recalling, in_turn, recalls, alive, watching, waits_so, recurs_so, continuing_on, continues_so, gathering_on, releases_so, edits_so, was_frozen, Turned, fired_to, continued_to, released_to, ran, went_on, was_alike, settles, Ready, ready, lives_pipeline, StagesStand, last_stands, stage_stands}
+use Rattle.sf_state.specs.Standing.{Stands, itself, took_over, unborn, recalling, mapped, in_turn, recalls, alive, watching, waits_so, recurs_so, continuing_on, continues_so, gathering_on, releases_so, edits_so, was_frozen, Turned, fired_to, continued_to, released_to, ran, went_on, was_alike, settles, Ready, ready, lives_pipeline, StagesStand, last_stands, stage_stands}
 use Rattle.sf_state.specs.Machine.{Machine, machine_network}
 use Rattle.sf_state.proofs.Copies.{pipeline_lives}
 use Rattle.sf_meter.specs.declared.meter.Meter.{Meter}
@@ -95,6 +95,7 @@ module _ (μ : Machine) where
   state_gave : {a : State} {P : Process} {L : Life} → Stands μ a P L → Gave P L
   state_gave (itself (unborn Q)) = ([], not_begun)
   state_gave (itself (recalling (recalls O K))) = (_, O)
+  state_gave (itself (mapped j (settles (ready h O K)))) = (_, O)
   state_gave (itself (in_turn (settles (ready h O K)))) = (_, O)
   state_gave (itself (alive N (settles (ready h O K)))) = (_, O)
   state_gave (itself (watching N (waits_so own S O A))) = (_, O)

@@ -1,7 +1,6 @@
 -- What the steps of a cycle answer: of states, of members, and of what waits for an event.
 use Rattle.std.specs.Prelude.{◌≡◌, ℕ, ◌≤◌, List, ◌∷◌, Option, Some, None, Result, Ok, Err, Vec}
 use Rattle.std.specs.Option.{option_map}
-use Rattle.std.specs.declared.rc.Rc.{Rc}
 use Rattle.std.specs.declared.alloc.Global.{Global}
 use Rattle.sf_value.specs.declared.value.Value.{Value}
 use Rattle.sf_value.specs.Values.{Data, table, first_of, second_of}
@@ -18,6 +17,8 @@ use Rattle.sf_state.specs.declared.state.Gathering.{Gathering}
 use Rattle.sf_state.specs.declared.state.Switch.{Switch}
 use Rattle.sf_state.specs.declared.state.Continuation.{Continuation}
 use Rattle.sf_state.specs.declared.env.Env.{Env}
+use Rattle.sf_state.specs.declared.env.Payload.{Payload}
+use Rattle.sf_state.specs.Names.{bound_value}
 use Rattle.sf_state.specs.Held.{gathered_holding}
 use Rattle.sf_state.specs.Standing.{IsNames, Stands, Waits, WaitsContinuation, WaitsGathered, Gathers, EachStands, StandsAmong, keys_in}
 use Rattle.sf_state.specs.Machine.{Machine, machine_network}
@@ -42,13 +43,13 @@ left_beside (Err e) s d f = Err f
 
 -- What a step gives whose value is taken apart: the first part of that, and the payload of the event beside it, if it occurs; or
 -- the fault that stands in the meter.
-pub data GivesApart {A : Type 0} (Steps : Result (A × Data) Fault → Type 0) (a : A) (f : Fault) : Result (Value × Option (Rc Value Global)) Stop → Type 0 where
-  apart : {x y : Data} {o : Option (Rc Value Global)} → Steps (Ok (a, y)) → x ≡ first_of y → option_map (λ r. r.value) o ≡ occurring (second_of y) → GivesApart Steps a f (Ok (x, o))
+pub data GivesApart {A : Type 0} (Steps : Result (A × Data) Fault → Type 0) (a : A) (f : Fault) : Result (Value × Option Payload) Stop → Type 0 where
+  apart : {x y : Data} {o : Option Payload} → Steps (Ok (a, y)) → x ≡ first_of y → option_map bound_value o ≡ occurring (second_of y) → GivesApart Steps a f (Ok (x, o))
   stopped : {e : Stop} → Steps (Err f) → GivesApart Steps a f (Err e)
 
 -- How a value is taken apart that was given whole: nothing is counted, and what stops is a want of memory.
-pub data TakenApart (y : Data) (n n' : Meter) : Result (Value × Option (Rc Value Global)) Stop → Type 0 where
-  halved : {x : Data} {o : Option (Rc Value Global)} → n' ≡ n → x ≡ first_of y → option_map (λ r. r.value) o ≡ occurring (second_of y) → TakenApart y n n' (Ok (x, o))
+pub data TakenApart (y : Data) (n n' : Meter) : Result (Value × Option Payload) Stop → Type 0 where
+  halved : {x : Data} {o : Option Payload} → n' ≡ n → x ≡ first_of y → option_map bound_value o ≡ occurring (second_of y) → TakenApart y n n' (Ok (x, o))
   not_granted : {e : Stop} → entered_of n' ≡ entered_of n → meter_height n' ≡ meter_height n → meter_fault n' ≡ Memory → TakenApart y n n' (Err e)
 
 -- what switches of a kind wait for, and the lives that they have led

@@ -1,13 +1,18 @@
 //! The parts that step no others: primitives and probes.
-ghost use Rattle.std.specs.Prelude.{◌≡◌, ℕ};
+ghost use Rattle.std.specs.Prelude.{◌≡◌, ℕ, Some, None, IfSome};
+ghost use Rattle.std.specs.declared.rc.Rc.{Rc};
+ghost use Rattle.std.specs.declared.alloc.Global.{Global};
+ghost use Rattle.sf_code.specs.declared.open.OpenCode.{OpenCode};
+ghost use Rattle.sf_law.specs.declared.node.PlanPrimitive as plan_primitives;
+ghost use Rattle.sf_prim.specs.declared.prim_state.PrimState.TheVariants as PrimOf;
 ghost use Rattle.sf_mean.specs.Lives.{step};
 ghost use Rattle.sf_term.specs.Trees.{Term};
-ghost use Rattle.sf_law.specs.Arena.{BuildsPlan, plan_tree};
+ghost use Rattle.sf_law.specs.Arena.{BuildsPlan, plan_tree, plan_node_at, full_id, arrow_code, node_arrow};
 ghost use Rattle.sf_law.specs.declared.node.PlanNode.TheVariants as NodeOf;
 ghost use Rattle.sf_meter.specs.Meters.{left_or, entered_of, meter_fault};
 ghost use Rattle.sf_step.specs.Answering.{PrimSteps, LiveSteps, FirstSteps, TermSteps};
 ghost use Rattle.sf_state.specs.declared.state.State.TheVariants as StateOf;
-ghost use Rattle.sf_state.specs.Standing.{in_sequence, closed_over, AreJoined};
+ghost use Rattle.sf_state.specs.Standing.{in_sequence, behind_arrow, closed_over, AreJoined};
 ghost use Rattle.sf_term.specs.declared.form.Join.TheVariants as Join;
 ghost use Rattle.sf_law.specs.declared.node.PlanId as plan_ids;
 ghost use Rattle.sf_step.specs.Around.{machine_around, plan_around, dt_around};
@@ -16,8 +21,9 @@ ghost use Rattle.sf_begin.specs.Contexts.{context_machine, plan_in, dt_in};
 
 use crate::sample::Around;
 use sf_begin::{SampleContext, fault_of};
+use sf_code::OpenCode;
 use sf_func::Holds;
-use sf_law::PlanPrimitive;
+use sf_law::{PlanId, PlanPrimitive, ShortId};
 use sf_meter::{Meter, Stop};
 use sf_prim::PrimState;
 use sf_state::{Env, Live, NamesIn, Primitives, State};
@@ -131,6 +137,62 @@ fn count_and_step<R: Holds>(
     step_prim(context, prim, value, meter)
 }
 
+/// The same of a primitive on the values of an `arr` of the plan.
+#[inline(never)]
+pub(crate) fn step_mapped<R: Holds>(
+    context: &SampleContext<R>,
+    arrow: ShortId,
+    prim: &mut PrimState,
+    inside: u64,
+    value: &mut Value,
+    meter: &mut Meter,
+) -> Result<(), Stop>
+    ensures { (c : Rc OpenCode Global) → node_arrow (plan_node_at (plan_in context.now) (full_id arrow)) ≡ Some c →
+        LiveSteps (context_machine R.answers context.now) (behind_arrow c prim.old) (step (dt_in context.now) value.old)
+        (left_or result (behind_arrow c prim.new, value.new) (meter_fault meter.new)) meter.old meter.new inside }
+{
+    let Some(code) = context.plan.node(arrow.id()).arrow() else {
+        // such a state stands for nothing
+        return Ok(());
+    };
+    count_and_map(context, code, inside, value, meter)?;
+    count_and_step(context, prim, inside, value, meter)
+}
+
+// The next sample of `arr` of a function, of which the state is this code, which is counted here.
+#[inline(always)]
+fn count_and_map<R: Holds>(
+    context: &SampleContext<R>,
+    code: &Rc<OpenCode>,
+    inside: u64,
+    value: &mut Value,
+    meter: &mut Meter,
+) -> Result<(), Stop>
+    ensures { StateSteps (context_machine R.answers context.now) (StateOf.Primitive (PrimOf.Arrow code.now)) (step (dt_in context.now) value.old)
+        (left_or result (StateOf.Primitive (PrimOf.Arrow code.now), value.new) (meter_fault meter.new)) meter.old meter.new inside }
+{
+    meter.tick(inside)?;
+    step_arrow(context, code, value, meter)
+}
+
+// The same once it has been counted.
+#[inline(always)]
+fn step_arrow<R: Holds>(
+    context: &SampleContext<R>,
+    code: &Rc<OpenCode>,
+    value: &mut Value,
+    meter: &mut Meter,
+) -> Result<(), Stop>
+    ensures entered { entered_of meter.new ≡ entered_of meter.old }
+    ensures answers { PrimSteps (context_machine R.answers context.now) (PrimOf.Arrow code.now) (step (dt_in context.now) value.old)
+        (left_or result (PrimOf.Arrow code.now, value.new) (meter_fault meter.new)) meter.old meter.new }
+{
+    match PrimState::step_arrow(context.alloc, code, context.functions, value) {
+        Ok(()) => Ok(()),
+        Err(fault) => Err(meter.stop(fault_of(fault))),
+    }
+}
+
 /// Puts a primitive after its first sample, with these names around it, in place of a state, and its value in place of the input.
 /// It has been counted. After an error the state stands for nothing, and the value may be any.
 #[inline(never)]
@@ -173,10 +235,88 @@ fn begin_and_step<R: Holds>(
     }
 }
 
-/// Puts two primitives in sequence after their first sample, in one node, in place of a state, and their value in place of the input.
-/// Their node has been counted. After an error the state stands for nothing, and the value may be any.
+/// Puts two primitives in sequence after their first sample in place of a state, and their value in place of the input. Their node
+/// has been counted. The first one is the term of an id. After an error the state stands for nothing, and the value may be any.
+#[inline(always)]
+pub(crate) fn first_two<R: Holds>(
+    around: &Around<R>,
+    state: &mut State,
+    left: PlanId,
+    before: &PlanPrimitive,
+    after: &PlanPrimitive,
+    value: &mut Value,
+    meter: &mut Meter,
+) -> Result<(), Stop>
+    requires { plan_node_at (plan_around around.now) left ≡ NodeOf.Primitive before.now }
+    ensures { let p = plan_around around.now in (right : plan_ids.PlanId) (t : Term) → BuildsPlan p (NodeOf.Primitive before.now) (plan_tree p left) → BuildsPlan p (NodeOf.Primitive after.now) (plan_tree p right) →
+        AreJoined Join.InSequence (plan_tree p left) (plan_tree p right) t → TermSteps (machine_around R.answers around.now) t around.now.names.now (step (dt_around around.now) value.old)
+        (left_or result (state.new, value.new) (meter_fault meter.new)) meter.old meter.new around.now.inside }
+{
+    if let Some(code) = bare_code(before) {
+        if let Some(arrow) = left.short() {
+            return first_mapped(around, state, arrow, code, after, value, meter);
+        }
+    }
+    first_primitives(around, state, before, after, value, meter)
+}
+
+// The code of `arr` of a function without names around it; none of another primitive.
+#[inline(always)]
+fn bare_code(primitive: &PlanPrimitive) -> Option<&Rc<OpenCode>>
+    ensures { IfSome result (λ code. (arrow_code primitive.now ≡ Some code.now) × (code.now.value.around ≡ None)) }
+{
+    let code = primitive.arrow()?;
+    match &code.around {
+        None => Some(code),
+        Some(_) => None,
+    }
+}
+
+// The same where the first one is `arr` of a function without names around it, of this code: in the state itself.
 #[inline(never)]
-pub(crate) fn first_primitives<R: Holds>(
+fn first_mapped<R: Holds>(
+    around: &Around<R>,
+    state: &mut State,
+    arrow: ShortId,
+    code: &Rc<OpenCode>,
+    after: &PlanPrimitive,
+    value: &mut Value,
+    meter: &mut Meter,
+) -> Result<(), Stop>
+    requires bare { code.now.value.around ≡ None }
+    requires stands { node_arrow (plan_node_at (plan_around around.now) (full_id arrow)) ≡ Some code.now }
+    ensures { let p = plan_around around.now in (q : plan_primitives.PlanPrimitive) (right : plan_ids.PlanId) (t : Term) → arrow_code q ≡ Some code.now →
+        BuildsPlan p (NodeOf.Primitive q) (plan_tree p (full_id arrow)) → BuildsPlan p (NodeOf.Primitive after.now) (plan_tree p right) →
+        AreJoined Join.InSequence (plan_tree p (full_id arrow)) (plan_tree p right) t → TermSteps (machine_around R.answers around.now) t around.now.names.now (step (dt_around around.now) value.old)
+        (left_or result (state.new, value.new) (meter_fault meter.new)) meter.old meter.new around.now.inside }
+{
+    let mut prim = PrimState::Identity;
+    first_map(around, code, value, meter)?;
+    first_of_both(around, &mut prim, after, value, meter)?;
+    state.put(State::Mapped(arrow, prim));
+    Ok(())
+}
+
+// The first sample of such an `arr`, which is counted here.
+#[inline(always)]
+fn first_map<R: Holds>(
+    around: &Around<R>,
+    code: &Rc<OpenCode>,
+    value: &mut Value,
+    meter: &mut Meter,
+) -> Result<(), Stop>
+    requires bare { code.now.value.around ≡ None }
+    ensures { let p = plan_around around.now in (q : plan_primitives.PlanPrimitive) (term : plan_ids.PlanId) → arrow_code q ≡ Some code.now → BuildsPlan p (NodeOf.Primitive q) (plan_tree p term) →
+        StateSteps (machine_around R.answers around.now) (StateOf.Unborn (closed_over term around.now.names.now)) (step (dt_around around.now) value.old)
+        (left_or result (StateOf.Primitive (PrimOf.Arrow code.now), value.new) (meter_fault meter.new)) meter.old meter.new around.now.inside }
+{
+    meter.tick(around.inside)?;
+    step_arrow(around.context, code, value, meter)
+}
+
+// The same in one node.
+#[inline(never)]
+fn first_primitives<R: Holds>(
     around: &Around<R>,
     state: &mut State,
     before: &PlanPrimitive,

@@ -8,8 +8,9 @@ ghost use Rattle.sf_mean.specs.Formulas.{occurring};
 ghost use Rattle.sf_mean.specs.Meaning.{switched_value};
 ghost use Rattle.sf_state.specs.Standing.{IsNames, Settles, Stands};
 ghost use Rattle.sf_state.specs.Machine.{Machine};
+ghost use Rattle.sf_state.specs.Names.{bound_value};
 
-use sf_state::{Env, Live, State};
+use sf_state::{Env, Live, Payload, State};
 use sf_term::Observation;
 use sf_value::{Form, Value, ValueFault};
 use std::alloc::{AllocError, Global};
@@ -22,8 +23,8 @@ use std::rc::Rc;
 pub(crate) fn value_and_payload(
     alloc: Global,
     value: &mut Value,
-) -> Result<(Value, Option<Rc<Value>>), AllocError>
-    ensures { IfOk result (λ x. (x.0 ≡ first_of value.old) × (option_map (λ r. r.value) x.1 ≡ occurring (second_of value.old))) }
+) -> Result<(Value, Option<Payload>), AllocError>
+    ensures { IfOk result (λ x. (x.0 ≡ first_of value.old) × (option_map bound_value x.1 ≡ occurring (second_of value.old))) }
 {
     let both = mem::replace(value, Value::int(0));
     let (first, event) = both.into_halves(alloc)?;
@@ -32,11 +33,12 @@ pub(crate) fn value_and_payload(
 
 /// The payload of an event that occurs, which may be shared; none of another value.
 #[inline(always)]
-pub(crate) fn payload_of(event: Value) -> Option<Rc<Value>>
-    ensures { option_map (λ x. x.value) result ≡ occurring event }
+pub(crate) fn payload_of(event: Value) -> Option<Payload>
+    ensures { option_map bound_value result ≡ occurring event }
 {
     match event.into_form() {
-        Form::Event(payload) => Some(payload),
+        Form::UnitEvent => Some(Payload::Own(Value::unit())),
+        Form::Event(payload) => Some(Payload::Shared(payload)),
         _ => None,
     }
 }

@@ -27,7 +27,8 @@ ghost use Rattle.sf_step.specs.Stepping.{Steps};
 ghost use Rattle.sf_step.specs.Routing.{observation_of};
 
 use crate::leaves::{
-    first_primitive, first_primitives, step_prim, step_prim_inline, step_primitives, step_probe,
+    first_primitive, first_two, step_mapped, step_prim, step_prim_inline, step_primitives,
+    step_probe,
 };
 use crate::routing::{
     beside, copies, hold_back, payload_of, put_first, put_last, put_live, show, take_over,
@@ -42,8 +43,8 @@ use sf_law::{Plan, PlanArgument, PlanContinuation, PlanId, PlanNode, PlanSwitch,
 use sf_meter::{Meter, Stop};
 use sf_probe::Readings;
 use sf_state::{
-    Continuation, Editing, Env, Feedback, Gathered, Gathering, Live, Process, Releasing, State,
-    Switch, Wrap, hold_back_members, own_states,
+    Continuation, Editing, Env, Feedback, Gathered, Gathering, Live, Payload, Process, Releasing,
+    State, Switch, Wrap, hold_back_members, own_states,
 };
 use sf_term::{Join, Observation, Start, Switching};
 use sf_value::{Fault, Keys, Value, ValueFault};
@@ -132,6 +133,10 @@ fn step_state<R: Holds>(
         State::Primitive(prim) => {
             meter.tick(depth)?;
             step_prim(context, prim, value, meter)
+        }
+        State::Mapped(arrow, prim) => {
+            let inside = meter.tick(depth)?;
+            step_mapped(context, *arrow, prim, inside, value, meter)
         }
         State::Primitives(node) => {
             let inside = meter.tick(depth)?;
@@ -301,7 +306,7 @@ fn first_other<R: Holds>(
 
 // The same of a call: its template is stepped, among its own names.
 #[cycle(step)]
-#[inline(always)]
+#[inline(never)]
 fn first_of_call<R: Holds>(
     around: &Around<R>,
     state: &mut State,
@@ -333,7 +338,7 @@ fn first_of_call<R: Holds>(
 
 // The same of the process of a name, which is stepped where it stood.
 #[cycle(step)]
-#[inline(always)]
+#[inline(never)]
 fn first_of_process<R: Holds>(
     around: &Around<R>,
     state: &mut State,
@@ -534,7 +539,7 @@ fn first_sequence<R: Holds>(
     let plan = around.context.plan;
     if let PlanNode::Primitive(before) = plan.node(left) {
         if let PlanNode::Primitive(after) = plan.node(right) {
-            return first_primitives(around, state, before, after, value, meter);
+            return first_two(around, state, left, before, after, value, meter);
         }
     }
     let mut live = Live::Join(Join::InSequence, State::unborn(left), State::unborn(right));
@@ -608,7 +613,7 @@ fn step_unborn_apart<R: Holds>(
     depth: u64,
     value: &mut Value,
     meter: &mut Meter,
-) -> Result<(Value, Option<Rc<Value>>), Stop>
+) -> Result<(Value, Option<Payload>), Stop>
     requires unborn { IsFalse (is_awake state.old) }
     requires thawed { IsFalse (is_frozen state.old) }
     ensures { GivesApart (λ gives. StateSteps (context_machine R.answers context.now) state.old (step (dt_in context.now) value.old) gives meter.old meter.new depth)
@@ -636,7 +641,7 @@ fn first_apart<R: Holds>(
     term: PlanId,
     value: &mut Value,
     meter: &mut Meter,
-) -> Result<(Value, Option<Rc<Value>>), Stop>
+) -> Result<(Value, Option<Payload>), Stop>
     ensures { GivesApart (λ gives. StateSteps (machine_around R.answers around.now) (StateOf.Unborn (closed_over term around.now.names.now)) (step (dt_around around.now) value.old) gives meter.old meter.new around.now.inside)
         state.new (meter_fault meter.new) result }
 {
@@ -702,6 +707,7 @@ fn step_counted<R: Holds>(
 {
     match state {
         State::Primitive(prim) => step_prim(context, prim, value, meter),
+        State::Mapped(arrow, prim) => step_mapped(context, *arrow, prim, inside, value, meter),
         State::Primitives(node) => step_primitives(context, node, inside, value, meter),
         State::Live(_, node) => step_node(context, node, inside, value, meter),
         State::Switch(names, node) => {
@@ -1402,7 +1408,7 @@ fn step_apart<R: Holds>(
     depth: u64,
     value: &mut Value,
     meter: &mut Meter,
-) -> Result<(Value, Option<Rc<Value>>), Stop>
+) -> Result<(Value, Option<Payload>), Stop>
     ensures { GivesApart (λ gives. StateSteps (context_machine R.answers context.now) state.old (step (dt_in context.now) value.old) gives meter.old meter.new depth)
         state.new (meter_fault meter.new) result }
 {
@@ -1428,7 +1434,7 @@ fn step_node_apart<R: Holds>(
     inside: u64,
     value: &mut Value,
     meter: &mut Meter,
-) -> Result<(Value, Option<Rc<Value>>), Stop>
+) -> Result<(Value, Option<Payload>), Stop>
     ensures { GivesApart (λ gives. LiveSteps (context_machine R.answers context.now) node.old.value (step (dt_in context.now) value.old) gives meter.old meter.new inside)
         node.new.value (meter_fault meter.new) result }
 {
@@ -1450,7 +1456,7 @@ fn step_live_apart<R: Holds>(
     inside: u64,
     value: &mut Value,
     meter: &mut Meter,
-) -> Result<(Value, Option<Rc<Value>>), Stop>
+) -> Result<(Value, Option<Payload>), Stop>
     ensures { GivesApart (λ gives. LiveSteps (context_machine R.answers context.now) live.old (step (dt_in context.now) value.old) gives meter.old meter.new inside)
         live.new (meter_fault meter.new) result }
 {
@@ -1474,7 +1480,7 @@ fn step_sequence_apart<R: Holds>(
     inside: u64,
     value: &mut Value,
     meter: &mut Meter,
-) -> Result<(Value, Option<Rc<Value>>), Stop>
+) -> Result<(Value, Option<Payload>), Stop>
     ensures { GivesApart (λ gives. LiveSteps (context_machine R.answers context.now) (Live.Join Join.InSequence left.old right.old) (step (dt_in context.now) value.old) gives meter.old meter.new inside)
         (Live.Join Join.InSequence left.new right.new) (meter_fault meter.new) result }
 {
@@ -1492,7 +1498,7 @@ fn step_parallel_apart<R: Holds>(
     inside: u64,
     value: &mut Value,
     meter: &mut Meter,
-) -> Result<(Value, Option<Rc<Value>>), Stop>
+) -> Result<(Value, Option<Payload>), Stop>
     ensures { GivesApart (λ gives. LiveSteps (context_machine R.answers context.now) (Live.Join Join.InParallel left.old right.old) (step (dt_in context.now) value.old) gives meter.old meter.new inside)
         (Live.Join Join.InParallel left.new right.new) (meter_fault meter.new) result }
 {
@@ -1509,7 +1515,7 @@ fn step_whole<R: Holds>(
     inside: u64,
     value: &mut Value,
     meter: &mut Meter,
-) -> Result<(Value, Option<Rc<Value>>), Stop>
+) -> Result<(Value, Option<Payload>), Stop>
     ensures { GivesApart (λ gives. LiveSteps (context_machine R.answers context.now) live.old (step (dt_in context.now) value.old) gives meter.old meter.new inside)
         live.new (meter_fault meter.new) result }
 {
@@ -1527,7 +1533,7 @@ fn step_fan_apart<R: Holds>(
     inside: u64,
     value: &mut Value,
     meter: &mut Meter,
-) -> Result<(Value, Option<Rc<Value>>), Stop>
+) -> Result<(Value, Option<Payload>), Stop>
     ensures { GivesApart (λ gives. LiveSteps (context_machine R.answers context.now) (Live.Join Join.FannedOut left.old right.old) (step (dt_in context.now) value.old) gives meter.old meter.new inside)
         (Live.Join Join.FannedOut left.new right.new) (meter_fault meter.new) result }
 {
@@ -1544,7 +1550,7 @@ fn taken_apart(
     alloc: Global,
     value: &mut Value,
     meter: &mut Meter,
-) -> Result<(Value, Option<Rc<Value>>), Stop>
+) -> Result<(Value, Option<Payload>), Stop>
     ensures { TakenApart value.old meter.old meter.new result }
 {
     let halves = granted!(meter, value_and_payload(alloc, value));

@@ -48,7 +48,7 @@ const TABLES: &[u8] =
 fn owners(state: &State) -> usize {
     match state {
         State::Unborn(_) => 0,
-        State::Primitive(_) => 1,
+        State::Primitive(_) | State::Mapped(_, _) => 1,
         State::Primitives(node) => Rc::strong_count(node),
         State::Live(_, node) => Rc::strong_count(node),
         State::Switch(_, node) => Rc::strong_count(node),

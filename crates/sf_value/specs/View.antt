@@ -1,11 +1,11 @@
 -- The data that a `Value` stands for.
-use Rattle.std.specs.Prelude.{◌≡◌, List, [], ◌∷◌, length, IsTrue, ⊤, string_bytes}
+use Rattle.std.specs.Prelude.{◌≡◌, ◌≢◌, List, [], ◌∷◌, length, IsTrue, ⊤, string_bytes}
 use Rattle.std.specs.Str.{IsUtf8}
 use Rattle.sf_value.specs.Values.{KeyData, Data, unit, truth, number, text, pair, no_event, event, table, Rows, no_rows, row, is_narrow, HasDifferentKeys}
 pub use Rattle.sf_value.specs.Keys.{key_of}
 use Rattle.sf_value.specs.declared.value.Key.{Key}
 use Rattle.sf_value.specs.declared.value.Form.{Form}
-use Rattle.sf_value.specs.declared.value.Form.TheVariants.{Unit, Bool, Int, Text, Pair, NoEvent, Event, Table}
+use Rattle.sf_value.specs.declared.value.Form.TheVariants.{Unit, Bool, Int, Text, Pair, NoEvent, UnitEvent, Event, Table}
 
 -- the rows of a list
 abbrev pub rows_of : List (Key × Data) → Rows
@@ -26,6 +26,7 @@ data_of (Int z) = number z
 data_of (Text s) = text (string_bytes s.value)
 data_of (Pair x) = pair x.value.first x.value.second
 data_of NoEvent = no_event
+data_of UnitEvent = event unit
 data_of (Event x) = event x.value
 data_of (Table t) = table (keyed_rows t.value.keys.value t.value.values.items)
 
@@ -36,7 +37,8 @@ IsProper (text s) = IsUtf8 s
 IsProper (table rs) = HasDifferentKeys rs
 IsProper d = ⊤
 
--- a table has as many values as keys
+-- a table has as many values as keys, and an event that has a node carries something
 abbrev pub IsFilled : Form → Type 0
 IsFilled (Table t) = length t.value.keys.value ≡ length t.value.values.items
+IsFilled (Event x) = x.value ≢ unit
 IsFilled f = ⊤

@@ -1,7 +1,7 @@
 //! Comparisons of values with values and with types.
 ghost use Rattle.std.specs.Prelude.{◌≡◌, ◌↔◌, IsTrue, map};
 ghost use Rattle.std.specs.List.{AllByRecursion};
-ghost use Rattle.sf_value.specs.Values.{number_key, text_key, HasKind, HasKeyKind};
+ghost use Rattle.sf_value.specs.Values.{unit, number_key, text_key, HasKind, HasKeyKind};
 ghost use Rattle.sf_value.specs.View.{key_of};
 ghost use Rattle.sf_value.specs.KindView.{key_kind_of};
 
@@ -20,6 +20,7 @@ pub fn same(a: &Value, b: &Value) -> bool
         (Form::Text(x), Form::Text(y)) => x.as_str() == y.as_str(),
         (Form::Pair(x), Form::Pair(y)) => same(&x.first, &y.first) && same(&x.second, &y.second),
         (Form::NoEvent, Form::NoEvent) => true,
+        (Form::UnitEvent, Form::UnitEvent) => true,
         (Form::Event(x), Form::Event(y)) => same(x, y),
         (Form::Table(x), Form::Table(y)) => {
             same_keys(x.keys.all(), y.keys.all()) && same_values(&x.values, &y.values)
@@ -82,10 +83,21 @@ pub fn has_type(value: &Value, ty: &Ty) -> bool
         (Form::Text(_), TyForm::Text) => true,
         (Form::Pair(x), TyForm::Pair(t, u)) => has_type(&x.first, t) && has_type(&x.second, u),
         (Form::NoEvent, TyForm::Event(_)) => true,
+        (Form::UnitEvent, TyForm::Event(t)) => is_unit_type(t),
         (Form::Event(x), TyForm::Event(t)) => has_type(x, t),
         (Form::Table(x), TyForm::Table(k, t)) => {
             have_key_type(x.keys.all(), *k) && have_type(&x.values, t)
         }
+        _ => false,
+    }
+}
+
+// Whether the unit has a type.
+fn is_unit_type(ty: &Ty) -> bool
+    ensures { IsTrue result ↔ HasKind unit ty.now }
+{
+    match &ty.form {
+        TyForm::Unit => true,
         _ => false,
     }
 }

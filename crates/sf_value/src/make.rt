@@ -78,10 +78,15 @@ impl Value {
         }
     }
 
-    /// An event with a payload.
+    /// An event with a payload. That of the unit takes no memory.
     pub fn event(alloc: Global, payload: Value) -> Result<Value, AllocError>
         ensures { IfOk result (λ v. v ≡ event payload) }
     {
+        if let Form::Unit = payload.form() {
+            return Ok(Value {
+                form: Form::UnitEvent,
+            });
+        }
         let payload = Rc::new(alloc, payload)?;
         Ok(Value {
             form: Form::Event(payload),
@@ -107,6 +112,7 @@ impl Value {
             Form::Bool(b) => Form::Bool(*b),
             Form::Int(n) => Form::Int(*n),
             Form::NoEvent => Form::NoEvent,
+            Form::UnitEvent => Form::UnitEvent,
             // what holds something takes a call
             _ => return self.shared(),
         };
@@ -125,6 +131,7 @@ impl Value {
             Form::Text(s) => Form::Text(s.clone()?),
             Form::Pair(halves) => Form::Pair(halves.clone()?),
             Form::NoEvent => Form::NoEvent,
+            Form::UnitEvent => Form::UnitEvent,
             Form::Event(payload) => Form::Event(payload.clone()?),
             Form::Table(rows) => Form::Table(rows.clone()?),
         };

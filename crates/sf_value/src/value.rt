@@ -34,7 +34,7 @@ impl Drop for Value {
         let Value { form } = self;
         match form {
             // what holds nothing needs no call
-            Form::Unit | Form::Bool(_) | Form::Int(_) | Form::NoEvent => {}
+            Form::Unit | Form::Bool(_) | Form::Int(_) | Form::NoEvent | Form::UnitEvent => {}
             form => drop(form),
         }
     }
@@ -56,7 +56,9 @@ pub enum Form {
     Pair(Rc<Pair>),
     /// No event.
     NoEvent,
-    /// An event with its payload.
+    /// An event of the unit, which needs no node.
+    UnitEvent,
+    /// An event with its payload, which is not the unit.
     Event(Rc<Value>),
     /// Values under keys, in order.
     Table(Rc<Table>),

@@ -2,21 +2,20 @@ use Rattle.std.proofs.Common.{sym, subst, ap, ◌∙◌}
 use Rattle.sf_expr.specs.Arena.{name_at, stored_pattern}
 use Rattle.sf_expr.specs.Patterns.{pattern_of}
 use Rattle.sf_law.specs.Arena.{plan_expressions}
-use Rattle.sf_mean.specs.Lives.{bind, known, collected}
+use Rattle.sf_mean.specs.Lives.{bind, collected}
 use Rattle.sf_state.specs.Standing.{IsNames, IsHanded}
 use Rattle.sf_state.specs.Machine.{machine}
 use Rattle.sf_begin.proofs.Arguments.{value_inside, process_inside, members_inside}
 use Rattle.sf_begin.proofs.References.{when_ok}
 use Rattle.sf_begin.proofs.calling.bind.Goals as goal
 
-pub returns-in_ok-shared-in-Value : goal.returns-in_ok-shared-in-Value
-returns-in_ok-shared-in-Value g c = when_ok c.inside.result (λ inner h φ d e M G.
+pub returns-in-Value : goal.returns-in-Value
+returns-in-Value g c = when_ok c.inside.result (λ inner h φ d e M G.
     let p = c.args.context.now.plan.now in
     let x = plan_expressions p in
-    let w = c.in_ok-shared-in-Value.shared.value in
-    let name = name_at x c.args.parameter.now.name in
-    value_inside (machine φ p) name c.args.bound.now inner c.in-Value.value (λ d M.
-    subst (λ b. IsNames (machine φ p) inner b) (ap (λ i. bind (pattern_of (stored_pattern x i)) w d) c.pattern.ensures ∙ ap (λ r. bind r w d) c.requires ∙ ap (λ v. known name v d) c.in_ok-shared-in-Value.ensures.ok) (h φ d M)) d e M (rw c.in-Value.is at G)) c.inside.ensures
+    let w = c.in-Value.value in
+    value_inside (machine φ p) (name_at x c.args.parameter.now.name) c.args.bound.now inner w (λ d M.
+    subst (λ b. IsNames (machine φ p) inner b) (ap (λ i. bind (pattern_of (stored_pattern x i)) w d) c.pattern.ensures ∙ ap (λ r. bind r w d) c.requires) (h φ d M)) d e M (rw c.in-Value.is at G)) c.inside.ensures
 
 pub returns-in-Process : goal.returns-in-Process
 returns-in-Process g c = when_ok c.with_process.result (λ inner h φ d e M G.

@@ -17,6 +17,7 @@ use Rattle.sf_state.specs.declared.state.State.{State}
 use Rattle.sf_state.specs.declared.state.State.TheVariants.{Unborn}
 use Rattle.sf_state.specs.declared.state.Gathered.{Gathered}
 use Rattle.sf_state.specs.Held.{held_as}
+use Rattle.sf_state.specs.Names.{bound_value}
 use Rattle.sf_state.specs.Standing.{Stands, AllFollow, frozen_state, worth_given, closed_over, itself, unborn, is_closure, watching, continuing_on, Waits, WaitsContinuation, WaitsGathered}
 use Rattle.sf_begin.specs.Contexts.{context_machine}
 use Rattle.sf_expr.specs.Evaluation.{answer}
@@ -35,7 +36,7 @@ use Rattle.sf_step.specs.Routing.{observation_of}
 use Rattle.sf_state.proofs.Copies.{list_follows}
 use Rattle.sf_step.proofs.Parts.{pass_exit, pass_apart, failed, own_halves, gives_value, gives_no_value, stops_apart, apart_as, taken}
 use Rattle.sf_step.proofs.Stages.{StagesStep, continues_first, continues_next, continues_fails, continues_last, pipeline_steps, pipeline_fails}
-use Rattle.sf_step.proofs.Exits.{primitives_counted, primitives_are, ticked_by, tick_fails, first_memory, join_left_fails, join_right_fails, join_steps, join_last, wrap_fails, wrap_steps, wrap_faults, wrap_last, late_memory, late_part, late_waiting, waits_alike, primitive_counted, live_counted, own_steps, primitive_is, live_is, awake_is, counted_steps, live_apart, first_counted, term_counted, begun_steps, begun_fails, late_term, joined_fails, joined_late, joined_steps}
+use Rattle.sf_step.proofs.Exits.{mapped_counted, mapped_is, primitives_counted, primitives_are, ticked_by, tick_fails, first_memory, join_left_fails, join_right_fails, join_steps, join_last, wrap_fails, wrap_steps, wrap_faults, wrap_last, late_memory, late_part, late_waiting, waits_alike, primitive_counted, live_counted, own_steps, primitive_is, live_is, awake_is, counted_steps, live_apart, first_counted, term_counted, begun_steps, begun_fails, late_term, joined_fails, joined_late, joined_steps}
 use Rattle.sf_step.proofs.Recurring.{run_fails, run_memory, new_fails, new_runs, runs_alone}
 use Rattle.sf_step.proofs.FirstSwitches.{new_switch, new_continuation, switch_waits, continuation_waits, term_over, term_on}
 use Rattle.sf_step.proofs.Switches.{source_fails, switch_memory, switch_waits_on, body_fails, body_takes_over}
@@ -59,6 +60,9 @@ there_is e = subst IsOk (sym e) refl
 pub step_state-returns-in_err-tick-in-Primitive : goal.step_state-returns-in_err-tick-in-Primitive
 step_state-returns-in_err-tick-in-Primitive g t c = λ P L A. pass_exit _ _ c.from_residual.ensures.0 (tick_fails (context_machine g.R.Holds.answers c.args.context.now) P _ c.in_err-tick-in-Primitive.ensures.ticked)
 
+pub step_state-returns-in_err-inside-in-Mapped : goal.step_state-returns-in_err-inside-in-Mapped
+step_state-returns-in_err-inside-in-Mapped g t c = λ P L A. pass_exit _ _ c.from_residual-in_err-inside-in-Mapped.ensures.0 (tick_fails (context_machine g.R.Holds.answers c.args.context.now) P _ c.in_err-inside-in-Mapped.ensures.ticked)
+
 pub step_state-returns-in_err-inside-in-Primitives : goal.step_state-returns-in_err-inside-in-Primitives
 step_state-returns-in_err-inside-in-Primitives g t c = λ P L A. pass_exit _ _ c.from_residual-in_err-inside-in-Primitives.ensures.0 (tick_fails (context_machine g.R.Holds.answers c.args.context.now) P _ c.in_err-inside-in-Primitives.ensures.ticked)
 
@@ -72,6 +76,12 @@ pub step_state-returns-in_ok-tick-in-Primitive : goal.step_state-returns-in_ok-t
 step_state-returns-in_ok-tick-in-Primitive g t c = λ P L A.
     counted_steps (context_machine g.R.Holds.answers c.args.context.now) _ _ _ (ticked_by c.in_ok-tick-in-Primitive.ensures.ticked) (primitive_is (context_machine g.R.Holds.answers c.args.context.now) c.in-Primitive.prim)
     (primitive_counted (context_machine g.R.Holds.answers c.args.context.now) c.in-Primitive.prim c.step_prim.new.prim _ c.step_prim.new.value c.step_prim.result _ c.step_prim.ensures.answers) P L (rw c.in-Primitive.is at A)
+
+pub step_state-returns-in_ok-inside-in-Mapped : goal.step_state-returns-in_ok-inside-in-Mapped
+step_state-returns-in_ok-inside-in-Mapped g t c = λ P L A.
+    let μ = context_machine g.R.Holds.answers c.args.context.now in
+    counted_steps μ _ _ _ (ticked_by c.in_ok-inside-in-Mapped.ensures.ticked) (mapped_is μ c.in-Mapped.arrow c.in-Mapped.prim)
+    (mapped_counted μ c.in-Mapped.arrow c.in-Mapped.prim c.step_mapped.new.prim _ c.step_mapped.new.value c.step_mapped.result _ c.step_mapped.ensures) P L (rw c.in-Mapped.is at A)
 
 pub step_state-returns-in_ok-inside-in-Primitives : goal.step_state-returns-in_ok-inside-in-Primitives
 step_state-returns-in_ok-inside-in-Primitives g t c = λ P L A.
@@ -114,6 +124,10 @@ step_node_copy-returns g t c =
 pub step_counted-returns-in-Primitive : goal.step_counted-returns-in-Primitive
 step_counted-returns-in-Primitive g t c = λ m depth t P L A.
     primitive_counted (context_machine g.R.Holds.answers c.args.context.now) c.in-Primitive.prim c.step_prim.new.prim _ c.step_prim.new.value c.step_prim.result _ c.step_prim.ensures.answers m depth t P L (rw c.in-Primitive.is at A)
+
+pub step_counted-returns-in-Mapped : goal.step_counted-returns-in-Mapped
+step_counted-returns-in-Mapped g t c = λ m depth t P L A.
+    mapped_counted (context_machine g.R.Holds.answers c.args.context.now) c.in-Mapped.arrow c.in-Mapped.prim c.step_mapped.new.prim _ c.step_mapped.new.value c.step_mapped.result _ c.step_mapped.ensures m depth t P L (rw c.in-Mapped.is at A)
 
 pub step_counted-returns-in-Primitives : goal.step_counted-returns-in-Primitives
 step_counted-returns-in-Primitives g t c = λ m depth t P L A.
@@ -303,7 +317,7 @@ first_of_process-returns g t c = λ u B.
 -- ## first_sequence
 
 pub first_sequence-returns-in-Primitive-node : goal.first_sequence-returns-in-Primitive-node
-first_sequence-returns-in-Primitive-node g t c = λ u J. c.first_primitives.ensures c.args.left c.args.right u (rw c.in-Primitive.is at c.node.ensures.builds) (rw c.in-Primitive-node.is at c.node-in-Primitive.ensures.builds) J
+first_sequence-returns-in-Primitive-node g t c = λ u J. c.first_two.ensures c.args.right u (rw c.in-Primitive.is at c.node.ensures.builds) (rw c.in-Primitive-node.is at c.node-in-Primitive.ensures.builds) J
 
 pub first_sequence-returns-in_err-first_step : goal.first_sequence-returns-in_err-first_step
 first_sequence-returns-in_err-first_step g t c = λ u J m depth T e N.
@@ -488,7 +502,7 @@ first_basic-returns-in_err-first_step-in-Some g t c = λ u B m depth T e N.
     let names = c.args.around.now.names.now in
     let h = gives_value c.in_ok-old.ensures in
     pass_exit _ _ c.from_residual-in_err-first_step-in-Some.ensures.0 (body_fails μ names (new_switch s names) (observation_of s.form) c.requires (step (dt_around c.args.around.now) c.args.value.now) c.args.meter.now c.first_apart.new.meter c.args.around.now.inside
-    c.first_apart.new.state h.y h.steps c.in-Some.payload.value (some_occurs _ c.in_ok-old.occurring c.in-Some.payload (second_of h.y) h.event c.in-Some.is)
+    c.first_apart.new.state h.y h.steps (bound_value c.in-Some.payload) (some_occurs _ c.in_ok-old.occurring c.in-Some.payload (second_of h.y) h.event c.in-Some.is)
     _ (λ e N. itself (unborn (is_closure (alike_itself _) (c.in-Ok-inside.ensures μ.answers e N)))) c.first_step.new.meter _ (rw c.in-Ok.ensures at c.in_err-first_step-in-Some.ensures) m depth T u e [] N (switch_waits μ s u names B e N))
 
 pub first_basic-returns-in_ok-first_step-in-Some : goal.first_basic-returns-in_ok-first_step-in-Some
@@ -499,7 +513,7 @@ first_basic-returns-in_ok-first_step-in-Some g t c = λ u B.
     let h = gives_value c.in_ok-old.ensures in
     term_over μ (Waits μ) names (new_switch s names) u (switch_waits μ s u names B)
     (body_takes_over μ names (new_switch s names) (observation_of s.form) c.requires (step (dt_around c.args.around.now) c.args.value.now) c.args.meter.now c.first_apart.new.meter c.args.around.now.inside
-    c.first_apart.new.state h.y h.steps c.in-Some.payload.value (some_occurs _ c.in_ok-old.occurring c.in-Some.payload (second_of h.y) h.event c.in-Some.is)
+    c.first_apart.new.state h.y h.steps (bound_value c.in-Some.payload) (some_occurs _ c.in_ok-old.occurring c.in-Some.payload (second_of h.y) h.event c.in-Some.is)
     _ (λ e N. itself (unborn (is_closure (alike_itself _) (c.in-Ok-inside.ensures μ.answers e N)))) c.first_step.new.meter
     c.first_step.new.state c.first_step.new.value _ (rw c.shown_by.ensures at c.show.ensures ∙ ap (λ d. switched_value (observation_of s.form) d c.first_step.new.value) h.first) (new_switch s names)
     (rw c.in-Ok.ensures at c.in_ok-first_step-in-Some.ensures))
@@ -623,7 +637,7 @@ first_continuing-returns-in_err-first_step-in-Some g t c = λ u B m depth T e N.
     let k = new_continuation c.args.form.now c.in-Ok.value (Unborn c.in-Ok.value) names in
     pass_exit _ _ c.from_residual-in_err-first_step-in-Some.ensures.0 (kept_body_fails μ names k d x c.args.meter.now c.first_step.new.meter c.args.around.now.inside
     c.first_step.new.state c.first_step.new.value c.in_ok-first_step.ensures c.in-Ok-beside.value (rw c.in-Ok-copies.ensures.0 at c.in-Ok-beside.ensures) c.first_step-2.new.meter
-    c.first_step-2.new.state c.first_step-2.new.value c.in_ok-first_step-2.ensures c.in-Some.payload.value (some_occurs _ c.payload_of.result c.in-Some.payload c.first_step-2.new.value c.payload_of.ensures c.in-Some.is)
+    c.first_step-2.new.state c.first_step-2.new.value c.in_ok-first_step-2.ensures (bound_value c.in-Some.payload) (some_occurs _ c.payload_of.result c.in-Some.payload c.first_step-2.new.value c.payload_of.ensures c.in-Some.is)
     (Unborn c.in-Ok-begin.value) (c.in-Ok-begin.ensures μ.answers) c.in-Ok-copies.value.1 c.in-Ok-copies.ensures.1 c.first_step-in-Some.new.meter
     _ c.in_err-first_step-in-Some.ensures m depth T u e [] N (continuation_waits μ c.args.form.now u c.in-Ok.value (Unborn c.in-Ok.value) names B e N (c.in-Ok.ensures μ.answers e N)))
 
@@ -637,7 +651,7 @@ first_continuing-returns-in_ok-first_step-in-Some g t c = λ u B.
     term_over μ (WaitsContinuation μ) names k u (λ e N. continuation_waits μ c.args.form.now u c.in-Ok.value (Unborn c.in-Ok.value) names B e N (c.in-Ok.ensures μ.answers e N))
     (continuation_takes_over μ names k d x c.args.meter.now c.first_step.new.meter c.args.around.now.inside
     c.first_step.new.state c.first_step.new.value c.in_ok-first_step.ensures c.in-Ok-beside.value (rw c.in-Ok-copies.ensures.0 at c.in-Ok-beside.ensures) c.first_step-2.new.meter
-    c.first_step-2.new.state c.first_step-2.new.value c.in_ok-first_step-2.ensures c.in-Some.payload.value (some_occurs _ c.payload_of.result c.in-Some.payload c.first_step-2.new.value c.payload_of.ensures c.in-Some.is)
+    c.first_step-2.new.state c.first_step-2.new.value c.in_ok-first_step-2.ensures (bound_value c.in-Some.payload) (some_occurs _ c.payload_of.result c.in-Some.payload c.first_step-2.new.value c.payload_of.ensures c.in-Some.is)
     (Unborn c.in-Ok-begin.value) (c.in-Ok-begin.ensures μ.answers) c.in-Ok-copies.value.1 c.in-Ok-copies.ensures.1 c.first_step-in-Some.new.meter
     c.first_step-in-Some.new.state c.first_step-in-Some.new.value _ c.show.ensures k c.in_ok-first_step-in-Some.ensures)
 
@@ -674,14 +688,14 @@ pub step_basic-returns-in_err-body-in-Some : goal.step_basic-returns-in_err-body
 step_basic-returns-in_err-body-in-Some g t c = λ m depth t T e L N W.
     let h = gives_value c.in_ok-old.ensures in
     pass_beside (context_machine g.R.Holds.answers c.args.context.now) _ _ _ c.from_residual-in_err-body-in-Some.ensures.0 (body_fails (context_machine g.R.Holds.answers c.args.context.now) c.args.names.now c.args.switch.now (observation_of c.args.switch.now.form) c.requires.form (step c.args.context.now.dt c.args.value.now) c.args.meter.now c.step_apart.new.meter c.args.inside
-    c.step_apart.new.state h.y h.steps c.in-Some.payload.value (some_occurs _ c.in_ok-old.occurring c.in-Some.payload (second_of h.y) h.event c.in-Some.is)
+    c.step_apart.new.state h.y h.steps (bound_value c.in-Some.payload) (some_occurs _ c.in_ok-old.occurring c.in-Some.payload (second_of h.y) h.event c.in-Some.is)
     (Unborn c.in-Ok-begin.value) (c.in-Ok-begin.ensures (g.R.Holds.answers c.args.context.now.functions.now)) c.step_begun.new.meter _ (rw c.in-Ok.ensures at c.in_err-body-in-Some.ensures) m depth t T e L N W)
 
 pub step_basic-returns-in_ok-body-in-Some : goal.step_basic-returns-in_ok-body-in-Some
 step_basic-returns-in_ok-body-in-Some g t c =
     let h = gives_value c.in_ok-old.ensures in
     body_takes_over (context_machine g.R.Holds.answers c.args.context.now) c.args.names.now c.args.switch.now (observation_of c.args.switch.now.form) c.requires.form (step c.args.context.now.dt c.args.value.now) c.args.meter.now c.step_apart.new.meter c.args.inside
-    c.step_apart.new.state h.y h.steps c.in-Some.payload.value (some_occurs _ c.in_ok-old.occurring c.in-Some.payload (second_of h.y) h.event c.in-Some.is)
+    c.step_apart.new.state h.y h.steps (bound_value c.in-Some.payload) (some_occurs _ c.in_ok-old.occurring c.in-Some.payload (second_of h.y) h.event c.in-Some.is)
     (Unborn c.in-Ok-begin.value) (c.in-Ok-begin.ensures (g.R.Holds.answers c.args.context.now.functions.now)) c.step_begun.new.meter
     c.in_ok-body-in-Some.body c.in_ok-body-in-Some.output _ (rw c.shown_by.ensures at c.show.ensures ∙ ap (λ d. switched_value (observation_of c.args.switch.now.form) d c.in_ok-body-in-Some.output) h.first) _
     (rw c.in-Ok.ensures at c.in_ok-body-in-Some.ensures)
@@ -816,13 +830,13 @@ step_recurring-returns-in-Err-begin g t c = λ m depth t T e L N W.
 pub step_recurring-returns-in_err-first_step-in-Some : goal.step_recurring-returns-in_err-first_step-in-Some
 step_recurring-returns-in_err-first_step-in-Some g t c = λ m depth t T e L N W.
     pass_exit _ _ c.from_residual-in_err-first_step-in-Some.ensures.0 (new_fails (context_machine g.R.Holds.answers c.args.context.now) c.args.names.now c.args.switch.now (observation_of c.args.switch.now.form) c.requires.form c.args.context.now.dt c.args.value.now c.in-Ok.value.0 c.in-Ok.ensures.0 c.args.meter.now c.step_state-in-Some.new.meter c.args.inside
-    c.step_state-in-Some.new.state c.step_state-in-Some.new.value c.in_ok-step_state-in-Some.ensures c.in-Some.payload.value (some_occurs _ c.in-Ok.value.1 c.in-Some.payload (second_of c.args.value.now) c.in-Ok.ensures.1 c.in-Some.is)
+    c.step_state-in-Some.new.state c.step_state-in-Some.new.value c.in_ok-step_state-in-Some.ensures (bound_value c.in-Some.payload) (some_occurs _ c.in-Ok.value.1 c.in-Some.payload (second_of c.args.value.now) c.in-Ok.ensures.1 c.in-Some.is)
     (Unborn c.in-Ok-begin.value) c.in-Ok-clone_in.value c.in-Ok-clone_in.ensures (c.in-Ok-begin.ensures (g.R.Holds.answers c.args.context.now.functions.now)) c.first_step.new.meter _ c.in_err-first_step-in-Some.ensures m depth t T e L N W)
 
 pub step_recurring-returns-in_ok-first_step-in-Some : goal.step_recurring-returns-in_ok-first_step-in-Some
 step_recurring-returns-in_ok-first_step-in-Some g t c =
     new_runs (context_machine g.R.Holds.answers c.args.context.now) c.args.names.now c.args.switch.now (observation_of c.args.switch.now.form) c.requires.form c.args.context.now.dt c.args.value.now c.in-Ok.value.0 c.in-Ok.ensures.0 c.args.meter.now c.step_state-in-Some.new.meter c.args.inside
-    c.step_state-in-Some.new.state c.step_state-in-Some.new.value c.in_ok-step_state-in-Some.ensures c.in-Some.payload.value (some_occurs _ c.in-Ok.value.1 c.in-Some.payload (second_of c.args.value.now) c.in-Ok.ensures.1 c.in-Some.is)
+    c.step_state-in-Some.new.state c.step_state-in-Some.new.value c.in_ok-step_state-in-Some.ensures (bound_value c.in-Some.payload) (some_occurs _ c.in-Ok.value.1 c.in-Some.payload (second_of c.args.value.now) c.in-Ok.ensures.1 c.in-Some.is)
     (Unborn c.in-Ok-begin.value) c.in-Ok-clone_in.value c.in-Ok-clone_in.ensures (c.in-Ok-begin.ensures (g.R.Holds.answers c.args.context.now.functions.now)) c.first_step.new.meter
     c.first_step.new.state c.first_step.new.value _ (rw c.shown_by.ensures at c.show.ensures) _ refl c.in_ok-first_step-in-Some.ensures
 
@@ -1089,14 +1103,14 @@ pub step_continuing-returns-in_err-successor-in-Some : goal.step_continuing-retu
 step_continuing-returns-in_err-successor-in-Some g t c = λ m depth t T e L N W.
     pass_beside (context_machine g.R.Holds.answers c.args.context.now) _ _ _ c.from_residual-in_err-successor-in-Some.ensures.0 (kept_body_fails (context_machine g.R.Holds.answers c.args.context.now) c.args.names.now c.args.continuing.now c.args.context.now.dt c.args.value.now c.args.meter.now c.step_state.new.meter c.args.inside
     c.step_state.new.state c.step_state.new.value (runs_alike (context_machine g.R.Holds.answers c.args.context.now) (c.in-Ok.ensures.runs_on (context_machine g.R.Holds.answers c.args.context.now)) c.in_ok-step_state.ensures) c.in-Ok-beside.value (rw c.in-Ok-copies.ensures.0 at c.in-Ok-beside.ensures) c.step_state-2.new.meter
-    c.step_state-2.new.state c.step_state-2.new.value c.in_ok-step_state-2.ensures c.in-Some.payload.value (some_occurs _ c.payload_of.result c.in-Some.payload c.step_state-2.new.value c.payload_of.ensures c.in-Some.is)
+    c.step_state-2.new.state c.step_state-2.new.value c.in_ok-step_state-2.ensures (bound_value c.in-Some.payload) (some_occurs _ c.payload_of.result c.in-Some.payload c.step_state-2.new.value c.payload_of.ensures c.in-Some.is)
     (Unborn c.in-Ok-begin.value) (rw c.in-Ok.ensures.held at (c.in-Ok-begin.ensures (g.R.Holds.answers c.args.context.now.functions.now))) c.in-Ok-copies.value.1 c.in-Ok-copies.ensures.1 c.step_begun.new.meter _ c.in_err-successor-in-Some.ensures m depth t T e L N W)
 
 pub step_continuing-returns-in_ok-successor-in-Some : goal.step_continuing-returns-in_ok-successor-in-Some
 step_continuing-returns-in_ok-successor-in-Some g t c =
     continuation_takes_over (context_machine g.R.Holds.answers c.args.context.now) c.args.names.now c.args.continuing.now c.args.context.now.dt c.args.value.now c.args.meter.now c.step_state.new.meter c.args.inside
     c.step_state.new.state c.step_state.new.value (runs_alike (context_machine g.R.Holds.answers c.args.context.now) (c.in-Ok.ensures.runs_on (context_machine g.R.Holds.answers c.args.context.now)) c.in_ok-step_state.ensures) c.in-Ok-beside.value (rw c.in-Ok-copies.ensures.0 at c.in-Ok-beside.ensures) c.step_state-2.new.meter
-    c.step_state-2.new.state c.step_state-2.new.value c.in_ok-step_state-2.ensures c.in-Some.payload.value (some_occurs _ c.payload_of.result c.in-Some.payload c.step_state-2.new.value c.payload_of.ensures c.in-Some.is)
+    c.step_state-2.new.state c.step_state-2.new.value c.in_ok-step_state-2.ensures (bound_value c.in-Some.payload) (some_occurs _ c.payload_of.result c.in-Some.payload c.step_state-2.new.value c.payload_of.ensures c.in-Some.is)
     (Unborn c.in-Ok-begin.value) (rw c.in-Ok.ensures.held at (c.in-Ok-begin.ensures (g.R.Holds.answers c.args.context.now.functions.now))) c.in-Ok-copies.value.1 c.in-Ok-copies.ensures.1 c.step_begun.new.meter
     c.in_ok-successor-in-Some.successor c.in_ok-successor-in-Some.output _ c.show.ensures _ c.in_ok-successor-in-Some.ensures
 
@@ -1179,7 +1193,7 @@ pub step_releasing-returns-in_err-successor-in-Some : goal.step_releasing-return
 step_releasing-returns-in_err-successor-in-Some g t c = λ m depth t T e L N W.
     pass_beside (context_machine g.R.Holds.answers c.args.context.now) _ _ _ c.from_residual-in_err-successor-in-Some.ensures.0 (released_body_fails (context_machine g.R.Holds.answers c.args.context.now) c.args.names.now c.args.releasing.now c.args.context.now.dt c.args.value.now c.args.meter.now c.step_members.new.meter c.args.inside
     c.step_members.new.members c.step_members.new.value (run_alike (context_machine g.R.Holds.answers c.args.context.now) c.args.releasing.now.members c.hold_back_members.new.members (c.in-Ok.ensures.runs_on (context_machine g.R.Holds.answers c.args.context.now)) c.in_ok-step_members.ensures) c.in-Ok-beside.value (rw c.in-Ok-copies.ensures.0 at c.in-Ok-beside.ensures) c.step_state.new.meter
-    c.step_state.new.state c.step_state.new.value c.in_ok-step_state.ensures c.in-Some.payload.value (some_occurs _ c.payload_of.result c.in-Some.payload c.step_state.new.value c.payload_of.ensures c.in-Some.is)
+    c.step_state.new.state c.step_state.new.value c.in_ok-step_state.ensures (bound_value c.in-Some.payload) (some_occurs _ c.payload_of.result c.in-Some.payload c.step_state.new.value c.payload_of.ensures c.in-Some.is)
     (Unborn c.in-Ok-begin.value) (rw c.in-Ok.ensures.held at (c.in-Ok-begin.ensures (g.R.Holds.answers c.args.context.now.functions.now)))
     c.in-Ok-copies.value.1 c.in-Ok-copies.ensures.1 c.step_begun.new.meter _ c.in_err-successor-in-Some.ensures m depth t T e L N W)
 
@@ -1187,7 +1201,7 @@ pub step_releasing-returns-in_ok-successor-in-Some : goal.step_releasing-returns
 step_releasing-returns-in_ok-successor-in-Some g t c =
     released_body_takes_over (context_machine g.R.Holds.answers c.args.context.now) c.args.names.now c.args.releasing.now c.args.context.now.dt c.args.value.now c.args.meter.now c.step_members.new.meter c.args.inside
     c.step_members.new.members c.step_members.new.value (run_alike (context_machine g.R.Holds.answers c.args.context.now) c.args.releasing.now.members c.hold_back_members.new.members (c.in-Ok.ensures.runs_on (context_machine g.R.Holds.answers c.args.context.now)) c.in_ok-step_members.ensures) c.in-Ok-beside.value (rw c.in-Ok-copies.ensures.0 at c.in-Ok-beside.ensures) c.step_state.new.meter
-    c.step_state.new.state c.step_state.new.value c.in_ok-step_state.ensures c.in-Some.payload.value (some_occurs _ c.payload_of.result c.in-Some.payload c.step_state.new.value c.payload_of.ensures c.in-Some.is)
+    c.step_state.new.state c.step_state.new.value c.in_ok-step_state.ensures (bound_value c.in-Some.payload) (some_occurs _ c.payload_of.result c.in-Some.payload c.step_state.new.value c.payload_of.ensures c.in-Some.is)
     (Unborn c.in-Ok-begin.value) (rw c.in-Ok.ensures.held at (c.in-Ok-begin.ensures (g.R.Holds.answers c.args.context.now.functions.now)))
     c.in-Ok-copies.value.1 c.in-Ok-copies.ensures.1 c.step_begun.new.meter
     c.in_ok-successor-in-Some.successor c.in_ok-successor-in-Some.output _ c.show.ensures _ c.in_ok-successor-in-Some.ensures
@@ -1211,7 +1225,7 @@ step_editing-returns-in-Ok-Some g t c =
     let μ = context_machine g.R.Holds.answers c.args.context.now in
     let k = c.args.editing.now in
     let d = c.args.context.now.dt in
-    let v = c.in-Some.payload.value in
+    let v = bound_value c.in-Some.payload in
     let made = rw c.deref.ensures at (rw c.in-Ok-Some.field-0-is at c.in-Ok-Some.ensures) in
     edit_answers μ c.args.names.now k d c.args.value.now c.in-Ok.value.0 c.in-Ok.ensures.0 v (some_occurs _ c.in-Ok.value.1 c.in-Some.payload (second_of c.args.value.now) c.in-Ok.ensures.1 c.in-Some.is) (Ok (drafted k.members d c.in-Ok-Some.draft)) c.args.inside
     c.step_draft.result c.step_draft.new.members c.step_draft.new.value (meter_fault c.step_draft.new.meter) (λ e qs K N G coded. made (each_frozen qs K d) v e (c.in-Ok-inside.ensures μ.answers e qs K N G) coded (gathers_frozen μ k.members d qs K G)) _ refl c.step_draft.ensures
@@ -1224,7 +1238,7 @@ step_editing-returns-after-draft_of g t c =
     let μ = context_machine g.R.Holds.answers c.args.context.now in
     let k = c.args.editing.now in
     let d = c.args.context.now.dt in
-    let v = c.in-Some.payload.value in
+    let v = bound_value c.in-Some.payload in
     edit_answers μ c.args.names.now k d c.args.value.now c.in-Ok.value.0 c.in-Ok.ensures.0 v (some_occurs _ c.in-Ok.value.1 c.in-Some.payload (second_of c.args.value.now) c.in-Ok.ensures.1 c.in-Some.is) (held_as_made c.collect-made.result) c.args.inside
     c.step_exchange.result c.step_exchange.new.members c.step_exchange.new.value (meter_fault c.step_exchange.new.meter) (λ e qs K N G coded. as_made μ c.collect-made.result ((rw c.deref-in-Some.ensures at c.collect-made.ensures) _ (c.in-Ok-inside.ensures μ.answers e qs K N G) coded)) _ refl c.step_exchange.ensures
 

@@ -46,6 +46,13 @@ has_type-returns-in-NoEvent-Event t c =
     let kind = rw c.in-NoEvent-Event.is-1 at c.ty.view_is in
     rw (← value, ← kind) (λ _. has_no_event, λ _. refl)
 
+pub has_type-returns-in-UnitEvent-Event : goal.has_type-returns-in-UnitEvent-Event
+has_type-returns-in-UnitEvent-Event t c =
+    let value = rw c.in-UnitEvent-Event.is-0 at c.value.view_is in
+    let kind = rw c.in-UnitEvent-Event.is-1 at c.ty.view_is in
+    let part = rw c.deref-in-UnitEvent-Event.ensures at c.is_unit_type.ensures in
+    rw (← value, ← kind) (event_typed _ _ _ part)
+
 pub has_type-returns-in-Event-Event : goal.has_type-returns-in-Event-Event
 has_type-returns-in-Event-Event t c =
     let value = rw c.in-Event-Event.is-0 at c.value.view_is in

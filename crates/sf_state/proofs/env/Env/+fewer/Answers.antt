@@ -40,7 +40,7 @@ returns-in_ok-around-in-Bound-2 t c =
     let pattern = ap (λ (a : Binding). pattern_of (stored_pattern (plan_expressions p) a.pattern)) c.deref.ensures in
     IfOk-weaker c.or_shared.result _ _
     (λ r shared φ e N. inside_pattern (machine φ p) b (λ d. IfSome r (λ names. HasMentioned (machine φ p) m names d))
-    (λ d M. pattern_fell (machine φ p) m d q b.value.value r (λ x w. subst (λ (q : Pattern). BindsOthers q x) pattern (c.is_bound_by.ensures c.if-is_bound_by.false x w))
+    (λ d M. pattern_fell (machine φ p) m d q b.value r (λ x w. subst (λ (q : Pattern). BindsOthers q x) pattern (c.is_bound_by.ensures c.if-is_bound_by.false x w))
     (shared (machine φ p) m d (subst (λ (a : Binding). IsNames (machine φ p) a.around d) (sym c.deref-else-is_bound_by-2.ensures) M)
     (c.in_ok-around-in-Bound-2.ensures φ d (subst (λ (a : Binding). IsNames (machine φ p) a.around d) (sym c.deref-else-is_bound_by.ensures) M)))) e (rw c.in-Bound.is at N))
     c.or_shared.ensures

@@ -20,7 +20,7 @@ returns-in-Some t c = λ φ e N.
     let x = name_at (plan_expressions p) c.args.name in
     let b = c.in-Bound.binding.value in
     let pattern = ap (λ (a : Binding). a.pattern) c.deref.ensures in
-    let value = c.deref-in-Bound-2.ensures ∙ ap (λ a. a.value.value) c.deref-in-Bound.ensures in
+    let value = ap (λ (a : Binding). a.value) c.deref-in-Bound.ensures in
     found_value (machine φ p) x b.pattern b.value b.around c.in-Some.field-0.now e (rw (sym pattern, sym value) (c.in-Some.ensures [])) (rw c.in-Bound.is at N)
 
 pub returns-in-None : goal.returns-in-None
@@ -29,7 +29,7 @@ returns-in-None t c = λ φ e N.
     let x = name_at (plan_expressions p) c.args.name in
     let b = c.in-Bound.binding.value in
     let pattern = ap (λ (a : Binding). a.pattern) c.deref.ensures in
-    let value = c.deref-in-Bound-2.ensures ∙ ap (λ a. a.value.value) c.deref-in-Bound.ensures in
+    let value = ap (λ (a : Binding). a.value) c.deref-in-Bound.ensures in
     found_outside (machine φ p) x b.pattern b.value b.around _ e (rw (sym pattern, sym value) (c.in-None.ensures []))
     (λ e M. c.running.ensures φ e (subst (λ a. IsNames (machine φ p) a.around e) (sym c.deref-in-None.ensures) M)) (rw c.in-Bound.is at N)
 

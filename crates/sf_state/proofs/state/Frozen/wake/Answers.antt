@@ -6,6 +6,11 @@ returns-in-Primitive-clause-stands c = λ μ P L A.
     let names = c.args.self.now.names in
     rw c.in-Primitive.is at (kept_around μ names c.in_ok-around.around c.in_ok-node.field-0 (c.in_ok-around.ensures μ) P L (c.in_ok-node.ensures μ names P L A))
 
+pub returns-in-Mapped-clause-stands : goal.returns-in-Mapped-clause-stands
+returns-in-Mapped-clause-stands c = λ μ P L A.
+    let names = c.args.self.now.names in
+    rw c.in-Mapped.is at (kept_around μ names c.in_ok-around.around c.in_ok-node.field-0 (c.in_ok-around.ensures μ) P L (c.in_ok-node.ensures μ names P L A))
+
 pub returns-in-Primitives-clause-stands : goal.returns-in-Primitives-clause-stands
 returns-in-Primitives-clause-stands c = λ μ P L A.
     let names = c.args.self.now.names in

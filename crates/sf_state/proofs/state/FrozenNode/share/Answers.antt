@@ -1,9 +1,13 @@
-use Rattle.sf_state.proofs.Copies.{same_follows, same_in_turn, primitive_follows, alive_follows, same_waits, watching_follows, same_keeps, continuing_follows, same_gathers, gathering_follows}
+use Rattle.sf_state.proofs.Copies.{same_follows, same_in_turn, primitive_follows, mapped_follows, alive_follows, same_waits, watching_follows, same_keeps, continuing_follows, same_gathers, gathering_follows}
 use Rattle.sf_state.proofs.state.FrozenNode.share.Goals as goal
 
 pub returns-in_ok-copy-in-Primitive : goal.returns-in_ok-copy-in-Primitive
 returns-in_ok-copy-in-Primitive c = λ μ names P L A.
     primitive_follows μ c.in-Primitive.primitive c.in_ok-copy-in-Primitive.copy c.in_ok-copy-in-Primitive.ensures P L (rw c.in-Primitive.is at A)
+
+pub returns-in_ok-next-in-Mapped : goal.returns-in_ok-next-in-Mapped
+returns-in_ok-next-in-Mapped c = λ μ names P L A.
+    mapped_follows μ c.in-Mapped.arrow c.in-Mapped.mapped c.in_ok-next-in-Mapped.next c.in_ok-next-in-Mapped.ensures P L (rw c.in-Mapped.is at A)
 
 pub returns-in_ok-both-in-Primitives : goal.returns-in_ok-both-in-Primitives
 returns-in_ok-both-in-Primitives c = λ μ names P L A.

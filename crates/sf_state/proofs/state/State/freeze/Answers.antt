@@ -1,5 +1,5 @@
 use Rattle.std.proofs.Common.{sym, subst, ⊎_elim}
-use Rattle.sf_state.proofs.Copies.{IsFresh, same_follows, same_in_turn, primitive_follows, alive_follows, same_waits, watching_follows, same_keeps, continuing_follows, same_gathers, gathering_follows, primitive_lived, in_turn_lived, alive_lived, watching_lived, continuing_lived, gathering_lived, unborn_fresh, frozen_fresh, lived_frozen, fresh_frozen}
+use Rattle.sf_state.proofs.Copies.{IsFresh, same_follows, same_in_turn, primitive_follows, mapped_follows, alive_follows, same_waits, watching_follows, same_keeps, continuing_follows, same_gathers, gathering_follows, primitive_lived, mapped_lived, in_turn_lived, alive_lived, watching_lived, continuing_lived, gathering_lived, unborn_fresh, frozen_fresh, lived_frozen, fresh_frozen}
 use Rattle.sf_state.proofs.state.State.freeze.Goals as goal
 
 pub returns-in_ok-copy-in-Primitive : goal.returns-in_ok-copy-in-Primitive
@@ -7,6 +7,13 @@ returns-in_ok-copy-in-Primitive c =
     let old = c.in-Primitive.primitive in
     rw c.in-Primitive.is (lived_frozen _ _ c.args.wait c.freeze_node-in-Primitive.result (λ μ. primitive_lived μ old)
     (λ μ. primitive_follows μ old c.in_ok-copy-in-Primitive.copy c.in_ok-copy-in-Primitive.ensures) c.freeze_node-in-Primitive.ensures)
+
+pub returns-in_ok-next-in-Mapped : goal.returns-in_ok-next-in-Mapped
+returns-in_ok-next-in-Mapped c =
+    let m = c.in-Mapped.arrow in
+    let old = c.in-Mapped.mapped in
+    rw c.in-Mapped.is (lived_frozen _ _ c.args.wait c.freeze_node-in-Mapped.result (λ μ. mapped_lived μ m old)
+    (λ μ. mapped_follows μ m old c.in_ok-next-in-Mapped.next c.in_ok-next-in-Mapped.ensures) c.freeze_node-in-Mapped.ensures)
 
 pub returns-in_ok-both-in-Primitives : goal.returns-in_ok-both-in-Primitives
 returns-in_ok-both-in-Primitives c =

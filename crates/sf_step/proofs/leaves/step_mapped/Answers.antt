@@ -1,0 +1,39 @@
+use Rattle.std.proofs.Common.{◌≡◌, Option, Some, refl, sym, ap, ◌∙◌, subst}
+use Rattle.std.specs.Option.{unwrap_or}
+use Rattle.std.specs.declared.alloc.Global.{Global}
+use Rattle.std.specs.declared.rc.Rc.{Rc}
+use Rattle.sf_code.specs.declared.open.OpenCode.{OpenCode}
+use Rattle.sf_term.specs.declared.form.Join.TheVariants.{InSequence}
+use Rattle.sf_mean.specs.Lives.{step, first_input}
+use Rattle.sf_law.specs.Arena.{plan_node_at, node_arrow}
+use Rattle.sf_state.specs.Standing.{behind_arrow, Ready}
+use Rattle.sf_meter.specs.Meters.{left_or, meter_fault}
+use Rattle.sf_begin.specs.Contexts.{context_machine, plan_in}
+use Rattle.sf_step.specs.Answering.{LiveSteps}
+use Rattle.sf_step.proofs.Parts.{pass_exit}
+use Rattle.sf_step.proofs.Exits.{join_left_fails, join_last}
+use Rattle.sf_step.proofs.leaves.step_mapped.Goals as goal
+
+-- the code that was found is the one that stands in the plan
+same_code : {a b : Rc OpenCode Global} → Some a ≡ Some b → a ≡ b
+same_code {a} {b} e = ap (λ (o : Option (Rc OpenCode Global)). unwrap_or o b) e
+
+pub returns-in_err-count_and_map : goal.returns-in_err-count_and_map
+returns-in_err-count_and_map g c = λ own is m depth t P L R.
+    let μ = context_machine g.R.Holds.answers c.args.context.now in
+    let node = c.node.ensures.value ∙ ap (λ i. plan_node_at (plan_in c.args.context.now) i) c.id.ensures in
+    let same : c.in-Some.code.now ≡ own = same_code (c.in-Some.ensures ∙ ap (λ n. node_arrow n) node ∙ is) in
+    pass_exit _ _ c.from_residual.ensures.0 (join_left_fails μ InSequence _ _ c.args.meter.now c.count_and_map.new.meter c.args.inside c.args.context.now.dt c.args.value.now c.args.value.now refl
+    _ c.in_err-count_and_map.ensures m depth t P L (subst (λ (a : Rc OpenCode Global). Ready μ (behind_arrow a c.args.prim.now) P (first_input (step c.args.context.now.dt c.args.value.now) L) L) (sym same) R))
+
+pub returns : goal.returns
+returns g c = λ own is.
+    let μ = context_machine g.R.Holds.answers c.args.context.now in
+    let node = c.node.ensures.value ∙ ap (λ i. plan_node_at (plan_in c.args.context.now) i) c.id.ensures in
+    let same : c.in-Some.code.now ≡ own = same_code (c.in-Some.ensures ∙ ap (λ n. node_arrow n) node ∙ is) in
+    let last = c.count_and_step in
+    subst (λ (a : Rc OpenCode Global). LiveSteps μ (behind_arrow a c.args.prim.now) (step c.args.context.now.dt c.args.value.now)
+    (left_or last.result (behind_arrow a last.new.prim, last.new.value) (meter_fault last.new.meter)) c.args.meter.now last.new.meter c.args.inside) same
+    (join_last μ InSequence _ _ c.args.meter.now c.count_and_map.new.meter c.args.inside c.args.context.now.dt c.args.value.now c.args.value.now refl
+    _ c.count_and_map.new.value c.count_and_map.new.value refl c.in_ok-count_and_map.ensures
+    last.new.meter _ last.new.value last.new.value last.result _ refl last.ensures)
