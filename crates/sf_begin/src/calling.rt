@@ -57,8 +57,15 @@ fn began(plan: &Plan, names: &Env, name: NameId, under: NameId) -> Result<Proces
         IfOk result (λ process. (φ : AnswersByName) (e : Environment) → IsNames (machine φ plan.now) names.now e → IsTrue (plan_asks plan.now (name_at x under)) → IsTrue (plan_asks plan.now (name_at x name)) →
         IsProcess (machine φ plan.now) process (base (process_of (name_at x name) e))) }
 {
+    if !plan.asks(under) {
+        // nobody asks for it: it isn't looked for
+        return Ok(Process {
+            term: plan.passing(),
+            names: Env::Empty,
+        });
+    }
     match names.running(plan, name) {
-        Some(handed) => kept(plan, under, &handed.base),
+        Some(handed) => handed.base.share(),
         None => Ok(Process {
             term: plan.passing(),
             names: Env::Empty,
@@ -82,7 +89,6 @@ fn kept(plan: &Plan, name: NameId, process: &Process) -> Result<Process, AllocEr
 
 /// The names of a template's parameters, each bound to its argument, the first one first, where these names are around the call.
 /// The error is the first fault of the arguments.
-#[cold]
 #[inline(never)]
 pub fn called<R: Holds>(
     context: &SampleContext<R>,

@@ -125,7 +125,7 @@ impl<'a> Frames<'a> {
 
 /// The part of a value that a path leads to; what is no pair stands for its halves.
 #[inline(always)]
-fn part<'a>(whole: Found<'a>, path: &Path) -> Found<'a>
+pub(crate) fn part<'a>(whole: Found<'a>, path: &Path) -> Found<'a>
     ensures { found_value result ≡ part_at (path_of path.now) (found_value whole.entry) }
 {
     match path {

@@ -6,6 +6,7 @@ ghost use Rattle.sf_expr.specs.Patterns.{pattern_of};
 ghost use Rattle.sf_expr.specs.Evaluation.{Scope, scope_functions, eval};
 ghost use Rattle.sf_expr.specs.Evaluation;
 ghost use Rattle.sf_operator.specs.Answers.{Evaluates, EvaluatesAs};
+ghost use Rattle.sf_value.specs.Values.{pair};
 ghost use Rattle.sf_code.specs.CodeView.{code_of};
 ghost use Rattle.sf_code.specs.Compiling.{closed_code, is_closed, is_closed_function};
 ghost use Rattle.sf_code.specs.Around.{patterns_around, HoldsFrame};
@@ -15,12 +16,12 @@ ghost use Rattle.sf_code.specs.Worth.{IsCodeOf, IsCodeOfFunction, IsCodeOfIn, An
 use crate::around::{Around, names_around, pattern_of_around};
 use crate::code::Code;
 use crate::compiler::compile;
-use crate::frames::Frames;
+use crate::frames::{Found, Frames, part};
 use crate::open::OpenCode;
 use crate::pattern::FramePattern;
-use crate::place::Patterns;
+use crate::place::{Half, Path, Patterns, Place};
 use crate::rearranging::{paired_halves, rearranged};
-use crate::running::run;
+use crate::running::{answer, found, pair_of, run};
 use sf_expr::{ExprId, Exprs, FunctionId};
 use sf_func::Holds;
 use sf_operator::EvalFault;
@@ -114,6 +115,28 @@ pub fn apply<F: Holds>(
     run_over(alloc, code, around, value, functions)
 }
 
+/// What a function without names around it answers to the pair of two values by its code, or the first fault. A part of one of them
+/// is answered without making the pair.
+#[inline(never)]
+pub fn apply_beside<F: Holds>(
+    alloc: Global,
+    code: &Code,
+    first: &Value,
+    second: &Value,
+    functions: &F,
+) -> Result<Value, EvalFault>
+    ensures { (s : Scope) → scope_functions s ≡ F.answers functions.now → (g : Function) → AnswersAsFunction s g [] code.now → Evaluates result (Evaluation.apply g (pair first.now second.now) s) }
+{
+    if let Code::Place(Place::Here(Path::Half(half, path))) = code {
+        return match half {
+            Half::First => found(alloc, part(Found::Value(first), path)),
+            Half::Second => found(alloc, part(Found::Value(second), path)),
+        };
+    }
+    let both = pair_of(alloc, first, second)?;
+    answer(alloc, code, &both, &Frames::Empty, functions)
+}
+
 /// Puts what a function's code is worth over a value, and over that of the names around it, in the value's place, or answers the first fault, after which the value may be
 /// any. A pair of the value's halves is made in the value's own node, where it has no other owner.
 #[inline(always)]
@@ -129,6 +152,10 @@ pub fn apply_in_place<F: Holds>(
     if let Some((first, second)) = paired_halves(code) {
         let input = mem::replace(value, Value::int(0));
         *value = rearranged(alloc, input, first, second)?;
+        return Ok(());
+    }
+    if let Code::Place(Place::Here(path)) = code {
+        *value = part(Found::Value(value), path).value(alloc)?;
         return Ok(());
     }
     *value = run_over(alloc, code, around, value, functions)?;

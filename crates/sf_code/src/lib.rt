@@ -31,7 +31,7 @@ pub use arithmetic::{Calculation, is_arithmetic};
 pub use around::Around;
 pub use code::Code;
 pub use evaluation::{eval, evaluate_among};
-pub use function::{apply, apply_in_place, evaluate, expression_code, function_code};
+pub use function::{apply, apply_beside, apply_in_place, evaluate, expression_code, function_code};
 pub use laws::compiled_expression;
 pub use name_list::{NamedValue, NamedValues};
 pub use names::Names;

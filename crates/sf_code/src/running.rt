@@ -111,7 +111,7 @@ fn worth_of<F: Holds>(
 
 /// What was found.
 #[inline(always)]
-fn found(alloc: Global, found: Found) -> Result<Value, EvalFault>
+pub(crate) fn found(alloc: Global, found: Found) -> Result<Value, EvalFault>
     ensures { Evaluates result (Outcomes.answer (found_value found.entry)) }
 {
     Ok(found.value(alloc)?)
@@ -523,7 +523,7 @@ fn conditional<F: Holds>(
 /// What the code of a function is worth over a value, with the frames around it, or the first fault.
 #[cycle(run)]
 #[inline(never)]
-fn answer<F: Holds>(
+pub(crate) fn answer<F: Holds>(
     alloc: Global,
     body: &Code,
     value: &Value,
@@ -695,7 +695,7 @@ fn merge<F: Holds>(
 }
 
 /// The pair of copies of two values, which share what they are made of.
-fn pair_of(alloc: Global, first: &Value, second: &Value) -> Result<Value, AllocError>
+pub(crate) fn pair_of(alloc: Global, first: &Value, second: &Value) -> Result<Value, AllocError>
     ensures { IfOk result (λ both. both ≡ Values.pair first.now second.now) }
 {
     let first = first.clone_in(alloc)?;

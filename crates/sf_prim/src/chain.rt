@@ -174,9 +174,9 @@ fn run_link<R: Holds>(
     Ok(number_in(value))
 }
 
-// What a link makes of the value, in its place.
+// What a link makes of the value, in its place: a call, so that the loop over links stays small.
 #[cycle(run)]
-#[inline(always)]
+#[inline(never)]
 fn run_in_place<R: Holds>(
     alloc: Global,
     link: &Link,

@@ -8,6 +8,7 @@ ghost use Rattle.sf_code.specs.Worth.{IsCodeOf, IsCodeOfFunction, AnswersAsFunct
 ghost use Rattle.sf_operator.specs.Answers.{Evaluates};
 ghost use Rattle.sf_operator.specs.declared.fault.EvalFault.TheVariants.{Memory};
 ghost use Rattle.sf_delay.specs.Gifts.{gift};
+ghost use Rattle.sf_value.specs.Values.{pair};
 
 use crate::accumulator::{Accumulator, accumulate};
 use crate::chain::{Link, apply_closure, links_of, run_links};
@@ -15,7 +16,7 @@ use crate::events::{
     announce, count_event, hold, hold_before, is_low, pass_later, rise, rise_with, select,
 };
 use crate::time::tell_time;
-use sf_code::{Closure, Names, OpenCode, apply_in_place, evaluate_among};
+use sf_code::{Closure, Names, OpenCode, apply_beside, apply_in_place, evaluate_among};
 use sf_delay::{Line, Sum, Ticker, Timer, span_of};
 use sf_func::Holds;
 use sf_law::{PlanChain, PlanPrimitive};
@@ -423,6 +424,21 @@ impl PrimState {
             Remembers (PrimState.Arrow code.now) q scope L → GoesOn q scope (step dt value.old) L (PrimState.Arrow code.now) (gift result value.new) }
     {
         replace(alloc, code, functions, value)
+    }
+
+    /// The value at the next sample of `arr` of a function, of which the state is this code, on the pair of two values. The error is the first fault of the function, or `Memory`.
+    #[inline(always)]
+    pub fn step_arrow_beside<R: Holds>(
+        alloc: Global,
+        code: &Rc<OpenCode>,
+        functions: &R,
+        first: &Value,
+        second: &Value,
+    ) -> Result<Value, EvalFault>
+        ensures { (dt : ℕ) (q : Primitive) (scope : Scope) (L : Life) → scope_functions scope ≡ R.answers functions.now →
+            Remembers (PrimState.Arrow code.now) q scope L → GoesOn q scope (step dt (pair first.now second.now)) L (PrimState.Arrow code.now) result }
+    {
+        apply_beside(alloc, &code.code, first, second, functions)
     }
 
     /// A copy, which keeps the same of a life. It shares the code of a function; the error is a want of memory, or too

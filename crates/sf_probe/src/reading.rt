@@ -21,6 +21,7 @@ pub struct Readings {
 }
 
 impl Drop for Readings {
+    #[inline(always)]
     fn drop(self) {
         let Readings { items } = self;
         drop(items);

@@ -162,6 +162,19 @@ fn value_of<'a>(alloc: Global, ty: &Ty, bytes: &'a [u8]) -> Result<(Value, &'a [
     }
 }
 
+/// The same at once where it is a number or the unit.
+#[cycle(value_of)]
+#[inline(always)]
+fn part_of<'a>(alloc: Global, ty: &Ty, bytes: &'a [u8]) -> Result<(Value, &'a [u8]), Failure>
+    ensures { GivesRead (λ x. (x.0, x.1.now)) result (scanned_value ty.now bytes.now) }
+{
+    match ty.form() {
+        TyForm::Unit => unit_of(bytes),
+        TyForm::Int => int_of(bytes),
+        _ => value_of(alloc, ty, bytes),
+    }
+}
+
 #[tactic(auto, using(crate::proofs::Failing::fails_then), unfolding(crate::specs::Scan::scanned_value))]
 fn unit_of(bytes: &[u8]) -> Result<(Value, &[u8]), Failure>
     ensures { GivesRead (λ x. (x.0, x.1.now)) result (scanned_value unit_kind bytes.now) }
@@ -220,7 +233,7 @@ fn value_behind<'a>(
     ensures { GivesRead (λ x. (x.0, x.1.now)) result (value_behind byte ty.now bytes.now) }
 {
     let rest = byte_of(byte, bytes)?;
-    value_of(alloc, ty, rest)
+    part_of(alloc, ty, rest)
 }
 
 #[cycle(value_of)]
@@ -268,7 +281,7 @@ fn event_of<'a>(alloc: Global, payload: &Ty, bytes: &'a [u8]) -> Result<(Value, 
         [b'n', ..] => no_event_of(bytes),
         _ => {
             let rest = word_of(b"event ", bytes)?;
-            let (x, rest) = value_of(alloc, payload, rest)?;
+            let (x, rest) = part_of(alloc, payload, rest)?;
             event_in(alloc, x, rest)
         }
     }

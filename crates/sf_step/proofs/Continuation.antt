@@ -96,13 +96,6 @@ module _ (μ : Machine) where
     kept_fails f hs m depth T t e L N (continues_so S O OY A B) = part_fails T S O OY (then_fails (then_fails (failed (hs _ _ A))))
 
     module _ (a : State) (y : Data) (hs : StateSteps μ k.source (step d x) (Ok (a, y)) n n1 inside) where
-      -- memory runs out after its source was stepped
-      pub kept_memory : (n2 : Meter) → entered_of n2 ≡ entered_of n1 → meter_height n2 ≡ meter_height n1
-          → (m : Meter) (depth : ℕ) → Ticks m n depth inside → (t : Term) (e : Environment) (L : Life) → IsNames μ names e → WaitsContinuation μ k (closure t e) L → Within (Gives net (closure t e) (step d x ∷ L)) m n2 depth
-      kept_memory n2 en hn m depth T t e L N (continues_so S O OY A B) =
-          let one = answered (hs _ _ A) in
-          part_within T S O OY (then_within (spent_within (single_gives net _ _) one.given one.spent en hn))
-
       module _ (v : Data) (ev : v ≡ pair x y) (n2 : Meter) where
         on_both : {r : Result (State × Data) Fault} → StateSteps μ k.observer (step d v) r n1 n2 inside → StateSteps μ k.observer (step d (pair x y)) r n1 n2 inside
         on_both {r} h = subst (λ v. StateSteps μ k.observer (step d v) r n1 n2 inside) ev h

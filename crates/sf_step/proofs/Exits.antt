@@ -1,6 +1,7 @@
 -- What each function of a sample answers, from what it calls.
 use Rattle.std.specs.declared.alloc.Global.{Global}
 use Rattle.std.specs.declared.rc.Rc.{Rc}
+use Rattle.std.specs.Option.{unwrap_or}
 use Rattle.std.proofs.Common.{◌≡◌, ℕ, IsTrue, ◌+◌, ◌≤◌, List, [], ◌∷◌, ◌++◌, Option, Some, Result, Ok, Err, sym, ap, ◌∙◌, subst, arith}
 use Rattle.sf_value.specs.Values.{Data}
 use Rattle.sf_value.specs.declared.fault.Fault.{Fault}
@@ -45,6 +46,10 @@ use Rattle.sf_step.proofs.SwitchTurns.{lift_steps, took_answers}
 -- a tick that went well
 pub ticked_by : {m n : Meter} {depth inside : ℕ} → Ticked m n depth (Ok inside) → Ticks m n depth inside
 ticked_by (ticked t) = t
+
+-- the code that was found is the one that stands in the plan
+pub same_code : {a b : Rc OpenCode Global} → Some a ≡ Some b → a ≡ b
+same_code {a} {b} e = ap (λ (o : Option (Rc OpenCode Global)). unwrap_or o b) e
 
 module _ (μ : Machine) where
   abbrev net : Network

@@ -8,6 +8,7 @@ pub mod SwitchTurns
 pub mod FirstSwitches
 pub mod References
 pub mod Exits
+pub mod Behind
 pub mod Stages
 pub mod Members
 pub mod Releasing

@@ -1,10 +1,10 @@
 -- Parts that are stepped one after another.
-use Rattle.std.proofs.Common.{◌≡◌, ℕ, ◌+◌, ◌≤◌, ◌++◌, Result, Ok, Err, sym, ap, ◌∙◌, subst, append_assoc, arith, ◌⊎◌, inl, inr, Option}
+use Rattle.std.proofs.Common.{◌≡◌, ℕ, ◌+◌, ◌≤◌, ◌++◌, Result, Ok, Err, refl, sym, ap, ◌∙◌, subst, append_assoc, arith, ◌⊎◌, inl, inr, Option}
 use Rattle.std.specs.Prelude.{IsErr}
 use Rattle.std.specs.Option.{option_map}
 use Rattle.std.specs.declared.rc.Rc.{Rc}
 use Rattle.std.specs.declared.alloc.Global.{Global}
-use Rattle.sf_value.specs.Values.{Data, first_of, second_of}
+use Rattle.sf_value.specs.Values.{Data, unit, first_of, second_of}
 use Rattle.sf_value.specs.declared.value.Value.{Value}
 use Rattle.sf_value.specs.declared.value.Pair.{Pair}
 use Rattle.sf_value.specs.declared.fault.ValueFault.{ValueFault}
@@ -19,7 +19,7 @@ use Rattle.sf_meter.specs.Meters.{entered_of, meter_height, meter_fault, reading
 use Rattle.sf_state.specs.declared.env.Payload.{Payload}
 use Rattle.sf_state.specs.Names.{bound_value}
 use Rattle.sf_state.specs.declared.state.State.{State}
-use Rattle.sf_step.specs.Answering.{Rel, Spent, AtMost, Within, StopsFor, faults, large, memory, Answers, answers, fails, left_apart}
+use Rattle.sf_step.specs.Answering.{Rel, Spent, AtMost, Within, StopsFor, faults, large, memory, Answers, answers, fails, left_apart, left_valued}
 use Rattle.sf_step.specs.Sampling.{GivesApart, apart, stopped, TakenApart, halved, not_granted}
 
 -- one outcome at most
@@ -186,6 +186,20 @@ pass_exit (Err q) b e h = fails h
 pub pass_apart : {E : Type 0} {view : State × Data → Data} {after : State × Data → Type 0} {R : Rel} {m n : Meter} {depth : ℕ} {f : Fault} (r : Result Data E) (a : State) (y : Data) → IsErr r → StopsFor R f m n depth → Answers view after R (left_apart r a y f) m n depth
 pass_apart (Ok x) a y e h = absurd cc
 pass_apart (Err q) a y e h = fails h
+
+-- the same where a value is handed back
+pub pass_valued : {A E : Type 0} {view : A × Data → Data} {after : A × Data → Type 0} {R : Rel} {m n : Meter} {depth : ℕ} {f : Fault} (r : Result Data E) (a : A) → IsErr r → StopsFor R f m n depth → Answers view after R (left_valued r a f) m n depth
+pass_valued (Ok y) a e h = absurd cc
+pass_valued (Err q) a e h = fails h
+
+-- a value that is handed back, as one that is left in place
+abbrev pub value_back : {E : Type 0} → Result Data E → Data
+value_back (Ok y) = y
+value_back (Err e) = unit
+
+pub valued_as : {A E : Type 0} (r : Result Data E) (a : A) (f : Fault) → left_or r (a, value_back r) f ≡ left_valued r a f
+valued_as (Ok y) a f = refl
+valued_as (Err e) a f = refl
 
 -- ## What is taken apart
 

@@ -101,13 +101,6 @@ module _ (μ : Machine) where
     members_stop f hs m depth T t e L N (releases_so j S O Y G B) = part_fails T j S O Y (then_fails (then_fails (failed (hs (ticked_low μ T) _ _ (held_shown μ k.members (states_are k.members.states.value) G)))))
 
     module _ (a : Gathered) (y : Data) (hs : MembersSteps μ k.members (step d x) (Ok (a, y)) n n1 inside) where
-      -- memory runs out after its members were stepped
-      pub members_memory : (n2 : Meter) → entered_of n2 ≡ entered_of n1 → meter_height n2 ≡ meter_height n1
-          → (m : Meter) (depth : ℕ) → Ticks m n depth inside → (t : Term) (e : Environment) (L : Life) → IsNames μ names e → WaitsGathered μ (Releasing k) (closure t e) L → Within (Gives net (closure t e) (step d x ∷ L)) m n2 depth
-      members_memory n2 en hn m depth T t e L N (releases_so {ms = ms} j S O Y G B) =
-          let one = answered (hs (ticked_low μ T) _ _ (held_shown μ k.members (states_are k.members.states.value) G)) in
-          part_within T j S O Y (then_within (spent_within (single_each ms _ _) one.given one.spent en hn))
-
       module _ (v : Data) (ev : v ≡ pair x y) (n2 : Meter) where
         on_both : {r : Result (State × Data) Fault} → StateSteps μ k.observer (step d v) r n1 n2 inside → StateSteps μ k.observer (step d (pair x y)) r n1 n2 inside
         on_both {r} h = subst (λ v. StateSteps μ k.observer (step d v) r n1 n2 inside) ev h

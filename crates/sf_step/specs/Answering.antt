@@ -74,3 +74,8 @@ FirstSteps μ t names s result n n' = (inside : ℕ) → TermSteps μ t names s 
 abbrev pub left_apart : {E : Type 0} → Result Data E → State → Data → Fault → Result (State × Data) Fault
 left_apart (Ok x) a y f = Ok (a, pair x y)
 left_apart (Err e) a y f = Err f
+
+-- what a step left in place, beside the value that it handed back, or the fault that stands in the meter
+abbrev pub left_valued : {A E : Type 0} → Result Data E → A → Fault → Result (A × Data) Fault
+left_valued (Ok y) a f = Ok (a, y)
+left_valued (Err e) a f = Err f

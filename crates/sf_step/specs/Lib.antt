@@ -1,5 +1,6 @@
 pub mod Answering
 pub mod Around
+pub mod Behind
 pub mod Edits
 pub mod Routing
 pub mod Sampling

@@ -10,7 +10,9 @@ ghost use Rattle.sf_term.specs.Trees.{Term};
 ghost use Rattle.sf_law.specs.Arena.{BuildsPlan, plan_tree, plan_node_at, full_id, arrow_code, node_arrow};
 ghost use Rattle.sf_law.specs.declared.node.PlanNode.TheVariants as NodeOf;
 ghost use Rattle.sf_meter.specs.Meters.{left_or, entered_of, meter_fault};
-ghost use Rattle.sf_step.specs.Answering.{PrimSteps, LiveSteps, FirstSteps, TermSteps};
+ghost use Rattle.sf_step.specs.Answering.{PrimSteps, LiveSteps, FirstSteps, TermSteps, left_valued};
+ghost use Rattle.sf_step.specs.Behind.{IsBehindArrow};
+ghost use Rattle.sf_value.specs.Values.{pair};
 ghost use Rattle.sf_state.specs.declared.state.State.TheVariants as StateOf;
 ghost use Rattle.sf_state.specs.Standing.{in_sequence, behind_arrow, closed_over, AreJoined};
 ghost use Rattle.sf_term.specs.declared.form.Join.TheVariants as Join;
@@ -20,15 +22,23 @@ ghost use Rattle.sf_step.specs.Sampling.{StateSteps};
 ghost use Rattle.sf_begin.specs.Contexts.{context_machine, plan_in, dt_in};
 
 use crate::sample::Around;
-use sf_begin::{SampleContext, fault_of};
+use sf_begin::{SampleContext, fault_of, two_of};
 use sf_code::OpenCode;
 use sf_func::Holds;
-use sf_law::{PlanId, PlanPrimitive, ShortId};
+use sf_law::{Plan, PlanId, PlanNode, PlanPrimitive, ShortId};
 use sf_meter::{Meter, Stop};
 use sf_prim::PrimState;
 use sf_state::{Env, Live, NamesIn, Primitives, State};
+use sf_term::Join;
 use sf_value::{Fault, Value};
 use std::rc::Rc;
+
+/// An input, and beside it a value: a pair that may not be made.
+#[derive(Clone, Copy)]
+pub(crate) struct Beside<'a> {
+    pub(crate) input: &'a Value,
+    pub(crate) given: &'a Value,
+}
 
 /// Puts the value at the next sample of a primitive, which has been counted, in place of the input. After an error the
 /// primitive keeps nothing that is promised, and the value may be any; the meter has the fault, of its operations or of memory.
@@ -157,6 +167,64 @@ pub(crate) fn step_mapped<R: Holds>(
     };
     count_and_map(context, code, inside, value, meter)?;
     count_and_step(context, prim, inside, value, meter)
+}
+
+/// The value at the same on the pair of two values.
+#[inline(never)]
+pub(crate) fn step_mapped_beside<R: Holds>(
+    context: &SampleContext<R>,
+    arrow: ShortId,
+    prim: &mut PrimState,
+    inside: u64,
+    both: Beside,
+    meter: &mut Meter,
+) -> Result<Value, Stop>
+    ensures { (c : Rc OpenCode Global) → node_arrow (plan_node_at (plan_in context.now) (full_id arrow)) ≡ Some c →
+        LiveSteps (context_machine R.answers context.now) (behind_arrow c prim.old) (step (dt_in context.now) (pair both.entry.input.now both.entry.given.now))
+        (left_valued result (behind_arrow c prim.new) (meter_fault meter.new)) meter.old meter.new inside }
+{
+    let Some(code) = context.plan.node(arrow.id()).arrow() else {
+        // such a state stands for nothing
+        return Ok(Value::int(0));
+    };
+    let mut value = count_and_map_beside(context, code, inside, both, meter)?;
+    count_and_step(context, prim, inside, &mut value, meter)?;
+    Ok(value)
+}
+
+// The value at the next sample of `arr` of a function, of which the state is this code, on the pair of two values. It is counted here.
+#[inline(always)]
+fn count_and_map_beside<R: Holds>(
+    context: &SampleContext<R>,
+    code: &Rc<OpenCode>,
+    inside: u64,
+    both: Beside,
+    meter: &mut Meter,
+) -> Result<Value, Stop>
+    ensures { StateSteps (context_machine R.answers context.now) (StateOf.Primitive (PrimOf.Arrow code.now)) (step (dt_in context.now) (pair both.entry.input.now both.entry.given.now))
+        (left_valued result (StateOf.Primitive (PrimOf.Arrow code.now)) (meter_fault meter.new)) meter.old meter.new inside }
+{
+    meter.tick(inside)?;
+    step_arrow_beside(context, code, both, meter)
+}
+
+// The same once it has been counted.
+#[inline(always)]
+fn step_arrow_beside<R: Holds>(
+    context: &SampleContext<R>,
+    code: &Rc<OpenCode>,
+    both: Beside,
+    meter: &mut Meter,
+) -> Result<Value, Stop>
+    ensures entered { entered_of meter.new ≡ entered_of meter.old }
+    ensures answers { PrimSteps (context_machine R.answers context.now) (PrimOf.Arrow code.now) (step (dt_in context.now) (pair both.entry.input.now both.entry.given.now))
+        (left_valued result (PrimOf.Arrow code.now) (meter_fault meter.new)) meter.old meter.new }
+{
+    let Beside { input, given } = both;
+    match PrimState::step_arrow_beside(context.alloc, code, context.functions, input, given) {
+        Ok(value) => Ok(value),
+        Err(fault) => Err(meter.stop(fault_of(fault))),
+    }
 }
 
 // The next sample of `arr` of a function, of which the state is this code, which is counted here.
@@ -295,6 +363,89 @@ fn first_mapped<R: Holds>(
     first_of_both(around, &mut prim, after, value, meter)?;
     state.put(State::Mapped(arrow, prim));
     Ok(())
+}
+
+/// A primitive behind `arr` of a function without names around it: the short id and the code of that `arr`, and the primitive.
+#[derive(Clone, Copy)]
+pub(crate) struct BehindArrow<'a> {
+    pub(crate) arrow: ShortId,
+    pub(crate) code: &'a Rc<OpenCode>,
+    pub(crate) primitive: &'a PlanPrimitive,
+}
+
+/// The term of an id as such a primitive, if it is one.
+#[inline(never)]
+pub(crate) fn primitive_behind(plan: &Plan, term: PlanId) -> Option<BehindArrow>
+    ensures { IfSome result (λ behind. IsBehindArrow plan.now (plan_tree plan.now term) behind) }
+{
+    let (left, right) = sequence_of(plan, term)?;
+    let PlanNode::Primitive(before) = plan.node(left) else {
+        return None;
+    };
+    let PlanNode::Primitive(primitive) = plan.node(right) else {
+        return None;
+    };
+    let code = bare_code(before)?;
+    let arrow = left.short()?;
+    Some(BehindArrow {
+        arrow,
+        code,
+        primitive,
+    })
+}
+
+// The two parts of a term in sequence, if it has them.
+#[inline(always)]
+fn sequence_of(plan: &Plan, term: PlanId) -> Option<(PlanId, PlanId)>
+    ensures { IfSome result (λ parts. AreJoined Join.InSequence (plan_tree plan.now parts.0) (plan_tree plan.now parts.1) (plan_tree plan.now term)) }
+{
+    match plan.node(term) {
+        PlanNode::Joined(join, left, right) => match join {
+            Join::InSequence => Some((*left, *right)),
+            _ => None,
+        },
+        PlanNode::Pipeline(stages) => two_of(stages),
+        _ => None,
+    }
+}
+
+/// The value at the first sample of such a primitive on the pair of two values; what it is from then on takes the
+/// place of a state. Its node has been counted. After an error the state stands for nothing.
+#[inline(never)]
+pub(crate) fn first_behind<R: Holds>(
+    around: &Around<R>,
+    state: &mut State,
+    behind: BehindArrow,
+    both: Beside,
+    meter: &mut Meter,
+) -> Result<Value, Stop>
+    requires bare { behind.code.now.value.around ≡ None }
+    ensures { (t : Term) → IsBehindArrow (plan_around around.now) t behind.entry →
+        TermSteps (machine_around R.answers around.now) t around.now.names.now (step (dt_around around.now) (pair both.entry.input.now both.entry.given.now))
+        (left_valued result state.new (meter_fault meter.new)) meter.old meter.new around.now.inside }
+{
+    let mut prim = PrimState::Identity;
+    let mut value = first_map_beside(around, behind.code, both, meter)?;
+    first_of_both(around, &mut prim, behind.primitive, &mut value, meter)?;
+    state.put(State::Mapped(behind.arrow, prim));
+    Ok(value)
+}
+
+// The value at the first sample of such an `arr` on the pair of two values, which is counted here.
+#[inline(always)]
+fn first_map_beside<R: Holds>(
+    around: &Around<R>,
+    code: &Rc<OpenCode>,
+    both: Beside,
+    meter: &mut Meter,
+) -> Result<Value, Stop>
+    requires bare { code.now.value.around ≡ None }
+    ensures { let p = plan_around around.now in (q : plan_primitives.PlanPrimitive) (term : plan_ids.PlanId) → arrow_code q ≡ Some code.now → BuildsPlan p (NodeOf.Primitive q) (plan_tree p term) →
+        StateSteps (machine_around R.answers around.now) (StateOf.Unborn (closed_over term around.now.names.now)) (step (dt_around around.now) (pair both.entry.input.now both.entry.given.now))
+        (left_valued result (StateOf.Primitive (PrimOf.Arrow code.now)) (meter_fault meter.new)) meter.old meter.new around.now.inside }
+{
+    meter.tick(around.inside)?;
+    step_arrow_beside(around.context, code, both, meter)
 }
 
 // The first sample of such an `arr`, which is counted here.

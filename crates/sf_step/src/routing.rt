@@ -107,21 +107,14 @@ pub(crate) fn hold_back(
     source.renew(alloc, before)
 }
 
-/// A sample's input twice, for the observer of a switch and for its body.
+/// Copies of an input and of a value beside it, as one pair.
 #[inline(always)]
-pub(crate) fn copies(alloc: Global, input: &Value) -> Result<(Value, Value), AllocError>
-    ensures { IfOk result (λ both. (both.0 ≡ input.now) × (both.1 ≡ input.now)) }
+pub(crate) fn beside(alloc: Global, input: &Value, given: &Value) -> Result<Value, AllocError>
+    ensures { IfOk result (λ both. both ≡ pair input.now given.now) }
 {
-    Ok((input.clone_in(alloc)?, input.clone_in(alloc)?))
-}
-
-/// The input beside a copy of a value, as one pair.
-#[inline(always)]
-pub(crate) fn beside(alloc: Global, input: Value, given: &Value) -> Result<Value, AllocError>
-    ensures { IfOk result (λ both. both ≡ pair input given.now) }
-{
-    let copy = given.clone_in(alloc)?;
-    Value::pair(alloc, input, copy)
+    let first = input.clone_in(alloc)?;
+    let second = given.clone_in(alloc)?;
+    Value::pair(alloc, first, second)
 }
 
 /// Puts a part that has lived, in a node of its own and with these names around it, in place of a state. The error is a want of

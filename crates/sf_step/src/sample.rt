@@ -17,8 +17,9 @@ ghost use Rattle.sf_law.specs.declared.node.PlanArgument as plan_argument_nodes;
 ghost use Rattle.sf_law.specs.declared.node.PlanPrimitive as primitive_nodes;
 ghost use Rattle.sf_law.specs.declared.node.PlanNode.TheVariants as NodeOf;
 ghost use Rattle.sf_state.specs.Machine.{machine};
-ghost use Rattle.sf_meter.specs.Meters.{kept, left_or, entered_of, meter_height, meter_fault};
-ghost use Rattle.sf_step.specs.Answering.{LiveSteps, TermSteps, left_apart};
+ghost use Rattle.sf_meter.specs.Meters.{left_or, entered_of, meter_height, meter_fault};
+ghost use Rattle.sf_step.specs.Answering.{LiveSteps, TermSteps, left_apart, left_valued};
+ghost use Rattle.sf_value.specs.Values.{pair};
 ghost use Rattle.sf_step.specs.Around.{machine_around, plan_around, dt_around};
 ghost use Rattle.sf_begin.specs.Contexts.{context_machine, dt_in};
 ghost use Rattle.sf_step.specs.Sampling.{GivesApart, TakenApart, StateSteps, SwitchSteps, ContinuationSteps, GatheringSteps, MembersSteps, EachSteps, MemberSteps, CountedSteps, left_beside, left_with};
@@ -27,11 +28,11 @@ ghost use Rattle.sf_step.specs.Stepping.{Steps};
 ghost use Rattle.sf_step.specs.Routing.{observation_of};
 
 use crate::leaves::{
-    first_primitive, first_two, step_mapped, step_prim, step_prim_inline, step_primitives,
-    step_probe,
+    Beside, first_behind, first_primitive, first_two, primitive_behind, step_mapped,
+    step_mapped_beside, step_prim, step_prim_inline, step_primitives, step_probe,
 };
 use crate::routing::{
-    beside, copies, hold_back, payload_of, put_first, put_last, put_live, show, take_over,
+    beside, hold_back, payload_of, put_first, put_last, put_live, show, take_over,
     value_and_payload,
 };
 use crate::tables::table_of;
@@ -475,7 +476,7 @@ fn first_continuing<R: Holds>(
         meter,
         Process::within(alloc, plan, form.source, around.names)
     );
-    let (input, output) = granted!(meter, copies(alloc, &*value));
+    let input = granted!(meter, value.clone_in(alloc));
     let mut source = State::unborn(form.source);
     let among = Around {
         context: &*context,
@@ -483,9 +484,8 @@ fn first_continuing<R: Holds>(
         inside: around.inside,
     };
     first_step(&among, &mut source, before.term, value, meter)?;
-    let mut seen = granted!(meter, beside(alloc, input, &*value));
     let mut observer = State::unborn(form.observer);
-    first_step(around, &mut observer, form.observer, &mut seen, meter)?;
+    let seen = first_of_observer(around, &mut observer, form.observer, &input, &*value, meter)?;
     let continuing = Continuation {
         shown: form.shown,
         first: form.source,
@@ -513,7 +513,7 @@ fn first_continuing<R: Holds>(
                 names: &body.names,
                 inside: around.inside,
             };
-            let mut shown = output;
+            let mut shown = input;
             first_step(&within, state, body.term, &mut shown, meter)?;
             show(form.shown, value, shown);
             Ok(())
@@ -899,21 +899,28 @@ fn step_releasing<R: Holds>(
         meter,
         hold_back_members(alloc, &mut releasing.members, &mut releasing.before)
     );
-    let (input, output) = granted!(meter, copies(alloc, &*value));
+    let input = granted!(meter, value.clone_in(alloc));
     step_members(context, &mut releasing.members, inside, value, meter)?;
-    let mut seen = granted!(meter, beside(alloc, input, &*value));
-    step_state(context, &mut releasing.observer, inside, &mut seen, meter)?;
+    let observer = &mut releasing.observer;
+    let seen = step_observer(context, observer, inside, &input, &*value, meter)?;
     match payload_of(seen) {
         None => Ok(None),
         Some(payload) => {
             let plan = context.plan;
-            let successor = granted!(
+            let body = granted!(
                 meter,
                 releasing.begin(alloc, plan, names, context.dt, payload)
             );
-            let (successor, output) = step_begun(context, successor, inside, output, meter)?;
-            show(releasing.shown, value, output);
-            Ok(Some(successor))
+            let around = Around {
+                context: &*context,
+                names: &body.names,
+                inside,
+            };
+            let mut over = State::unborn(body.term);
+            let mut shown = input;
+            first_step(&around, &mut over, body.term, &mut shown, meter)?;
+            show(releasing.shown, value, shown);
+            Ok(Some(over))
         }
     }
 }
@@ -1391,9 +1398,16 @@ fn step_basic<R: Holds>(
                 meter,
                 switch.begin(context.alloc, context.plan, names, payload)
             );
-            let (body, output) = step_begun(context, body, inside, output, meter)?;
-            show(shown_by(&switch.form), value, output);
-            Ok(Some(body))
+            let around = Around {
+                context: &*context,
+                names: &body.names,
+                inside,
+            };
+            let mut over = State::unborn(body.term);
+            let mut shown = output;
+            first_step(&around, &mut over, body.term, &mut shown, meter)?;
+            show(shown_by(&switch.form), value, shown);
+            Ok(Some(over))
         }
     }
 }
@@ -1620,53 +1634,85 @@ fn step_continuing<R: Holds>(
             &mut continuing.before,
         )
     );
-    let (input, output) = granted!(meter, copies(context.alloc, &*value));
+    let input = granted!(meter, value.clone_in(context.alloc));
     step_state(context, &mut continuing.source, inside, value, meter)?;
-    let mut seen = granted!(meter, beside(context.alloc, input, &*value));
-    step_state(context, &mut continuing.observer, inside, &mut seen, meter)?;
+    let observer = &mut continuing.observer;
+    let seen = step_observer(context, observer, inside, &input, &*value, meter)?;
     match payload_of(seen) {
         None => Ok(None),
         Some(payload) => {
             let plan = context.plan;
-            let successor = granted!(
+            let body = granted!(
                 meter,
                 continuing.begin(context.alloc, plan, names, context.dt, payload)
             );
-            let (successor, output) = step_begun(context, successor, inside, output, meter)?;
-            show(continuing.shown, value, output);
-            Ok(Some(successor))
+            let around = Around {
+                context: &*context,
+                names: &body.names,
+                inside,
+            };
+            let mut over = State::unborn(body.term);
+            let mut shown = input;
+            first_step(&around, &mut over, body.term, &mut shown, meter)?;
+            show(continuing.shown, value, shown);
+            Ok(Some(over))
         }
     }
 }
 
-// The first sample of a body on an input of its own: the body after it, and its value. After an error both are let go of.
+// The value at the next sample of an observer, on the input beside the value of what it observes. The two are made a pair unless it
+// is a primitive behind an `arr`.
 #[cycle(step)]
 #[inline(always)]
-fn step_begun<R: Holds>(
+fn step_observer<R: Holds>(
     context: &SampleContext<R>,
-    body: Process,
+    observer: &mut State,
     inside: u64,
-    input: Value,
+    input: &Value,
+    given: &Value,
     meter: &mut Meter,
-) -> Result<(State, Value), Stop>
-    ensures { StateSteps (context_machine R.answers context.now) (StateOf.Unborn body) (step (dt_in context.now) input)
-        (kept result (meter_fault meter.new)) meter.old meter.new inside }
+) -> Result<Value, Stop>
+    ensures { StateSteps (context_machine R.answers context.now) observer.old (step (dt_in context.now) (pair input.now given.now))
+        (left_valued result observer.new (meter_fault meter.new)) meter.old meter.new inside }
 {
-    let around = Around {
-        context: &*context,
-        names: &body.names,
-        inside,
-    };
-    let mut state = State::unborn(body.term);
-    let mut value = input;
-    match first_step(&around, &mut state, body.term, &mut value, meter) {
-        Ok(()) => Ok((state, value)),
-        Err(Stop) => {
-            drop(state);
-            drop(value);
-            Err(Stop)
-        }
+    if let State::Mapped(arrow, prim) = observer {
+        let within = meter.tick(inside)?;
+        let both = Beside { input, given };
+        return step_mapped_beside(context, *arrow, prim, within, both, meter);
     }
+    let mut seen = granted!(meter, beside(context.alloc, input, given));
+    step_state(context, observer, inside, &mut seen, meter)?;
+    Ok(seen)
+}
+
+// The same at its first sample.
+#[cycle(step)]
+#[inline(always)]
+fn first_of_observer<R: Holds>(
+    around: &Around<R>,
+    observer: &mut State,
+    term: PlanId,
+    input: &Value,
+    given: &Value,
+    meter: &mut Meter,
+) -> Result<Value, Stop>
+    ensures { StateSteps (machine_around R.answers around.now) (StateOf.Unborn (closed_over term around.now.names.now)) (step (dt_around around.now) (pair input.now given.now))
+        (left_valued result observer.new (meter_fault meter.new)) meter.old meter.new around.now.inside }
+{
+    let context = around.context;
+    if let Some(behind) = primitive_behind(context.plan, term) {
+        let inside = meter.tick(around.inside)?;
+        let within = Around {
+            context: &*context,
+            names: &*around.names,
+            inside,
+        };
+        let both = Beside { input, given };
+        return first_behind(&within, observer, behind, both, meter);
+    }
+    let mut seen = granted!(meter, beside(context.alloc, input, given));
+    first_step(around, observer, term, &mut seen, meter)?;
+    Ok(seen)
 }
 
 // The next sample of a node, which has been counted and whose parts stand inside `inside` nodes. Only here is a node

@@ -9,14 +9,14 @@ use Rattle.sf_begin.proofs.References.{when_ok, passing_base}
 use Rattle.sf_begin.proofs.calling.began.Goals as goal
 
 pub returns-in-Some : goal.returns-in-Some
-returns-in-Some c = when_ok c.kept.result (λ process shared φ e N under asked.
+returns-in-Some c = when_ok c.share.result (λ process shared φ e N under asked.
     let p = c.args.plan.now in
     let found = c.running.ensures φ e N in
     let k = name_at (plan_expressions p) c.args.name in
-    shared φ _ under ((subst (λ r. IsFound (machine φ p) k (option_map (λ r. r.now) r) (process_of k e)) c.in-Some.is found).1 asked)) c.kept.ensures
+    shared (machine φ p) _ ((subst (λ r. IsFound (machine φ p) k (option_map (λ r. r.now) r) (process_of k e)) c.in-Some.is found).1 asked)) c.share.ensures
 
 pub returns-in-None : goal.returns-in-None
 returns-in-None c = λ φ e N under asked.
     let p = c.args.plan.now in
     let found = c.running.ensures φ e N in
-    passing_base (machine φ p) (name_at (plan_expressions p) c.args.name) _ _ _ (ap (option_map (λ r. r.now)) c.in-None.is) c.passing.ensures found
+    passing_base (machine φ p) (name_at (plan_expressions p) c.args.name) _ _ _ (ap (option_map (λ r. r.now)) c.in-None.is) c.passing-in-None.ensures found

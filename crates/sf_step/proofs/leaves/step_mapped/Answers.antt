@@ -1,5 +1,4 @@
-use Rattle.std.proofs.Common.{◌≡◌, Option, Some, refl, sym, ap, ◌∙◌, subst}
-use Rattle.std.specs.Option.{unwrap_or}
+use Rattle.std.proofs.Common.{◌≡◌, refl, sym, ap, ◌∙◌, subst}
 use Rattle.std.specs.declared.alloc.Global.{Global}
 use Rattle.std.specs.declared.rc.Rc.{Rc}
 use Rattle.sf_code.specs.declared.open.OpenCode.{OpenCode}
@@ -11,12 +10,8 @@ use Rattle.sf_meter.specs.Meters.{left_or, meter_fault}
 use Rattle.sf_begin.specs.Contexts.{context_machine, plan_in}
 use Rattle.sf_step.specs.Answering.{LiveSteps}
 use Rattle.sf_step.proofs.Parts.{pass_exit}
-use Rattle.sf_step.proofs.Exits.{join_left_fails, join_last}
+use Rattle.sf_step.proofs.Exits.{same_code, join_left_fails, join_last}
 use Rattle.sf_step.proofs.leaves.step_mapped.Goals as goal
-
--- the code that was found is the one that stands in the plan
-same_code : {a b : Rc OpenCode Global} → Some a ≡ Some b → a ≡ b
-same_code {a} {b} e = ap (λ (o : Option (Rc OpenCode Global)). unwrap_or o b) e
 
 pub returns-in_err-count_and_map : goal.returns-in_err-count_and_map
 returns-in_err-count_and_map g c = λ own is m depth t P L R.

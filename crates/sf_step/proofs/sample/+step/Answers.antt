@@ -14,11 +14,11 @@ use Rattle.sf_coincidence.proofs.Same.{alike_itself}
 use Rattle.sf_mean.specs.Lives.{step, Life, Process, each_frozen}
 use Rattle.sf_state.specs.declared.state.Frozen.{Frozen}
 use Rattle.sf_state.specs.declared.state.State.{State}
-use Rattle.sf_state.specs.declared.state.State.TheVariants.{Unborn}
+use Rattle.sf_state.specs.declared.state.State.TheVariants.{Unborn, Mapped as SMapped}
 use Rattle.sf_state.specs.declared.state.Gathered.{Gathered}
 use Rattle.sf_state.specs.Held.{held_as}
 use Rattle.sf_state.specs.Names.{bound_value}
-use Rattle.sf_state.specs.Standing.{Stands, AllFollow, frozen_state, worth_given, closed_over, itself, unborn, is_closure, watching, continuing_on, Waits, WaitsContinuation, WaitsGathered}
+use Rattle.sf_state.specs.Standing.{Stands, behind_arrow, AllFollow, frozen_state, worth_given, closed_over, itself, unborn, is_closure, watching, continuing_on, Waits, WaitsContinuation, WaitsGathered}
 use Rattle.sf_begin.specs.Contexts.{context_machine}
 use Rattle.sf_expr.specs.Evaluation.{answer}
 use Rattle.sf_mean.specs.Meaning.{switched_value}
@@ -31,19 +31,19 @@ use Rattle.sf_step.specs.Answering.{LiveSteps, fails}
 use Rattle.sf_step.specs.Around.{machine_around, dt_around}
 use Rattle.sf_begin.proofs.Begins.{parts_joined, two_joined}
 use Rattle.sf_step.proofs.References.{coded_arguments, call_steps, call_fails, process_steps}
-use Rattle.sf_step.specs.Sampling.{StateSteps, EachSteps, apart, stopped}
+use Rattle.sf_step.specs.Sampling.{PartSteps, StateSteps, EachSteps, apart, stopped}
 use Rattle.sf_step.specs.Routing.{observation_of}
 use Rattle.sf_state.proofs.Copies.{list_follows}
-use Rattle.sf_step.proofs.Parts.{pass_exit, pass_apart, failed, own_halves, gives_value, gives_no_value, stops_apart, apart_as, taken}
+use Rattle.sf_step.proofs.Parts.{pass_exit, pass_apart, pass_valued, value_back, valued_as, failed, own_halves, gives_value, gives_no_value, stops_apart, apart_as, taken}
 use Rattle.sf_step.proofs.Stages.{StagesStep, continues_first, continues_next, continues_fails, continues_last, pipeline_steps, pipeline_fails}
 use Rattle.sf_step.proofs.Exits.{mapped_counted, mapped_is, primitives_counted, primitives_are, ticked_by, tick_fails, first_memory, join_left_fails, join_right_fails, join_steps, join_last, wrap_fails, wrap_steps, wrap_faults, wrap_last, late_memory, late_part, late_waiting, waits_alike, primitive_counted, live_counted, own_steps, primitive_is, live_is, awake_is, counted_steps, live_apart, first_counted, term_counted, begun_steps, begun_fails, late_term, joined_fails, joined_late, joined_steps}
 use Rattle.sf_step.proofs.Recurring.{run_fails, run_memory, new_fails, new_runs, runs_alone}
 use Rattle.sf_step.proofs.FirstSwitches.{new_switch, new_continuation, switch_waits, continuation_waits, term_over, term_on}
 use Rattle.sf_step.proofs.Switches.{source_fails, switch_memory, switch_waits_on, body_fails, body_takes_over}
-use Rattle.sf_step.proofs.Continuation.{runs_alike, kept_fails, kept_memory, observer_fails, observer_memory, keeps_on, kept_body_fails, continuation_takes_over, some_occurs, none_occurs}
+use Rattle.sf_step.proofs.Continuation.{runs_alike, kept_fails, observer_fails, observer_memory, keeps_on, kept_body_fails, continuation_takes_over, some_occurs, none_occurs}
 use Rattle.sf_step.proofs.SwitchTurns.{frozen_steps, pass_beside, watching_turns, watching_fails, continuing_turns, continuing_fails, gathering_turns, gathering_fails}
 use Rattle.sf_step.proofs.Members.{memory_now, stopped_at, each_first, each_next, each_fails, each_memory, each_last, list_alike, late_list, awake_lived, asleep_fresh, runs_among, begins_among, goes_on_among, members_step, members_fail, members_end, gathered_so, pass_with, Continues}
-use Rattle.sf_step.proofs.Releasing.{run_alike, members_stop, members_memory, sight_fails, sight_memory, members_go_on, released_body_fails, released_body_takes_over}
+use Rattle.sf_step.proofs.Releasing.{run_alike, members_stop, sight_fails, sight_memory, members_go_on, released_body_fails, released_body_takes_over}
 use Rattle.sf_step.specs.Edits.{IsBetween, HaveStepped, no_memory_noted, HaveTurned, no_memory_before, old_fails, no_memory_between, made_fails, new_run, held_as_made}
 use Rattle.sf_step.specs.Edits
 use Rattle.sf_step.proofs.Turns.{NotesOn, notes_first, notes_next, notes_fail, notes_memory, notes_last, notes_stopped, notes_long, turn_at, turns_first, turns_stay, turns_stay_not, turns_begin, turns_begin_not, turns_last, as_held, held_fails, old_step, new_step, new_stop, new_end, turned_so, not_turned_so, shows_so, held_stop, gathers_frozen, stepped_fails, changed_long, edit_stopped, edit_late, pass_edit, pass_notes, pass_turns}
@@ -92,6 +92,53 @@ pub step_state-returns-in_ok-inside-in-Live : goal.step_state-returns-in_ok-insi
 step_state-returns-in_ok-inside-in-Live g t c = λ P L A.
     counted_steps (context_machine g.R.Holds.answers c.args.context.now) _ _ _ (ticked_by c.in_ok-inside-in-Live.ensures.ticked) (live_is (context_machine g.R.Holds.answers c.args.context.now) c.in-Live.field-0 c.in-Live.node.value)
     (live_counted (context_machine g.R.Holds.answers c.args.context.now) _ c.in-Live.field-0 c.in-Live.node.value c.step_node.new.node.value _ c.step_node.new.value c.step_node.result _ c.step_node.ensures) P L (rw c.in-Live.is at A)
+
+-- ## step_observer
+
+pub step_observer-returns-in_err-within : goal.step_observer-returns-in_err-within
+step_observer-returns-in_err-within g t c = λ P L A. pass_valued _ _ c.from_residual.ensures.0 (tick_fails (context_machine g.R.Holds.answers c.args.context.now) P _ c.in_err-within.ensures.ticked)
+
+pub step_observer-returns-in-Mapped : goal.step_observer-returns-in-Mapped
+step_observer-returns-in-Mapped g t c = λ P L A.
+    let μ = context_machine g.R.Holds.answers c.args.context.now in
+    let r = c.step_mapped_beside.result in
+    let n = c.step_mapped_beside.new.meter in
+    let a = c.in-Mapped.arrow in
+    let i = c.step_mapped_beside.new.prim in
+    let s = step c.args.context.now.dt (pair c.args.input.now c.args.given.now) in
+    subst (λ q. PartSteps μ P L s q c.args.meter.now n c.args.inside) (valued_as r (SMapped a i) (meter_fault n))
+    (counted_steps μ _ _ _ (ticked_by c.in_ok-within.ensures.ticked) (mapped_is μ a c.in-Mapped.prim)
+    (mapped_counted μ a c.in-Mapped.prim i s (value_back r) r (meter_fault n)
+    (λ own is. subst (λ q. LiveSteps μ (behind_arrow own c.in-Mapped.prim) s q c.tick.new.self n c.in_ok-within.within) (sym (valued_as r (behind_arrow own i) (meter_fault n))) (c.step_mapped_beside.ensures own is)))
+    P L (rw c.in-Mapped.is at A))
+
+pub step_observer-returns-in-Err : goal.step_observer-returns-in-Err
+step_observer-returns-in-Err g t c = first_memory (context_machine g.R.Holds.answers c.args.context.now) c.stop.ensures.entered c.stop.ensures.height c.stop.ensures.fault
+
+pub step_observer-returns-in_err-step_state : goal.step_observer-returns-in_err-step_state
+step_observer-returns-in_err-step_state g t c = λ P L A. pass_valued _ _ c.from_residual-in_err-step_state.ensures.0 (failed ((rw c.in-Ok.ensures at c.in_err-step_state.ensures) P L A))
+
+pub step_observer-returns : goal.step_observer-returns
+step_observer-returns g t c = rw c.in-Ok.ensures at c.in_ok-step_state.ensures
+
+-- ## first_of_observer
+
+pub first_of_observer-returns-in_err-inside : goal.first_of_observer-returns-in_err-inside
+first_of_observer-returns-in_err-inside g t c = λ P L A. pass_valued _ _ c.from_residual.ensures.0 (tick_fails (machine_around g.R.Holds.answers c.args.around.now) P _ c.in_err-inside.ensures.ticked)
+
+pub first_of_observer-returns-in-Some : goal.first_of_observer-returns-in-Some
+first_of_observer-returns-in-Some g t c =
+    term_counted (machine_around g.R.Holds.answers c.args.around.now) c.args.term c.args.around.now.names.now (dt_around c.args.around.now) (pair c.args.input.now c.args.given.now) (ticked_by c.in_ok-inside.ensures.ticked) _
+    (c.first_behind.ensures _ c.in-Some.ensures)
+
+pub first_of_observer-returns-in-Err : goal.first_of_observer-returns-in-Err
+first_of_observer-returns-in-Err g t c = first_memory (machine_around g.R.Holds.answers c.args.around.now) c.stop.ensures.entered c.stop.ensures.height c.stop.ensures.fault
+
+pub first_of_observer-returns-in_err-first_step : goal.first_of_observer-returns-in_err-first_step
+first_of_observer-returns-in_err-first_step g t c = λ P L A. pass_valued _ _ c.from_residual-in_err-first_step.ensures.0 (failed ((rw c.in-Ok.ensures at c.in_err-first_step.ensures) P L A))
+
+pub first_of_observer-returns : goal.first_of_observer-returns
+first_of_observer-returns g t c = rw c.in-Ok.ensures at c.in_ok-first_step.ensures
 
 -- ## step_node
 
@@ -549,8 +596,8 @@ first_recurring-returns g t c = λ u B.
 pub first_continuing-returns-in-Err : goal.first_continuing-returns-in-Err
 first_continuing-returns-in-Err g t c = λ u B m depth T e N. early_memory (machine_around g.R.Holds.answers c.args.around.now) T c.stop.ensures.entered c.stop.ensures.height c.stop.ensures.fault
 
-pub first_continuing-returns-in-Err-copies : goal.first_continuing-returns-in-Err-copies
-first_continuing-returns-in-Err-copies g t c = λ u B m depth T e N. early_memory (machine_around g.R.Holds.answers c.args.around.now) T c.stop-in-Err-copies.ensures.entered c.stop-in-Err-copies.ensures.height c.stop-in-Err-copies.ensures.fault
+pub first_continuing-returns-in-Err-clone_in : goal.first_continuing-returns-in-Err-clone_in
+first_continuing-returns-in-Err-clone_in g t c = λ u B m depth T e N. early_memory (machine_around g.R.Holds.answers c.args.around.now) T c.stop-in-Err-clone_in.ensures.entered c.stop-in-Err-clone_in.ensures.height c.stop-in-Err-clone_in.ensures.fault
 
 pub first_continuing-returns-in_err-first_step : goal.first_continuing-returns-in_err-first_step
 first_continuing-returns-in_err-first_step g t c = λ u B m depth T e N.
@@ -562,26 +609,16 @@ first_continuing-returns-in_err-first_step g t c = λ u B m depth T e N.
     pass_exit _ _ c.from_residual.ensures.0 (kept_fails μ names k d x c.args.meter.now c.first_step.new.meter c.args.around.now.inside
     _ c.in_err-first_step.ensures m depth T u e [] N (continuation_waits μ c.args.form.now u c.in-Ok.value (Unborn c.in-Ok.value) names B e N (c.in-Ok.ensures μ.answers e N)))
 
-pub first_continuing-returns-in-Err-beside : goal.first_continuing-returns-in-Err-beside
-first_continuing-returns-in-Err-beside g t c = λ u B m depth T e N.
+pub first_continuing-returns-in_err-seen : goal.first_continuing-returns-in_err-seen
+first_continuing-returns-in_err-seen g t c = λ u B m depth T e N.
     let μ = machine_around g.R.Holds.answers c.args.around.now in
     let d = dt_around c.args.around.now in
     let x = c.args.value.now in
     let names = c.args.around.now.names.now in
     let k = new_continuation c.args.form.now c.in-Ok.value (Unborn c.in-Ok.value) names in
-    memory_exit c.stop-in-Err-beside.ensures.fault (kept_memory μ names k d x c.args.meter.now c.first_step.new.meter c.args.around.now.inside
-    c.first_step.new.state c.first_step.new.value c.in_ok-first_step.ensures _ c.stop-in-Err-beside.ensures.entered c.stop-in-Err-beside.ensures.height m depth T u e [] N (continuation_waits μ c.args.form.now u c.in-Ok.value (Unborn c.in-Ok.value) names B e N (c.in-Ok.ensures μ.answers e N)))
-
-pub first_continuing-returns-in_err-first_step-2 : goal.first_continuing-returns-in_err-first_step-2
-first_continuing-returns-in_err-first_step-2 g t c = λ u B m depth T e N.
-    let μ = machine_around g.R.Holds.answers c.args.around.now in
-    let d = dt_around c.args.around.now in
-    let x = c.args.value.now in
-    let names = c.args.around.now.names.now in
-    let k = new_continuation c.args.form.now c.in-Ok.value (Unborn c.in-Ok.value) names in
-    pass_exit _ _ c.from_residual-in_err-first_step-2.ensures.0 (observer_fails μ names k d x c.args.meter.now c.first_step.new.meter c.args.around.now.inside
-    c.first_step.new.state c.first_step.new.value c.in_ok-first_step.ensures c.in-Ok-beside.value (rw c.in-Ok-copies.ensures.0 at c.in-Ok-beside.ensures) c.first_step-2.new.meter
-    _ c.in_err-first_step-2.ensures m depth T u e [] N (continuation_waits μ c.args.form.now u c.in-Ok.value (Unborn c.in-Ok.value) names B e N (c.in-Ok.ensures μ.answers e N)))
+    pass_exit _ _ c.from_residual-in_err-seen.ensures.0 (observer_fails μ names k d x c.args.meter.now c.first_step.new.meter c.args.around.now.inside
+    c.first_step.new.state c.first_step.new.value c.in_ok-first_step.ensures (pair c.in-Ok-clone_in.value c.first_step.new.value) (ap (λ (i : Data). pair i c.first_step.new.value) c.in-Ok-clone_in.ensures) c.first_of_observer.new.meter
+    _ c.in_err-seen.ensures m depth T u e [] N (continuation_waits μ c.args.form.now u c.in-Ok.value (Unborn c.in-Ok.value) names B e N (c.in-Ok.ensures μ.answers e N)))
 
 pub first_continuing-returns-in-Err-share : goal.first_continuing-returns-in-Err-share
 first_continuing-returns-in-Err-share g t c = λ u B m depth T e N.
@@ -591,8 +628,8 @@ first_continuing-returns-in-Err-share g t c = λ u B m depth T e N.
     let names = c.args.around.now.names.now in
     let k = new_continuation c.args.form.now c.in-Ok.value (Unborn c.in-Ok.value) names in
     memory_exit c.stop-in-Err-share.ensures.fault (observer_memory μ names k d x c.args.meter.now c.first_step.new.meter c.args.around.now.inside
-    c.first_step.new.state c.first_step.new.value c.in_ok-first_step.ensures c.in-Ok-beside.value (rw c.in-Ok-copies.ensures.0 at c.in-Ok-beside.ensures) c.first_step-2.new.meter
-    c.first_step-2.new.state c.first_step-2.new.value c.in_ok-first_step-2.ensures _ c.stop-in-Err-share.ensures.entered c.stop-in-Err-share.ensures.height m depth T u e [] N (continuation_waits μ c.args.form.now u c.in-Ok.value (Unborn c.in-Ok.value) names B e N (c.in-Ok.ensures μ.answers e N)))
+    c.first_step.new.state c.first_step.new.value c.in_ok-first_step.ensures (pair c.in-Ok-clone_in.value c.first_step.new.value) (ap (λ (i : Data). pair i c.first_step.new.value) c.in-Ok-clone_in.ensures) c.first_of_observer.new.meter
+    c.first_of_observer.new.observer c.in_ok-seen.seen c.in_ok-seen.ensures _ c.stop-in-Err-share.ensures.entered c.stop-in-Err-share.ensures.height m depth T u e [] N (continuation_waits μ c.args.form.now u c.in-Ok.value (Unborn c.in-Ok.value) names B e N (c.in-Ok.ensures μ.answers e N)))
 
 pub first_continuing-returns-in-Err-new : goal.first_continuing-returns-in-Err-new
 first_continuing-returns-in-Err-new g t c = λ u B m depth T e N.
@@ -602,8 +639,8 @@ first_continuing-returns-in-Err-new g t c = λ u B m depth T e N.
     let names = c.args.around.now.names.now in
     let k = new_continuation c.args.form.now c.in-Ok.value (Unborn c.in-Ok.value) names in
     memory_exit c.stop-in-Err-new.ensures.fault (observer_memory μ names k d x c.args.meter.now c.first_step.new.meter c.args.around.now.inside
-    c.first_step.new.state c.first_step.new.value c.in_ok-first_step.ensures c.in-Ok-beside.value (rw c.in-Ok-copies.ensures.0 at c.in-Ok-beside.ensures) c.first_step-2.new.meter
-    c.first_step-2.new.state c.first_step-2.new.value c.in_ok-first_step-2.ensures _ c.stop-in-Err-new.ensures.entered c.stop-in-Err-new.ensures.height m depth T u e [] N (continuation_waits μ c.args.form.now u c.in-Ok.value (Unborn c.in-Ok.value) names B e N (c.in-Ok.ensures μ.answers e N)))
+    c.first_step.new.state c.first_step.new.value c.in_ok-first_step.ensures (pair c.in-Ok-clone_in.value c.first_step.new.value) (ap (λ (i : Data). pair i c.first_step.new.value) c.in-Ok-clone_in.ensures) c.first_of_observer.new.meter
+    c.first_of_observer.new.observer c.in_ok-seen.seen c.in_ok-seen.ensures _ c.stop-in-Err-new.ensures.entered c.stop-in-Err-new.ensures.height m depth T u e [] N (continuation_waits μ c.args.form.now u c.in-Ok.value (Unborn c.in-Ok.value) names B e N (c.in-Ok.ensures μ.answers e N)))
 
 pub first_continuing-returns-in-Ok-new : goal.first_continuing-returns-in-Ok-new
 first_continuing-returns-in-Ok-new g t c = λ u B.
@@ -614,8 +651,8 @@ first_continuing-returns-in-Ok-new g t c = λ u B.
     let k = new_continuation c.args.form.now c.in-Ok.value (Unborn c.in-Ok.value) names in
     rw c.put.ensures (term_on μ (WaitsContinuation μ) names k u (λ e N. continuation_waits μ c.args.form.now u c.in-Ok.value (Unborn c.in-Ok.value) names B e N (c.in-Ok.ensures μ.answers e N)) _ (λ e N W. continuing_on (c.in-Ok-share.ensures μ e N) W)
     (keeps_on μ names k d x c.args.meter.now c.first_step.new.meter c.args.around.now.inside
-    c.first_step.new.state c.first_step.new.value c.in_ok-first_step.ensures c.in-Ok-beside.value (rw c.in-Ok-copies.ensures.0 at c.in-Ok-beside.ensures) c.first_step-2.new.meter
-    c.first_step-2.new.state c.first_step-2.new.value c.in_ok-first_step-2.ensures (none_occurs _ c.payload_of.result c.first_step-2.new.value c.payload_of.ensures c.in-None.is) _ c.in-Ok-new.value.value c.in-Ok-new.ensures.ok))
+    c.first_step.new.state c.first_step.new.value c.in_ok-first_step.ensures (pair c.in-Ok-clone_in.value c.first_step.new.value) (ap (λ (i : Data). pair i c.first_step.new.value) c.in-Ok-clone_in.ensures) c.first_of_observer.new.meter
+    c.first_of_observer.new.observer c.in_ok-seen.seen c.in_ok-seen.ensures (none_occurs _ c.payload_of.result c.in_ok-seen.seen c.payload_of.ensures c.in-None.is) _ c.in-Ok-new.value.value c.in-Ok-new.ensures.ok))
 
 pub first_continuing-returns-in-Err-begin : goal.first_continuing-returns-in-Err-begin
 first_continuing-returns-in-Err-begin g t c = λ u B m depth T e N.
@@ -625,8 +662,8 @@ first_continuing-returns-in-Err-begin g t c = λ u B m depth T e N.
     let names = c.args.around.now.names.now in
     let k = new_continuation c.args.form.now c.in-Ok.value (Unborn c.in-Ok.value) names in
     memory_exit c.stop-in-Err-begin.ensures.fault (observer_memory μ names k d x c.args.meter.now c.first_step.new.meter c.args.around.now.inside
-    c.first_step.new.state c.first_step.new.value c.in_ok-first_step.ensures c.in-Ok-beside.value (rw c.in-Ok-copies.ensures.0 at c.in-Ok-beside.ensures) c.first_step-2.new.meter
-    c.first_step-2.new.state c.first_step-2.new.value c.in_ok-first_step-2.ensures _ c.stop-in-Err-begin.ensures.entered c.stop-in-Err-begin.ensures.height m depth T u e [] N (continuation_waits μ c.args.form.now u c.in-Ok.value (Unborn c.in-Ok.value) names B e N (c.in-Ok.ensures μ.answers e N)))
+    c.first_step.new.state c.first_step.new.value c.in_ok-first_step.ensures (pair c.in-Ok-clone_in.value c.first_step.new.value) (ap (λ (i : Data). pair i c.first_step.new.value) c.in-Ok-clone_in.ensures) c.first_of_observer.new.meter
+    c.first_of_observer.new.observer c.in_ok-seen.seen c.in_ok-seen.ensures _ c.stop-in-Err-begin.ensures.entered c.stop-in-Err-begin.ensures.height m depth T u e [] N (continuation_waits μ c.args.form.now u c.in-Ok.value (Unborn c.in-Ok.value) names B e N (c.in-Ok.ensures μ.answers e N)))
 
 pub first_continuing-returns-in_err-first_step-in-Some : goal.first_continuing-returns-in_err-first_step-in-Some
 first_continuing-returns-in_err-first_step-in-Some g t c = λ u B m depth T e N.
@@ -636,9 +673,9 @@ first_continuing-returns-in_err-first_step-in-Some g t c = λ u B m depth T e N.
     let names = c.args.around.now.names.now in
     let k = new_continuation c.args.form.now c.in-Ok.value (Unborn c.in-Ok.value) names in
     pass_exit _ _ c.from_residual-in_err-first_step-in-Some.ensures.0 (kept_body_fails μ names k d x c.args.meter.now c.first_step.new.meter c.args.around.now.inside
-    c.first_step.new.state c.first_step.new.value c.in_ok-first_step.ensures c.in-Ok-beside.value (rw c.in-Ok-copies.ensures.0 at c.in-Ok-beside.ensures) c.first_step-2.new.meter
-    c.first_step-2.new.state c.first_step-2.new.value c.in_ok-first_step-2.ensures (bound_value c.in-Some.payload) (some_occurs _ c.payload_of.result c.in-Some.payload c.first_step-2.new.value c.payload_of.ensures c.in-Some.is)
-    (Unborn c.in-Ok-begin.value) (c.in-Ok-begin.ensures μ.answers) c.in-Ok-copies.value.1 c.in-Ok-copies.ensures.1 c.first_step-in-Some.new.meter
+    c.first_step.new.state c.first_step.new.value c.in_ok-first_step.ensures (pair c.in-Ok-clone_in.value c.first_step.new.value) (ap (λ (i : Data). pair i c.first_step.new.value) c.in-Ok-clone_in.ensures) c.first_of_observer.new.meter
+    c.first_of_observer.new.observer c.in_ok-seen.seen c.in_ok-seen.ensures (bound_value c.in-Some.payload) (some_occurs _ c.payload_of.result c.in-Some.payload c.in_ok-seen.seen c.payload_of.ensures c.in-Some.is)
+    (Unborn c.in-Ok-begin.value) (c.in-Ok-begin.ensures μ.answers) c.in-Ok-clone_in.value c.in-Ok-clone_in.ensures c.first_step-in-Some.new.meter
     _ c.in_err-first_step-in-Some.ensures m depth T u e [] N (continuation_waits μ c.args.form.now u c.in-Ok.value (Unborn c.in-Ok.value) names B e N (c.in-Ok.ensures μ.answers e N)))
 
 pub first_continuing-returns-in_ok-first_step-in-Some : goal.first_continuing-returns-in_ok-first_step-in-Some
@@ -650,9 +687,9 @@ first_continuing-returns-in_ok-first_step-in-Some g t c = λ u B.
     let k = new_continuation c.args.form.now c.in-Ok.value (Unborn c.in-Ok.value) names in
     term_over μ (WaitsContinuation μ) names k u (λ e N. continuation_waits μ c.args.form.now u c.in-Ok.value (Unborn c.in-Ok.value) names B e N (c.in-Ok.ensures μ.answers e N))
     (continuation_takes_over μ names k d x c.args.meter.now c.first_step.new.meter c.args.around.now.inside
-    c.first_step.new.state c.first_step.new.value c.in_ok-first_step.ensures c.in-Ok-beside.value (rw c.in-Ok-copies.ensures.0 at c.in-Ok-beside.ensures) c.first_step-2.new.meter
-    c.first_step-2.new.state c.first_step-2.new.value c.in_ok-first_step-2.ensures (bound_value c.in-Some.payload) (some_occurs _ c.payload_of.result c.in-Some.payload c.first_step-2.new.value c.payload_of.ensures c.in-Some.is)
-    (Unborn c.in-Ok-begin.value) (c.in-Ok-begin.ensures μ.answers) c.in-Ok-copies.value.1 c.in-Ok-copies.ensures.1 c.first_step-in-Some.new.meter
+    c.first_step.new.state c.first_step.new.value c.in_ok-first_step.ensures (pair c.in-Ok-clone_in.value c.first_step.new.value) (ap (λ (i : Data). pair i c.first_step.new.value) c.in-Ok-clone_in.ensures) c.first_of_observer.new.meter
+    c.first_of_observer.new.observer c.in_ok-seen.seen c.in_ok-seen.ensures (bound_value c.in-Some.payload) (some_occurs _ c.payload_of.result c.in-Some.payload c.in_ok-seen.seen c.payload_of.ensures c.in-Some.is)
+    (Unborn c.in-Ok-begin.value) (c.in-Ok-begin.ensures μ.answers) c.in-Ok-clone_in.value c.in-Ok-clone_in.ensures c.first_step-in-Some.new.meter
     c.first_step-in-Some.new.state c.first_step-in-Some.new.value _ c.show.ensures k c.in_ok-first_step-in-Some.ensures)
 
 -- ## step_switch
@@ -684,21 +721,21 @@ step_basic-returns-in-Err-begin g t c = λ m depth t T e L N W.
     memory_exit c.stop-in-Err-begin.ensures.fault (switch_memory (context_machine g.R.Holds.answers c.args.context.now) c.args.names.now c.args.switch.now (observation_of c.args.switch.now.form) c.requires.form (step c.args.context.now.dt c.args.value.now) c.args.meter.now c.step_apart.new.meter c.args.inside
     c.step_apart.new.state h.y h.steps _ c.stop-in-Err-begin.ensures.entered c.stop-in-Err-begin.ensures.height m depth t T e L N W)
 
-pub step_basic-returns-in_err-body-in-Some : goal.step_basic-returns-in_err-body-in-Some
-step_basic-returns-in_err-body-in-Some g t c = λ m depth t T e L N W.
+pub step_basic-returns-in_err-first_step-in-Some : goal.step_basic-returns-in_err-first_step-in-Some
+step_basic-returns-in_err-first_step-in-Some g t c = λ m depth t T e L N W.
     let h = gives_value c.in_ok-old.ensures in
-    pass_beside (context_machine g.R.Holds.answers c.args.context.now) _ _ _ c.from_residual-in_err-body-in-Some.ensures.0 (body_fails (context_machine g.R.Holds.answers c.args.context.now) c.args.names.now c.args.switch.now (observation_of c.args.switch.now.form) c.requires.form (step c.args.context.now.dt c.args.value.now) c.args.meter.now c.step_apart.new.meter c.args.inside
+    pass_beside (context_machine g.R.Holds.answers c.args.context.now) _ _ _ c.from_residual-in_err-first_step-in-Some.ensures.0 (body_fails (context_machine g.R.Holds.answers c.args.context.now) c.args.names.now c.args.switch.now (observation_of c.args.switch.now.form) c.requires.form (step c.args.context.now.dt c.args.value.now) c.args.meter.now c.step_apart.new.meter c.args.inside
     c.step_apart.new.state h.y h.steps (bound_value c.in-Some.payload) (some_occurs _ c.in_ok-old.occurring c.in-Some.payload (second_of h.y) h.event c.in-Some.is)
-    (Unborn c.in-Ok-begin.value) (c.in-Ok-begin.ensures (g.R.Holds.answers c.args.context.now.functions.now)) c.step_begun.new.meter _ (rw c.in-Ok.ensures at c.in_err-body-in-Some.ensures) m depth t T e L N W)
+    (Unborn c.in-Ok-begin.value) (c.in-Ok-begin.ensures (g.R.Holds.answers c.args.context.now.functions.now)) c.first_step.new.meter _ (rw c.in-Ok.ensures at c.in_err-first_step-in-Some.ensures) m depth t T e L N W)
 
-pub step_basic-returns-in_ok-body-in-Some : goal.step_basic-returns-in_ok-body-in-Some
-step_basic-returns-in_ok-body-in-Some g t c =
+pub step_basic-returns-in_ok-first_step-in-Some : goal.step_basic-returns-in_ok-first_step-in-Some
+step_basic-returns-in_ok-first_step-in-Some g t c =
     let h = gives_value c.in_ok-old.ensures in
     body_takes_over (context_machine g.R.Holds.answers c.args.context.now) c.args.names.now c.args.switch.now (observation_of c.args.switch.now.form) c.requires.form (step c.args.context.now.dt c.args.value.now) c.args.meter.now c.step_apart.new.meter c.args.inside
     c.step_apart.new.state h.y h.steps (bound_value c.in-Some.payload) (some_occurs _ c.in_ok-old.occurring c.in-Some.payload (second_of h.y) h.event c.in-Some.is)
-    (Unborn c.in-Ok-begin.value) (c.in-Ok-begin.ensures (g.R.Holds.answers c.args.context.now.functions.now)) c.step_begun.new.meter
-    c.in_ok-body-in-Some.body c.in_ok-body-in-Some.output _ (rw c.shown_by.ensures at c.show.ensures ∙ ap (λ d. switched_value (observation_of c.args.switch.now.form) d c.in_ok-body-in-Some.output) h.first) _
-    (rw c.in-Ok.ensures at c.in_ok-body-in-Some.ensures)
+    (Unborn c.in-Ok-begin.value) (c.in-Ok-begin.ensures (g.R.Holds.answers c.args.context.now.functions.now)) c.first_step.new.meter
+    c.first_step.new.state c.first_step.new.value _ (rw c.shown_by.ensures at c.show.ensures ∙ ap (λ d. switched_value (observation_of c.args.switch.now.form) d c.first_step.new.value) h.first) _
+    (rw c.in-Ok.ensures at c.in_ok-first_step-in-Some.ensures)
 
 -- ## step_fan_apart
 
@@ -1068,51 +1105,46 @@ step_frozen-returns g t c = λ P L A.
 pub step_continuing-returns-in-Err : goal.step_continuing-returns-in-Err
 step_continuing-returns-in-Err g t c = λ m depth t T e L N W. early_memory (context_machine g.R.Holds.answers c.args.context.now) t c.stop.ensures.entered c.stop.ensures.height c.stop.ensures.fault
 
-pub step_continuing-returns-in-Err-copies : goal.step_continuing-returns-in-Err-copies
-step_continuing-returns-in-Err-copies g t c = λ m depth t T e L N W. early_memory (context_machine g.R.Holds.answers c.args.context.now) t c.stop-in-Err-copies.ensures.entered c.stop-in-Err-copies.ensures.height c.stop-in-Err-copies.ensures.fault
+pub step_continuing-returns-in-Err-clone_in : goal.step_continuing-returns-in-Err-clone_in
+step_continuing-returns-in-Err-clone_in g t c = λ m depth t T e L N W. early_memory (context_machine g.R.Holds.answers c.args.context.now) t c.stop-in-Err-clone_in.ensures.entered c.stop-in-Err-clone_in.ensures.height c.stop-in-Err-clone_in.ensures.fault
 
 pub step_continuing-returns-in_err-step_state : goal.step_continuing-returns-in_err-step_state
 step_continuing-returns-in_err-step_state g t c = λ m depth t T e L N W.
     pass_beside (context_machine g.R.Holds.answers c.args.context.now) _ _ _ c.from_residual.ensures.0 (kept_fails (context_machine g.R.Holds.answers c.args.context.now) c.args.names.now c.args.continuing.now c.args.context.now.dt c.args.value.now c.args.meter.now c.step_state.new.meter c.args.inside
     _ (runs_alike (context_machine g.R.Holds.answers c.args.context.now) (c.in-Ok.ensures.runs_on (context_machine g.R.Holds.answers c.args.context.now)) c.in_err-step_state.ensures) m depth t T e L N W)
 
-pub step_continuing-returns-in-Err-beside : goal.step_continuing-returns-in-Err-beside
-step_continuing-returns-in-Err-beside g t c = λ m depth t T e L N W.
-    memory_exit c.stop-in-Err-beside.ensures.fault (kept_memory (context_machine g.R.Holds.answers c.args.context.now) c.args.names.now c.args.continuing.now c.args.context.now.dt c.args.value.now c.args.meter.now c.step_state.new.meter c.args.inside
-    c.step_state.new.state c.step_state.new.value (runs_alike (context_machine g.R.Holds.answers c.args.context.now) (c.in-Ok.ensures.runs_on (context_machine g.R.Holds.answers c.args.context.now)) c.in_ok-step_state.ensures) _ c.stop-in-Err-beside.ensures.entered c.stop-in-Err-beside.ensures.height m depth t T e L N W)
-
-pub step_continuing-returns-in_err-step_state-2 : goal.step_continuing-returns-in_err-step_state-2
-step_continuing-returns-in_err-step_state-2 g t c = λ m depth t T e L N W.
-    pass_beside (context_machine g.R.Holds.answers c.args.context.now) _ _ _ c.from_residual-in_err-step_state-2.ensures.0 (observer_fails (context_machine g.R.Holds.answers c.args.context.now) c.args.names.now c.args.continuing.now c.args.context.now.dt c.args.value.now c.args.meter.now c.step_state.new.meter c.args.inside
-    c.step_state.new.state c.step_state.new.value (runs_alike (context_machine g.R.Holds.answers c.args.context.now) (c.in-Ok.ensures.runs_on (context_machine g.R.Holds.answers c.args.context.now)) c.in_ok-step_state.ensures) c.in-Ok-beside.value (rw c.in-Ok-copies.ensures.0 at c.in-Ok-beside.ensures) c.step_state-2.new.meter
-    _ c.in_err-step_state-2.ensures m depth t T e L N W)
+pub step_continuing-returns-in_err-seen : goal.step_continuing-returns-in_err-seen
+step_continuing-returns-in_err-seen g t c = λ m depth t T e L N W.
+    pass_beside (context_machine g.R.Holds.answers c.args.context.now) _ _ _ c.from_residual-in_err-seen.ensures.0 (observer_fails (context_machine g.R.Holds.answers c.args.context.now) c.args.names.now c.args.continuing.now c.args.context.now.dt c.args.value.now c.args.meter.now c.step_state.new.meter c.args.inside
+    c.step_state.new.state c.step_state.new.value (runs_alike (context_machine g.R.Holds.answers c.args.context.now) (c.in-Ok.ensures.runs_on (context_machine g.R.Holds.answers c.args.context.now)) c.in_ok-step_state.ensures) (pair c.in-Ok-clone_in.value c.step_state.new.value) (ap (λ (i : Data). pair i c.step_state.new.value) c.in-Ok-clone_in.ensures) c.step_observer.new.meter
+    _ c.in_err-seen.ensures m depth t T e L N W)
 
 pub step_continuing-returns-in-None : goal.step_continuing-returns-in-None
 step_continuing-returns-in-None g t c =
     keeps_on (context_machine g.R.Holds.answers c.args.context.now) c.args.names.now c.args.continuing.now c.args.context.now.dt c.args.value.now c.args.meter.now c.step_state.new.meter c.args.inside
-    c.step_state.new.state c.step_state.new.value (runs_alike (context_machine g.R.Holds.answers c.args.context.now) (c.in-Ok.ensures.runs_on (context_machine g.R.Holds.answers c.args.context.now)) c.in_ok-step_state.ensures) c.in-Ok-beside.value (rw c.in-Ok-copies.ensures.0 at c.in-Ok-beside.ensures) c.step_state-2.new.meter
-    c.step_state-2.new.state c.step_state-2.new.value c.in_ok-step_state-2.ensures (none_occurs _ c.payload_of.result c.step_state-2.new.value c.payload_of.ensures c.in-None.is) _ _ refl
+    c.step_state.new.state c.step_state.new.value (runs_alike (context_machine g.R.Holds.answers c.args.context.now) (c.in-Ok.ensures.runs_on (context_machine g.R.Holds.answers c.args.context.now)) c.in_ok-step_state.ensures) (pair c.in-Ok-clone_in.value c.step_state.new.value) (ap (λ (i : Data). pair i c.step_state.new.value) c.in-Ok-clone_in.ensures) c.step_observer.new.meter
+    c.step_observer.new.observer c.in_ok-seen.seen c.in_ok-seen.ensures (none_occurs _ c.payload_of.result c.in_ok-seen.seen c.payload_of.ensures c.in-None.is) _ _ refl
 
 pub step_continuing-returns-in-Err-begin : goal.step_continuing-returns-in-Err-begin
 step_continuing-returns-in-Err-begin g t c = λ m depth t T e L N W.
     memory_exit c.stop-in-Err-begin.ensures.fault (observer_memory (context_machine g.R.Holds.answers c.args.context.now) c.args.names.now c.args.continuing.now c.args.context.now.dt c.args.value.now c.args.meter.now c.step_state.new.meter c.args.inside
-    c.step_state.new.state c.step_state.new.value (runs_alike (context_machine g.R.Holds.answers c.args.context.now) (c.in-Ok.ensures.runs_on (context_machine g.R.Holds.answers c.args.context.now)) c.in_ok-step_state.ensures) c.in-Ok-beside.value (rw c.in-Ok-copies.ensures.0 at c.in-Ok-beside.ensures) c.step_state-2.new.meter
-    c.step_state-2.new.state c.step_state-2.new.value c.in_ok-step_state-2.ensures _ c.stop-in-Err-begin.ensures.entered c.stop-in-Err-begin.ensures.height m depth t T e L N W)
+    c.step_state.new.state c.step_state.new.value (runs_alike (context_machine g.R.Holds.answers c.args.context.now) (c.in-Ok.ensures.runs_on (context_machine g.R.Holds.answers c.args.context.now)) c.in_ok-step_state.ensures) (pair c.in-Ok-clone_in.value c.step_state.new.value) (ap (λ (i : Data). pair i c.step_state.new.value) c.in-Ok-clone_in.ensures) c.step_observer.new.meter
+    c.step_observer.new.observer c.in_ok-seen.seen c.in_ok-seen.ensures _ c.stop-in-Err-begin.ensures.entered c.stop-in-Err-begin.ensures.height m depth t T e L N W)
 
-pub step_continuing-returns-in_err-successor-in-Some : goal.step_continuing-returns-in_err-successor-in-Some
-step_continuing-returns-in_err-successor-in-Some g t c = λ m depth t T e L N W.
-    pass_beside (context_machine g.R.Holds.answers c.args.context.now) _ _ _ c.from_residual-in_err-successor-in-Some.ensures.0 (kept_body_fails (context_machine g.R.Holds.answers c.args.context.now) c.args.names.now c.args.continuing.now c.args.context.now.dt c.args.value.now c.args.meter.now c.step_state.new.meter c.args.inside
-    c.step_state.new.state c.step_state.new.value (runs_alike (context_machine g.R.Holds.answers c.args.context.now) (c.in-Ok.ensures.runs_on (context_machine g.R.Holds.answers c.args.context.now)) c.in_ok-step_state.ensures) c.in-Ok-beside.value (rw c.in-Ok-copies.ensures.0 at c.in-Ok-beside.ensures) c.step_state-2.new.meter
-    c.step_state-2.new.state c.step_state-2.new.value c.in_ok-step_state-2.ensures (bound_value c.in-Some.payload) (some_occurs _ c.payload_of.result c.in-Some.payload c.step_state-2.new.value c.payload_of.ensures c.in-Some.is)
-    (Unborn c.in-Ok-begin.value) (rw c.in-Ok.ensures.held at (c.in-Ok-begin.ensures (g.R.Holds.answers c.args.context.now.functions.now))) c.in-Ok-copies.value.1 c.in-Ok-copies.ensures.1 c.step_begun.new.meter _ c.in_err-successor-in-Some.ensures m depth t T e L N W)
+pub step_continuing-returns-in_err-first_step-in-Some : goal.step_continuing-returns-in_err-first_step-in-Some
+step_continuing-returns-in_err-first_step-in-Some g t c = λ m depth t T e L N W.
+    pass_beside (context_machine g.R.Holds.answers c.args.context.now) _ _ _ c.from_residual-in_err-first_step-in-Some.ensures.0 (kept_body_fails (context_machine g.R.Holds.answers c.args.context.now) c.args.names.now c.args.continuing.now c.args.context.now.dt c.args.value.now c.args.meter.now c.step_state.new.meter c.args.inside
+    c.step_state.new.state c.step_state.new.value (runs_alike (context_machine g.R.Holds.answers c.args.context.now) (c.in-Ok.ensures.runs_on (context_machine g.R.Holds.answers c.args.context.now)) c.in_ok-step_state.ensures) (pair c.in-Ok-clone_in.value c.step_state.new.value) (ap (λ (i : Data). pair i c.step_state.new.value) c.in-Ok-clone_in.ensures) c.step_observer.new.meter
+    c.step_observer.new.observer c.in_ok-seen.seen c.in_ok-seen.ensures (bound_value c.in-Some.payload) (some_occurs _ c.payload_of.result c.in-Some.payload c.in_ok-seen.seen c.payload_of.ensures c.in-Some.is)
+    (Unborn c.in-Ok-begin.value) (rw c.in-Ok.ensures.held at (c.in-Ok-begin.ensures (g.R.Holds.answers c.args.context.now.functions.now))) c.in-Ok-clone_in.value c.in-Ok-clone_in.ensures c.first_step.new.meter _ c.in_err-first_step-in-Some.ensures m depth t T e L N W)
 
-pub step_continuing-returns-in_ok-successor-in-Some : goal.step_continuing-returns-in_ok-successor-in-Some
-step_continuing-returns-in_ok-successor-in-Some g t c =
+pub step_continuing-returns-in_ok-first_step-in-Some : goal.step_continuing-returns-in_ok-first_step-in-Some
+step_continuing-returns-in_ok-first_step-in-Some g t c =
     continuation_takes_over (context_machine g.R.Holds.answers c.args.context.now) c.args.names.now c.args.continuing.now c.args.context.now.dt c.args.value.now c.args.meter.now c.step_state.new.meter c.args.inside
-    c.step_state.new.state c.step_state.new.value (runs_alike (context_machine g.R.Holds.answers c.args.context.now) (c.in-Ok.ensures.runs_on (context_machine g.R.Holds.answers c.args.context.now)) c.in_ok-step_state.ensures) c.in-Ok-beside.value (rw c.in-Ok-copies.ensures.0 at c.in-Ok-beside.ensures) c.step_state-2.new.meter
-    c.step_state-2.new.state c.step_state-2.new.value c.in_ok-step_state-2.ensures (bound_value c.in-Some.payload) (some_occurs _ c.payload_of.result c.in-Some.payload c.step_state-2.new.value c.payload_of.ensures c.in-Some.is)
-    (Unborn c.in-Ok-begin.value) (rw c.in-Ok.ensures.held at (c.in-Ok-begin.ensures (g.R.Holds.answers c.args.context.now.functions.now))) c.in-Ok-copies.value.1 c.in-Ok-copies.ensures.1 c.step_begun.new.meter
-    c.in_ok-successor-in-Some.successor c.in_ok-successor-in-Some.output _ c.show.ensures _ c.in_ok-successor-in-Some.ensures
+    c.step_state.new.state c.step_state.new.value (runs_alike (context_machine g.R.Holds.answers c.args.context.now) (c.in-Ok.ensures.runs_on (context_machine g.R.Holds.answers c.args.context.now)) c.in_ok-step_state.ensures) (pair c.in-Ok-clone_in.value c.step_state.new.value) (ap (λ (i : Data). pair i c.step_state.new.value) c.in-Ok-clone_in.ensures) c.step_observer.new.meter
+    c.step_observer.new.observer c.in_ok-seen.seen c.in_ok-seen.ensures (bound_value c.in-Some.payload) (some_occurs _ c.payload_of.result c.in-Some.payload c.in_ok-seen.seen c.payload_of.ensures c.in-Some.is)
+    (Unborn c.in-Ok-begin.value) (rw c.in-Ok.ensures.held at (c.in-Ok-begin.ensures (g.R.Holds.answers c.args.context.now.functions.now))) c.in-Ok-clone_in.value c.in-Ok-clone_in.ensures c.first_step.new.meter
+    c.first_step.new.state c.first_step.new.value _ c.show.ensures _ c.in_ok-first_step-in-Some.ensures
 
 -- ## Members that wait
 
@@ -1158,53 +1190,48 @@ step_edited-returns-in_err-step_editing g t c = λ m depth t T e L N W.
 pub step_releasing-returns-in-Err : goal.step_releasing-returns-in-Err
 step_releasing-returns-in-Err g t c = λ m depth t T e L N W. early_memory (context_machine g.R.Holds.answers c.args.context.now) t c.stop.ensures.entered c.stop.ensures.height c.stop.ensures.fault
 
-pub step_releasing-returns-in-Err-copies : goal.step_releasing-returns-in-Err-copies
-step_releasing-returns-in-Err-copies g t c = λ m depth t T e L N W. early_memory (context_machine g.R.Holds.answers c.args.context.now) t c.stop-in-Err-copies.ensures.entered c.stop-in-Err-copies.ensures.height c.stop-in-Err-copies.ensures.fault
+pub step_releasing-returns-in-Err-clone_in : goal.step_releasing-returns-in-Err-clone_in
+step_releasing-returns-in-Err-clone_in g t c = λ m depth t T e L N W. early_memory (context_machine g.R.Holds.answers c.args.context.now) t c.stop-in-Err-clone_in.ensures.entered c.stop-in-Err-clone_in.ensures.height c.stop-in-Err-clone_in.ensures.fault
 
 pub step_releasing-returns-in_err-step_members : goal.step_releasing-returns-in_err-step_members
 step_releasing-returns-in_err-step_members g t c = λ m depth t T e L N W.
     pass_beside (context_machine g.R.Holds.answers c.args.context.now) _ _ _ c.from_residual.ensures.0 (members_stop (context_machine g.R.Holds.answers c.args.context.now) c.args.names.now c.args.releasing.now c.args.context.now.dt c.args.value.now c.args.meter.now c.step_members.new.meter c.args.inside
     _ (run_alike (context_machine g.R.Holds.answers c.args.context.now) c.args.releasing.now.members c.hold_back_members.new.members (c.in-Ok.ensures.runs_on (context_machine g.R.Holds.answers c.args.context.now)) c.in_err-step_members.ensures) m depth t T e L N W)
 
-pub step_releasing-returns-in-Err-beside : goal.step_releasing-returns-in-Err-beside
-step_releasing-returns-in-Err-beside g t c = λ m depth t T e L N W.
-    memory_exit c.stop-in-Err-beside.ensures.fault (members_memory (context_machine g.R.Holds.answers c.args.context.now) c.args.names.now c.args.releasing.now c.args.context.now.dt c.args.value.now c.args.meter.now c.step_members.new.meter c.args.inside
-    c.step_members.new.members c.step_members.new.value (run_alike (context_machine g.R.Holds.answers c.args.context.now) c.args.releasing.now.members c.hold_back_members.new.members (c.in-Ok.ensures.runs_on (context_machine g.R.Holds.answers c.args.context.now)) c.in_ok-step_members.ensures) _ c.stop-in-Err-beside.ensures.entered c.stop-in-Err-beside.ensures.height m depth t T e L N W)
-
-pub step_releasing-returns-in_err-step_state : goal.step_releasing-returns-in_err-step_state
-step_releasing-returns-in_err-step_state g t c = λ m depth t T e L N W.
-    pass_beside (context_machine g.R.Holds.answers c.args.context.now) _ _ _ c.from_residual-in_err-step_state.ensures.0 (sight_fails (context_machine g.R.Holds.answers c.args.context.now) c.args.names.now c.args.releasing.now c.args.context.now.dt c.args.value.now c.args.meter.now c.step_members.new.meter c.args.inside
-    c.step_members.new.members c.step_members.new.value (run_alike (context_machine g.R.Holds.answers c.args.context.now) c.args.releasing.now.members c.hold_back_members.new.members (c.in-Ok.ensures.runs_on (context_machine g.R.Holds.answers c.args.context.now)) c.in_ok-step_members.ensures) c.in-Ok-beside.value (rw c.in-Ok-copies.ensures.0 at c.in-Ok-beside.ensures) c.step_state.new.meter
-    _ c.in_err-step_state.ensures m depth t T e L N W)
+pub step_releasing-returns-in_err-seen : goal.step_releasing-returns-in_err-seen
+step_releasing-returns-in_err-seen g t c = λ m depth t T e L N W.
+    pass_beside (context_machine g.R.Holds.answers c.args.context.now) _ _ _ c.from_residual-in_err-seen.ensures.0 (sight_fails (context_machine g.R.Holds.answers c.args.context.now) c.args.names.now c.args.releasing.now c.args.context.now.dt c.args.value.now c.args.meter.now c.step_members.new.meter c.args.inside
+    c.step_members.new.members c.step_members.new.value (run_alike (context_machine g.R.Holds.answers c.args.context.now) c.args.releasing.now.members c.hold_back_members.new.members (c.in-Ok.ensures.runs_on (context_machine g.R.Holds.answers c.args.context.now)) c.in_ok-step_members.ensures) (pair c.in-Ok-clone_in.value c.step_members.new.value) (ap (λ (i : Data). pair i c.step_members.new.value) c.in-Ok-clone_in.ensures) c.step_observer.new.meter
+    _ c.in_err-seen.ensures m depth t T e L N W)
 
 pub step_releasing-returns-in-None : goal.step_releasing-returns-in-None
 step_releasing-returns-in-None g t c =
     members_go_on (context_machine g.R.Holds.answers c.args.context.now) c.args.names.now c.args.releasing.now c.args.context.now.dt c.args.value.now c.args.meter.now c.step_members.new.meter c.args.inside
-    c.step_members.new.members c.step_members.new.value (run_alike (context_machine g.R.Holds.answers c.args.context.now) c.args.releasing.now.members c.hold_back_members.new.members (c.in-Ok.ensures.runs_on (context_machine g.R.Holds.answers c.args.context.now)) c.in_ok-step_members.ensures) c.in-Ok-beside.value (rw c.in-Ok-copies.ensures.0 at c.in-Ok-beside.ensures) c.step_state.new.meter
-    c.step_state.new.state c.step_state.new.value c.in_ok-step_state.ensures (none_occurs _ c.payload_of.result c.step_state.new.value c.payload_of.ensures c.in-None.is) _ _ refl
+    c.step_members.new.members c.step_members.new.value (run_alike (context_machine g.R.Holds.answers c.args.context.now) c.args.releasing.now.members c.hold_back_members.new.members (c.in-Ok.ensures.runs_on (context_machine g.R.Holds.answers c.args.context.now)) c.in_ok-step_members.ensures) (pair c.in-Ok-clone_in.value c.step_members.new.value) (ap (λ (i : Data). pair i c.step_members.new.value) c.in-Ok-clone_in.ensures) c.step_observer.new.meter
+    c.step_observer.new.observer c.in_ok-seen.seen c.in_ok-seen.ensures (none_occurs _ c.payload_of.result c.in_ok-seen.seen c.payload_of.ensures c.in-None.is) _ _ refl
 
 pub step_releasing-returns-in-Err-begin : goal.step_releasing-returns-in-Err-begin
 step_releasing-returns-in-Err-begin g t c = λ m depth t T e L N W.
     memory_exit c.stop-in-Err-begin.ensures.fault (sight_memory (context_machine g.R.Holds.answers c.args.context.now) c.args.names.now c.args.releasing.now c.args.context.now.dt c.args.value.now c.args.meter.now c.step_members.new.meter c.args.inside
-    c.step_members.new.members c.step_members.new.value (run_alike (context_machine g.R.Holds.answers c.args.context.now) c.args.releasing.now.members c.hold_back_members.new.members (c.in-Ok.ensures.runs_on (context_machine g.R.Holds.answers c.args.context.now)) c.in_ok-step_members.ensures) c.in-Ok-beside.value (rw c.in-Ok-copies.ensures.0 at c.in-Ok-beside.ensures) c.step_state.new.meter
-    c.step_state.new.state c.step_state.new.value c.in_ok-step_state.ensures _ c.stop-in-Err-begin.ensures.entered c.stop-in-Err-begin.ensures.height m depth t T e L N W)
+    c.step_members.new.members c.step_members.new.value (run_alike (context_machine g.R.Holds.answers c.args.context.now) c.args.releasing.now.members c.hold_back_members.new.members (c.in-Ok.ensures.runs_on (context_machine g.R.Holds.answers c.args.context.now)) c.in_ok-step_members.ensures) (pair c.in-Ok-clone_in.value c.step_members.new.value) (ap (λ (i : Data). pair i c.step_members.new.value) c.in-Ok-clone_in.ensures) c.step_observer.new.meter
+    c.step_observer.new.observer c.in_ok-seen.seen c.in_ok-seen.ensures _ c.stop-in-Err-begin.ensures.entered c.stop-in-Err-begin.ensures.height m depth t T e L N W)
 
-pub step_releasing-returns-in_err-successor-in-Some : goal.step_releasing-returns-in_err-successor-in-Some
-step_releasing-returns-in_err-successor-in-Some g t c = λ m depth t T e L N W.
-    pass_beside (context_machine g.R.Holds.answers c.args.context.now) _ _ _ c.from_residual-in_err-successor-in-Some.ensures.0 (released_body_fails (context_machine g.R.Holds.answers c.args.context.now) c.args.names.now c.args.releasing.now c.args.context.now.dt c.args.value.now c.args.meter.now c.step_members.new.meter c.args.inside
-    c.step_members.new.members c.step_members.new.value (run_alike (context_machine g.R.Holds.answers c.args.context.now) c.args.releasing.now.members c.hold_back_members.new.members (c.in-Ok.ensures.runs_on (context_machine g.R.Holds.answers c.args.context.now)) c.in_ok-step_members.ensures) c.in-Ok-beside.value (rw c.in-Ok-copies.ensures.0 at c.in-Ok-beside.ensures) c.step_state.new.meter
-    c.step_state.new.state c.step_state.new.value c.in_ok-step_state.ensures (bound_value c.in-Some.payload) (some_occurs _ c.payload_of.result c.in-Some.payload c.step_state.new.value c.payload_of.ensures c.in-Some.is)
+pub step_releasing-returns-in_err-first_step-in-Some : goal.step_releasing-returns-in_err-first_step-in-Some
+step_releasing-returns-in_err-first_step-in-Some g t c = λ m depth t T e L N W.
+    pass_beside (context_machine g.R.Holds.answers c.args.context.now) _ _ _ c.from_residual-in_err-first_step-in-Some.ensures.0 (released_body_fails (context_machine g.R.Holds.answers c.args.context.now) c.args.names.now c.args.releasing.now c.args.context.now.dt c.args.value.now c.args.meter.now c.step_members.new.meter c.args.inside
+    c.step_members.new.members c.step_members.new.value (run_alike (context_machine g.R.Holds.answers c.args.context.now) c.args.releasing.now.members c.hold_back_members.new.members (c.in-Ok.ensures.runs_on (context_machine g.R.Holds.answers c.args.context.now)) c.in_ok-step_members.ensures) (pair c.in-Ok-clone_in.value c.step_members.new.value) (ap (λ (i : Data). pair i c.step_members.new.value) c.in-Ok-clone_in.ensures) c.step_observer.new.meter
+    c.step_observer.new.observer c.in_ok-seen.seen c.in_ok-seen.ensures (bound_value c.in-Some.payload) (some_occurs _ c.payload_of.result c.in-Some.payload c.in_ok-seen.seen c.payload_of.ensures c.in-Some.is)
     (Unborn c.in-Ok-begin.value) (rw c.in-Ok.ensures.held at (c.in-Ok-begin.ensures (g.R.Holds.answers c.args.context.now.functions.now)))
-    c.in-Ok-copies.value.1 c.in-Ok-copies.ensures.1 c.step_begun.new.meter _ c.in_err-successor-in-Some.ensures m depth t T e L N W)
+    c.in-Ok-clone_in.value c.in-Ok-clone_in.ensures c.first_step.new.meter _ c.in_err-first_step-in-Some.ensures m depth t T e L N W)
 
-pub step_releasing-returns-in_ok-successor-in-Some : goal.step_releasing-returns-in_ok-successor-in-Some
-step_releasing-returns-in_ok-successor-in-Some g t c =
+pub step_releasing-returns-in_ok-first_step-in-Some : goal.step_releasing-returns-in_ok-first_step-in-Some
+step_releasing-returns-in_ok-first_step-in-Some g t c =
     released_body_takes_over (context_machine g.R.Holds.answers c.args.context.now) c.args.names.now c.args.releasing.now c.args.context.now.dt c.args.value.now c.args.meter.now c.step_members.new.meter c.args.inside
-    c.step_members.new.members c.step_members.new.value (run_alike (context_machine g.R.Holds.answers c.args.context.now) c.args.releasing.now.members c.hold_back_members.new.members (c.in-Ok.ensures.runs_on (context_machine g.R.Holds.answers c.args.context.now)) c.in_ok-step_members.ensures) c.in-Ok-beside.value (rw c.in-Ok-copies.ensures.0 at c.in-Ok-beside.ensures) c.step_state.new.meter
-    c.step_state.new.state c.step_state.new.value c.in_ok-step_state.ensures (bound_value c.in-Some.payload) (some_occurs _ c.payload_of.result c.in-Some.payload c.step_state.new.value c.payload_of.ensures c.in-Some.is)
+    c.step_members.new.members c.step_members.new.value (run_alike (context_machine g.R.Holds.answers c.args.context.now) c.args.releasing.now.members c.hold_back_members.new.members (c.in-Ok.ensures.runs_on (context_machine g.R.Holds.answers c.args.context.now)) c.in_ok-step_members.ensures) (pair c.in-Ok-clone_in.value c.step_members.new.value) (ap (λ (i : Data). pair i c.step_members.new.value) c.in-Ok-clone_in.ensures) c.step_observer.new.meter
+    c.step_observer.new.observer c.in_ok-seen.seen c.in_ok-seen.ensures (bound_value c.in-Some.payload) (some_occurs _ c.payload_of.result c.in-Some.payload c.in_ok-seen.seen c.payload_of.ensures c.in-Some.is)
     (Unborn c.in-Ok-begin.value) (rw c.in-Ok.ensures.held at (c.in-Ok-begin.ensures (g.R.Holds.answers c.args.context.now.functions.now)))
-    c.in-Ok-copies.value.1 c.in-Ok-copies.ensures.1 c.step_begun.new.meter
-    c.in_ok-successor-in-Some.successor c.in_ok-successor-in-Some.output _ c.show.ensures _ c.in_ok-successor-in-Some.ensures
+    c.in-Ok-clone_in.value c.in-Ok-clone_in.ensures c.first_step.new.meter
+    c.first_step.new.state c.first_step.new.value _ c.show.ensures _ c.in_ok-first_step-in-Some.ensures
 
 -- ## step_editing
 

@@ -149,8 +149,11 @@ decreases-step_recurring g l = 26 * (1600 - l.inside) + 12
 abbrev pub decreases-step_continuing : goal.decreases-step_continuing
 decreases-step_continuing g l = 26 * (1600 - l.inside) + 12
 
-abbrev pub decreases-step_begun : goal.decreases-step_begun
-decreases-step_begun g l = 26 * (1600 - l.inside) + 7
+abbrev pub decreases-step_observer : goal.decreases-step_observer
+decreases-step_observer g l = 26 * (1600 - l.inside) + 7
+
+abbrev pub decreases-first_of_observer : goal.decreases-first_of_observer
+decreases-first_of_observer g l = 26 * (1600 - l.around.now.inside) + 1
 
 abbrev pub invariant-step_pipeline-loop-stage : goal.invariant-step_pipeline-loop-stage
 invariant-step_pipeline-loop-stage g l = record {
