@@ -14,14 +14,15 @@ ghost use Rattle.sf_code.specs.Running;
 ghost use Rattle.sf_code.specs.Worth.{IsCodeOf, IsCodeOfFunction, IsCodeOfIn, AnswersAsFunction};
 
 use crate::around::{Around, names_around, pattern_of_around};
+use crate::beside::{Halves, worth_beside};
 use crate::code::Code;
 use crate::compiler::compile;
 use crate::frames::{Found, Frames, part};
 use crate::open::OpenCode;
 use crate::pattern::FramePattern;
-use crate::place::{Half, Path, Patterns, Place};
+use crate::place::{Patterns, Place};
 use crate::rearranging::{paired_halves, rearranged};
-use crate::running::{answer, found, pair_of, run};
+use crate::running::{answer, pair_of, run};
 use sf_expr::{ExprId, Exprs, FunctionId};
 use sf_func::Holds;
 use sf_operator::EvalFault;
@@ -115,8 +116,8 @@ pub fn apply<F: Holds>(
     run_over(alloc, code, around, value, functions)
 }
 
-/// What a function without names around it answers to the pair of two values by its code, or the first fault. A part of one of them
-/// is answered without making the pair.
+/// What a function without names around it answers to the pair of two values by its code, or the first fault. The pair is made only
+/// where one operation on parts of the two, or a choice between such parts, doesn't say it.
 #[inline(never)]
 pub fn apply_beside<F: Holds>(
     alloc: Global,
@@ -127,11 +128,9 @@ pub fn apply_beside<F: Holds>(
 ) -> Result<Value, EvalFault>
     ensures { (s : Scope) → scope_functions s ≡ F.answers functions.now → (g : Function) → AnswersAsFunction s g [] code.now → Evaluates result (Evaluation.apply g (pair first.now second.now) s) }
 {
-    if let Code::Place(Place::Here(Path::Half(half, path))) = code {
-        return match half {
-            Half::First => found(alloc, part(Found::Value(first), path)),
-            Half::Second => found(alloc, part(Found::Value(second), path)),
-        };
+    let halves = Halves { first, second };
+    if let Some(worth) = worth_beside(alloc, code, halves) {
+        return worth;
     }
     let both = pair_of(alloc, first, second)?;
     answer(alloc, code, &both, &Frames::Empty, functions)

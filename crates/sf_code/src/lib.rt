@@ -13,6 +13,7 @@
 mod argument;
 mod arithmetic;
 mod around;
+mod beside;
 mod code;
 mod compiler;
 mod evaluation;

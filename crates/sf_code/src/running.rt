@@ -119,7 +119,7 @@ pub(crate) fn found(alloc: Global, found: Found) -> Result<Value, EvalFault>
 
 /// A number as a value, or the fault in its place.
 #[inline(always)]
-fn computed(number: Result<i64, EvalFault>) -> Result<Value, EvalFault>
+pub(crate) fn computed(number: Result<i64, EvalFault>) -> Result<Value, EvalFault>
     ensures { (worth : Evaluated Data) → EvaluatesAs (λ n. Values.number n) number worth → Evaluates result worth }
 {
     Ok(Value::int(number?))
@@ -228,7 +228,7 @@ fn arithmetic<F: Holds>(
 
 /// The number that arithmetic makes of what was found and a number, or its fault: the number 0 of what is no number.
 #[inline(always)]
-fn with_number(operator: Arithmetic, found: Found, number: i64) -> Result<i64, EvalFault>
+pub(crate) fn with_number(operator: Arithmetic, found: Found, number: i64) -> Result<i64, EvalFault>
     ensures { EvaluatesAs (λ n. Values.number n) result (Operations.operated (operators.Arithmetic operator) (found_value found.entry) (Values.number number)) }
 {
     match found.number() {
@@ -239,7 +239,7 @@ fn with_number(operator: Arithmetic, found: Found, number: i64) -> Result<i64, E
 
 /// The number that arithmetic makes of a number and what was found, or its fault: the number 0 of what is no number.
 #[inline(always)]
-fn number_with(operator: Arithmetic, number: i64, found: Found) -> Result<i64, EvalFault>
+pub(crate) fn number_with(operator: Arithmetic, number: i64, found: Found) -> Result<i64, EvalFault>
     ensures { EvaluatesAs (λ n. Values.number n) result (Operations.operated (operators.Arithmetic operator) (Values.number number) (found_value found.entry)) }
 {
     match found.number() {
@@ -367,7 +367,7 @@ fn truthful(value: Result<Value, EvalFault>) -> Result<Option<bool>, EvalFault>
 
 /// The truth that was found, if it is one.
 #[inline(always)]
-fn truth_found(found: Found) -> Option<bool>
+pub(crate) fn truth_found(found: Found) -> Option<bool>
     ensures { result ≡ truth_held (found_value found.entry) }
 {
     match found {
@@ -378,7 +378,7 @@ fn truth_found(found: Found) -> Option<bool>
 
 /// Whether what was found and a number stand in order as an operator says, none where they have no order.
 #[inline(always)]
-fn compared_with(operator: Comparison, found: Found, number: i64) -> Option<bool>
+pub(crate) fn compared_with(operator: Comparison, found: Found, number: i64) -> Option<bool>
     ensures { Operations.operated (operators.Comparison operator) (found_value found.entry) (Values.number number) ≡ known result (λ b. Outcomes.answer (Values.truth b)) }
 {
     match found.number() {
@@ -389,7 +389,7 @@ fn compared_with(operator: Comparison, found: Found, number: i64) -> Option<bool
 
 /// Whether what was found and a number are the same, or whether they are not.
 #[inline(always)]
-fn equated_with(operator: Equality, found: Found, number: i64) -> bool
+pub(crate) fn equated_with(operator: Equality, found: Found, number: i64) -> bool
     ensures { result ≡ of_equality operator (same_data (found_value found.entry) (Values.number number)) }
 {
     let same = match found.number() {
@@ -466,7 +466,7 @@ fn ordered(
 
 /// Whether two numbers stand in order as an operator says.
 #[inline(always)]
-fn in_order(operator: Comparison, left: i64, right: i64) -> bool
+pub(crate) fn in_order(operator: Comparison, left: i64, right: i64) -> bool
     ensures { result ≡ of_comparison operator (int_cmp left right) }
 {
     let order = left.cmp(&right);
