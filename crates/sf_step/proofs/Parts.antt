@@ -19,7 +19,7 @@ use Rattle.sf_meter.specs.Meters.{entered_of, meter_height, meter_fault, reading
 use Rattle.sf_state.specs.declared.env.Payload.{Payload}
 use Rattle.sf_state.specs.Names.{bound_value}
 use Rattle.sf_state.specs.declared.state.State.{State}
-use Rattle.sf_step.specs.Answering.{Rel, Spent, AtMost, Within, StopsFor, faults, large, memory, Answers, answers, fails, left_apart, left_valued}
+use Rattle.sf_step.specs.Answering.{Rel, Spent, AtMost, Within, StopsFor, faults, large, memory, Answers, answers, fails, left_apart, left_split, left_valued, whole_of}
 use Rattle.sf_step.specs.Sampling.{GivesApart, apart, stopped, TakenApart, halved, not_granted}
 
 -- one outcome at most
@@ -183,9 +183,23 @@ pass_exit (Ok a) b e h = absurd cc
 pass_exit (Err q) b e h = fails h
 
 -- the same where two values are not yet a pair
-pub pass_apart : {E : Type 0} {view : State × Data → Data} {after : State × Data → Type 0} {R : Rel} {m n : Meter} {depth : ℕ} {f : Fault} (r : Result Data E) (a : State) (y : Data) → IsErr r → StopsFor R f m n depth → Answers view after R (left_apart r a y f) m n depth
+pub pass_apart : {A E : Type 0} {view : A × Data → Data} {after : A × Data → Type 0} {R : Rel} {m n : Meter} {depth : ℕ} {f : Fault} (r : Result Data E) (a : A) (y : Data) → IsErr r → StopsFor R f m n depth → Answers view after R (left_apart r a y f) m n depth
 pass_apart (Ok x) a y e h = absurd cc
 pass_apart (Err q) a y e h = fails h
+
+-- the same where a value may stand apart
+pub pass_split : {A E : Type 0} {view : A × Data → Data} {after : A × Data → Type 0} {R : Rel} {m n : Meter} {depth : ℕ} {f : Fault} (r : Result (Option Data) E) (a : A) (y : Data) → IsErr r → StopsFor R f m n depth → Answers view after R (left_split r a y f) m n depth
+pass_split (Ok o) a y e h = absurd cc
+pass_split (Err q) a y e h = fails h
+
+-- a value that may stand apart, as one that is left in place
+abbrev pub split_back : {E : Type 0} → Result (Option Data) E → Data → Data
+split_back (Ok o) y = whole_of o y
+split_back (Err e) y = unit
+
+pub split_as : {A E : Type 0} (r : Result (Option Data) E) (a : A) (y : Data) (f : Fault) → left_or r (a, split_back r y) f ≡ left_split r a y f
+split_as (Ok o) a y f = refl
+split_as (Err e) a y f = refl
 
 -- the same where a value is handed back
 pub pass_valued : {A E : Type 0} {view : A × Data → Data} {after : A × Data → Type 0} {R : Rel} {m n : Meter} {depth : ℕ} {f : Fault} (r : Result Data E) (a : A) → IsErr r → StopsFor R f m n depth → Answers view after R (left_valued r a f) m n depth

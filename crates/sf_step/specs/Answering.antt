@@ -1,5 +1,5 @@
 -- What the parts of a sample answer, and what the meter counts for them.
-use Rattle.std.specs.Prelude.{◌≡◌, ℕ, ◌+◌, ◌≤◌, max, [], ◌∷◌, ◌++◌, Result, Ok, Err}
+use Rattle.std.specs.Prelude.{◌≡◌, ℕ, ◌+◌, ◌≤◌, max, [], ◌∷◌, ◌++◌, Option, Some, None, Result, Ok, Err}
 use Rattle.sf_value.specs.Values.{Data, pair}
 use Rattle.sf_value.specs.declared.fault.ValueFault.{ValueFault}
 use Rattle.sf_value.specs.declared.fault.Fault.{Fault}
@@ -71,9 +71,19 @@ abbrev pub FirstSteps : Machine → Term → Env → Step → Result (State × D
 FirstSteps μ t names s result n n' = (inside : ℕ) → TermSteps μ t names s result n n' inside
 
 -- what a step of two parts on one input left, whose values are not yet a pair, or the fault that stands in the meter
-abbrev pub left_apart : {E : Type 0} → Result Data E → State → Data → Fault → Result (State × Data) Fault
+abbrev pub left_apart : {A E : Type 0} → Result Data E → A → Data → Fault → Result (A × Data) Fault
 left_apart (Ok x) a y f = Ok (a, pair x y)
 left_apart (Err e) a y f = Err f
+
+-- a value of which the first half may stand apart
+abbrev pub whole_of : Option Data → Data → Data
+whole_of None y = y
+whole_of (Some x) y = pair x y
+
+-- what a step left whose value may stand apart, or the fault that stands in the meter
+abbrev pub left_split : {A E : Type 0} → Result (Option Data) E → A → Data → Fault → Result (A × Data) Fault
+left_split (Ok o) a y f = Ok (a, whole_of o y)
+left_split (Err e) a y f = Err f
 
 -- what a step left in place, beside the value that it handed back, or the fault that stands in the meter
 abbrev pub left_valued : {A E : Type 0} → Result Data E → A → Fault → Result (A × Data) Fault

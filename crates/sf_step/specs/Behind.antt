@@ -1,5 +1,8 @@
--- Primitives behind `arr`.
+-- `arr`, and primitives behind it.
 use Rattle.std.specs.Prelude.{◌≡◌, Some, None}
+use Rattle.std.specs.declared.alloc.Global.{Global}
+use Rattle.std.specs.declared.rc.Rc.{Rc}
+use Rattle.sf_code.specs.declared.open.OpenCode.{OpenCode}
 use Rattle.sf_term.specs.Trees.{Term}
 use Rattle.sf_term.specs.declared.form.Join.TheVariants.{InSequence}
 use Rattle.sf_law.specs.declared.plan.Plan.{Plan}
@@ -20,3 +23,10 @@ pub record IsBehindArrow (p : Plan) (t : Term) (b : declared.BehindArrow) : Type
   pub first : BuildsPlan p (Primitive before) (plan_tree p (full_id b.arrow))
   pub second : BuildsPlan p (Primitive b.primitive.now) (plan_tree p after)
   pub joined : AreJoined InSequence (plan_tree p (full_id b.arrow)) (plan_tree p after) t
+
+-- A term is `arr` of a function without names around it, of this code.
+pub record IsBareArrow (p : Plan) (t : Term) (code : Rc OpenCode Global) : Type 0 where
+  pub bare : code.value.around ≡ None
+  pub primitive : PlanPrimitive
+  pub coded : arrow_code primitive ≡ Some code
+  pub built : BuildsPlan p (Primitive primitive) t

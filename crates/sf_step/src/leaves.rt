@@ -11,7 +11,7 @@ ghost use Rattle.sf_law.specs.Arena.{BuildsPlan, plan_tree, plan_node_at, full_i
 ghost use Rattle.sf_law.specs.declared.node.PlanNode.TheVariants as NodeOf;
 ghost use Rattle.sf_meter.specs.Meters.{left_or, entered_of, meter_fault};
 ghost use Rattle.sf_step.specs.Answering.{PrimSteps, LiveSteps, FirstSteps, TermSteps, left_valued};
-ghost use Rattle.sf_step.specs.Behind.{IsBehindArrow};
+ghost use Rattle.sf_step.specs.Behind.{IsBareArrow, IsBehindArrow};
 ghost use Rattle.sf_value.specs.Values.{pair};
 ghost use Rattle.sf_state.specs.declared.state.State.TheVariants as StateOf;
 ghost use Rattle.sf_state.specs.Standing.{in_sequence, behind_arrow, closed_over, AreJoined};
@@ -192,9 +192,9 @@ pub(crate) fn step_mapped_beside<R: Holds>(
     Ok(value)
 }
 
-// The value at the next sample of `arr` of a function, of which the state is this code, on the pair of two values. It is counted here.
+/// The value at the next sample of `arr` of a function, of which the state is this code, on the pair of two values. It is counted here.
 #[inline(always)]
-fn count_and_map_beside<R: Holds>(
+pub(crate) fn count_and_map_beside<R: Holds>(
     context: &SampleContext<R>,
     code: &Rc<OpenCode>,
     inside: u64,
@@ -428,6 +428,53 @@ pub(crate) fn first_behind<R: Holds>(
     let mut value = first_map_beside(around, behind.code, both, meter)?;
     first_of_both(around, &mut prim, behind.primitive, &mut value, meter)?;
     state.put(State::Mapped(behind.arrow, prim));
+    Ok(value)
+}
+
+/// The code of a part, if it is `arr` of a function without names around it.
+#[inline(always)]
+pub(crate) fn arrow_of(state: &State) -> Option<&Rc<OpenCode>>
+    ensures { IfSome result (λ code. state.now ≡ StateOf.Primitive (PrimOf.Arrow code.now)) }
+{
+    match state {
+        State::Primitive(prim) => match prim {
+            PrimState::Arrow(code) => Some(code),
+            _ => None,
+        },
+        _ => None,
+    }
+}
+
+/// The code of the term of an id, if it is `arr` of a function without names around it.
+#[inline(always)]
+pub(crate) fn bare_arrow(plan: &Plan, term: PlanId) -> Option<&Rc<OpenCode>>
+    ensures { IfSome result (λ code. IsBareArrow plan.now (plan_tree plan.now term) code.now) }
+{
+    let PlanNode::Primitive(primitive) = plan.node(term) else {
+        return None;
+    };
+    let code = bare_code(primitive)?;
+    Some(code)
+}
+
+/// The value at the first sample of such an `arr` on the pair of two values; what it is from then on takes the place of a state.
+/// It is counted here. After an error the state stands for nothing.
+#[inline(never)]
+pub(crate) fn first_arrow<R: Holds>(
+    around: &Around<R>,
+    state: &mut State,
+    code: &Rc<OpenCode>,
+    both: Beside,
+    meter: &mut Meter,
+) -> Result<Value, Stop>
+    requires bare { code.now.value.around ≡ None }
+    ensures { let p = plan_around around.now in (term : plan_ids.PlanId) → IsBareArrow p (plan_tree p term) code.now →
+        StateSteps (machine_around R.answers around.now) (StateOf.Unborn (closed_over term around.now.names.now)) (step (dt_around around.now) (pair both.entry.input.now both.entry.given.now))
+        (left_valued result state.new (meter_fault meter.new)) meter.old meter.new around.now.inside }
+{
+    let shared = granted!(meter, code.clone());
+    let value = first_map_beside(around, code, both, meter)?;
+    state.put(State::Primitive(PrimState::Arrow(shared)));
     Ok(value)
 }
 

@@ -18,7 +18,7 @@ ghost use Rattle.sf_law.specs.declared.node.PlanPrimitive as primitive_nodes;
 ghost use Rattle.sf_law.specs.declared.node.PlanNode.TheVariants as NodeOf;
 ghost use Rattle.sf_state.specs.Machine.{machine};
 ghost use Rattle.sf_meter.specs.Meters.{left_or, entered_of, meter_height, meter_fault};
-ghost use Rattle.sf_step.specs.Answering.{LiveSteps, TermSteps, left_apart, left_valued};
+ghost use Rattle.sf_step.specs.Answering.{LiveSteps, TermSteps, left_apart, left_split, left_valued, whole_of};
 ghost use Rattle.sf_value.specs.Values.{pair};
 ghost use Rattle.sf_step.specs.Around.{machine_around, plan_around, dt_around};
 ghost use Rattle.sf_begin.specs.Contexts.{context_machine, dt_in};
@@ -28,8 +28,9 @@ ghost use Rattle.sf_step.specs.Stepping.{Steps};
 ghost use Rattle.sf_step.specs.Routing.{observation_of};
 
 use crate::leaves::{
-    Beside, first_behind, first_primitive, first_two, primitive_behind, step_mapped,
-    step_mapped_beside, step_prim, step_prim_inline, step_primitives, step_probe,
+    Beside, arrow_of, bare_arrow, count_and_map_beside, first_arrow, first_behind, first_primitive,
+    first_two, primitive_behind, step_mapped, step_mapped_beside, step_prim, step_prim_inline,
+    step_primitives, step_probe,
 };
 use crate::routing::{
     beside, hold_back, payload_of, put_first, put_last, put_live, show, take_over,
@@ -485,7 +486,7 @@ fn first_continuing<R: Holds>(
     };
     first_step(&among, &mut source, before.term, value, meter)?;
     let mut observer = State::unborn(form.observer);
-    let seen = first_of_observer(around, &mut observer, form.observer, &input, &*value, meter)?;
+    let seen = first_beside(around, &mut observer, form.observer, &input, &*value, meter)?;
     let continuing = Continuation {
         shown: form.shown,
         first: form.source,
@@ -546,13 +547,72 @@ fn first_sequence<R: Holds>(
     let Live::Join(_, first, second) = &mut live else {
         unreachable!();
     };
-    first_step(around, first, left, value, meter)?;
-    first_step(around, second, right, value, meter)?;
+    let splits = bare_arrow(plan, right).is_some();
+    let apart = first_split(around, first, left, splits, value, meter)?;
+    first_on_split(around, second, right, apart, value, meter)?;
     granted!(
         meter,
         put_live(around.context.alloc, around.names, live, state)
     );
     Ok(())
+}
+
+// The first sample of a term, whose value may stay apart: of two parts that share their input, the value of the left one is answered,
+// and that of the right one takes the place of the input. The value of another term takes that place whole.
+#[cycle(step)]
+#[inline(always)]
+fn first_split<R: Holds>(
+    around: &Around<R>,
+    state: &mut State,
+    term: PlanId,
+    splits: bool,
+    value: &mut Value,
+    meter: &mut Meter,
+) -> Result<Option<Value>, Stop>
+    ensures { StateSteps (machine_around R.answers around.now) (StateOf.Unborn (closed_over term around.now.names.now)) (step (dt_around around.now) value.old)
+        (left_split result state.new value.new (meter_fault meter.new)) meter.old meter.new around.now.inside }
+{
+    let context = around.context;
+    if splits {
+        if let PlanNode::Joined(join, left, right) = context.plan.node(term) {
+            if let Join::FannedOut = join {
+                let inside = meter.tick(around.inside)?;
+                let within = Around {
+                    context: &*context,
+                    names: &*around.names,
+                    inside,
+                };
+                let first = first_halves(&within, state, *left, *right, value, meter)?;
+                return Ok(Some(first));
+            }
+        }
+    }
+    first_step(around, state, term, value, meter)?;
+    Ok(None)
+}
+
+// The first sample of a term on a value that may stand apart.
+#[cycle(step)]
+#[inline(always)]
+fn first_on_split<R: Holds>(
+    around: &Around<R>,
+    state: &mut State,
+    term: PlanId,
+    apart: Option<Value>,
+    value: &mut Value,
+    meter: &mut Meter,
+) -> Result<(), Stop>
+    ensures { StateSteps (machine_around R.answers around.now) (StateOf.Unborn (closed_over term around.now.names.now)) (step (dt_around around.now) (whole_of apart value.old))
+        (left_or result (state.new, value.new) (meter_fault meter.new)) meter.old meter.new around.now.inside }
+{
+    match apart {
+        None => first_step(around, state, term, value, meter),
+        Some(first) => {
+            let given = first_beside(around, state, term, &first, &*value, meter)?;
+            *value = given;
+            Ok(())
+        }
+    }
 }
 
 // The same of two parts that share their input.
@@ -902,7 +962,7 @@ fn step_releasing<R: Holds>(
     let input = granted!(meter, value.clone_in(alloc));
     step_members(context, &mut releasing.members, inside, value, meter)?;
     let observer = &mut releasing.observer;
-    let seen = step_observer(context, observer, inside, &input, &*value, meter)?;
+    let seen = step_beside(context, observer, inside, &input, &*value, meter)?;
     match payload_of(seen) {
         None => Ok(None),
         Some(payload) => {
@@ -1551,9 +1611,7 @@ fn step_fan_apart<R: Holds>(
     ensures { GivesApart (λ gives. LiveSteps (context_machine R.answers context.now) (Live.Join Join.FannedOut left.old right.old) (step (dt_in context.now) value.old) gives meter.old meter.new inside)
         (Live.Join Join.FannedOut left.new right.new) (meter_fault meter.new) result }
 {
-    let mut first = granted!(meter, value.clone_in(context.alloc));
-    step_state(context, left, inside, &mut first, meter)?;
-    step_state(context, right, inside, value, meter)?;
+    let first = step_halves(context, left, right, inside, value, meter)?;
     let second = mem::replace(value, Value::int(0));
     Ok((first, payload_of(second)))
 }
@@ -1637,7 +1695,7 @@ fn step_continuing<R: Holds>(
     let input = granted!(meter, value.clone_in(context.alloc));
     step_state(context, &mut continuing.source, inside, value, meter)?;
     let observer = &mut continuing.observer;
-    let seen = step_observer(context, observer, inside, &input, &*value, meter)?;
+    let seen = step_beside(context, observer, inside, &input, &*value, meter)?;
     match payload_of(seen) {
         None => Ok(None),
         Some(payload) => {
@@ -1660,46 +1718,54 @@ fn step_continuing<R: Holds>(
     }
 }
 
-// The value at the next sample of an observer, on the input beside the value of what it observes. The two are made a pair unless it
-// is a primitive behind an `arr`.
+// The value at the next sample of a part on the pair of two values, which are made one unless the part is an `arr`, or a primitive
+// behind one.
 #[cycle(step)]
 #[inline(always)]
-fn step_observer<R: Holds>(
+fn step_beside<R: Holds>(
     context: &SampleContext<R>,
-    observer: &mut State,
+    state: &mut State,
     inside: u64,
     input: &Value,
     given: &Value,
     meter: &mut Meter,
 ) -> Result<Value, Stop>
-    ensures { StateSteps (context_machine R.answers context.now) observer.old (step (dt_in context.now) (pair input.now given.now))
-        (left_valued result observer.new (meter_fault meter.new)) meter.old meter.new inside }
+    ensures { StateSteps (context_machine R.answers context.now) state.old (step (dt_in context.now) (pair input.now given.now))
+        (left_valued result state.new (meter_fault meter.new)) meter.old meter.new inside }
 {
-    if let State::Mapped(arrow, prim) = observer {
+    if let State::Mapped(arrow, prim) = state {
         let within = meter.tick(inside)?;
         let both = Beside { input, given };
         return step_mapped_beside(context, *arrow, prim, within, both, meter);
     }
+    if let Some(code) = arrow_of(&*state) {
+        let both = Beside { input, given };
+        return count_and_map_beside(context, code, inside, both, meter);
+    }
     let mut seen = granted!(meter, beside(context.alloc, input, given));
-    step_state(context, observer, inside, &mut seen, meter)?;
+    step_state(context, state, inside, &mut seen, meter)?;
     Ok(seen)
 }
 
 // The same at its first sample.
 #[cycle(step)]
 #[inline(always)]
-fn first_of_observer<R: Holds>(
+fn first_beside<R: Holds>(
     around: &Around<R>,
-    observer: &mut State,
+    state: &mut State,
     term: PlanId,
     input: &Value,
     given: &Value,
     meter: &mut Meter,
 ) -> Result<Value, Stop>
     ensures { StateSteps (machine_around R.answers around.now) (StateOf.Unborn (closed_over term around.now.names.now)) (step (dt_around around.now) (pair input.now given.now))
-        (left_valued result observer.new (meter_fault meter.new)) meter.old meter.new around.now.inside }
+        (left_valued result state.new (meter_fault meter.new)) meter.old meter.new around.now.inside }
 {
     let context = around.context;
+    if let Some(code) = bare_arrow(context.plan, term) {
+        let both = Beside { input, given };
+        return first_arrow(around, state, code, both, meter);
+    }
     if let Some(behind) = primitive_behind(context.plan, term) {
         let inside = meter.tick(around.inside)?;
         let within = Around {
@@ -1708,10 +1774,10 @@ fn first_of_observer<R: Holds>(
             inside,
         };
         let both = Beside { input, given };
-        return first_behind(&within, observer, behind, both, meter);
+        return first_behind(&within, state, behind, both, meter);
     }
     let mut seen = granted!(meter, beside(context.alloc, input, given));
-    first_step(around, observer, term, &mut seen, meter)?;
+    first_step(around, state, term, &mut seen, meter)?;
     Ok(seen)
 }
 
@@ -1805,8 +1871,124 @@ fn step_sequence<R: Holds>(
     ensures { LiveSteps (context_machine R.answers context.now) (Live.Join Join.InSequence left.old right.old) (step (dt_in context.now) value.old)
         (left_or result (Live.Join Join.InSequence left.new right.new, value.new) (meter_fault meter.new)) meter.old meter.new inside }
 {
-    step_state(context, left, inside, value, meter)?;
-    step_state(context, right, inside, value, meter)
+    let splits = takes_halves(&*right);
+    let apart = step_split(context, left, splits, inside, value, meter)?;
+    step_on_split(context, right, apart, inside, value, meter)
+}
+
+// Whether a part runs its code on two halves of its input without their pair.
+#[inline(always)]
+fn takes_halves(state: &State) -> bool {
+    match state {
+        State::Mapped(_, _) => true,
+        _ => arrow_of(state).is_some(),
+    }
+}
+
+// The next sample of a part, whose value may stay apart: of two parts that share their input, the value of the left one is answered,
+// and that of the right one takes the place of the input. The value of another part, and of a shared node, takes that place whole.
+#[cycle(step)]
+#[inline(always)]
+fn step_split<R: Holds>(
+    context: &SampleContext<R>,
+    state: &mut State,
+    splits: bool,
+    depth: u64,
+    value: &mut Value,
+    meter: &mut Meter,
+) -> Result<Option<Value>, Stop>
+    ensures { StateSteps (context_machine R.answers context.now) state.old (step (dt_in context.now) value.old)
+        (left_split result state.new value.new (meter_fault meter.new)) meter.old meter.new depth }
+{
+    if splits {
+        if let State::Live(_, node) = state {
+            let inside = meter.tick(depth)?;
+            return step_node_split(context, node, inside, value, meter);
+        }
+    }
+    step_state(context, state, depth, value, meter)?;
+    Ok(None)
+}
+
+// The same of a node, which has been counted.
+#[cycle(step)]
+#[inline(always)]
+fn step_node_split<R: Holds>(
+    context: &SampleContext<R>,
+    node: &mut Rc<Live>,
+    inside: u64,
+    value: &mut Value,
+    meter: &mut Meter,
+) -> Result<Option<Value>, Stop>
+    ensures { LiveSteps (context_machine R.answers context.now) node.old.value (step (dt_in context.now) value.old)
+        (left_split result node.new.value value.new (meter_fault meter.new)) meter.old meter.new inside }
+{
+    match Rc::get_mut(node) {
+        Some(live) => step_live_split(context, live, inside, value, meter),
+        None => {
+            step_node_copy(context, node, inside, value, meter)?;
+            Ok(None)
+        }
+    }
+}
+
+// The same of the node's content, which is its own.
+#[cycle(step)]
+#[inline(always)]
+fn step_live_split<R: Holds>(
+    context: &SampleContext<R>,
+    live: &mut Live,
+    inside: u64,
+    value: &mut Value,
+    meter: &mut Meter,
+) -> Result<Option<Value>, Stop>
+    ensures { LiveSteps (context_machine R.answers context.now) live.old (step (dt_in context.now) value.old)
+        (left_split result live.new value.new (meter_fault meter.new)) meter.old meter.new inside }
+{
+    match live {
+        Live::Join(join, left, right) => match join {
+            Join::InSequence => {
+                step_sequence(context, left, right, inside, value, meter)?;
+                Ok(None)
+            }
+            Join::InParallel => {
+                step_parallel(context, left, right, inside, value, meter)?;
+                Ok(None)
+            }
+            Join::FannedOut => {
+                let first = step_halves(context, left, right, inside, value, meter)?;
+                Ok(Some(first))
+            }
+        },
+        _ => {
+            step_live(context, live, inside, value, meter)?;
+            Ok(None)
+        }
+    }
+}
+
+// The next sample of a part on a value that may stand apart.
+#[cycle(step)]
+#[inline(always)]
+fn step_on_split<R: Holds>(
+    context: &SampleContext<R>,
+    state: &mut State,
+    apart: Option<Value>,
+    depth: u64,
+    value: &mut Value,
+    meter: &mut Meter,
+) -> Result<(), Stop>
+    ensures { StateSteps (context_machine R.answers context.now) state.old (step (dt_in context.now) (whole_of apart value.old))
+        (left_or result (state.new, value.new) (meter_fault meter.new)) meter.old meter.new depth }
+{
+    match apart {
+        None => step_state(context, state, depth, value, meter),
+        Some(first) => {
+            let given = step_beside(context, state, depth, &first, &*value, meter)?;
+            *value = given;
+            Ok(())
+        }
+    }
 }
 
 // The next sample of two parts side by side, likewise.
@@ -1846,13 +2028,31 @@ fn step_fan<R: Holds>(
     ensures { LiveSteps (context_machine R.answers context.now) (Live.Join Join.FannedOut left.old right.old) (step (dt_in context.now) value.old)
         (left_or result (Live.Join Join.FannedOut left.new right.new, value.new) (meter_fault meter.new)) meter.old meter.new inside }
 {
-    let mut first = granted!(meter, value.clone_in(context.alloc));
-    step_state(context, left, inside, &mut first, meter)?;
-    step_state(context, right, inside, value, meter)?;
+    let first = step_halves(context, left, right, inside, value, meter)?;
     let second = mem::replace(value, Value::int(0));
     let both = granted!(meter, Value::pair(context.alloc, first, second));
     *value = both;
     Ok(())
+}
+
+// The same without a pair: the value of the left part. That of the right one takes the place of the input.
+#[cycle(step)]
+#[inline(always)]
+fn step_halves<R: Holds>(
+    context: &SampleContext<R>,
+    left: &mut State,
+    right: &mut State,
+    inside: u64,
+    value: &mut Value,
+    meter: &mut Meter,
+) -> Result<Value, Stop>
+    ensures { LiveSteps (context_machine R.answers context.now) (Live.Join Join.FannedOut left.old right.old) (step (dt_in context.now) value.old)
+        (left_apart result (Live.Join Join.FannedOut left.new right.new) value.new (meter_fault meter.new)) meter.old meter.new inside }
+{
+    let mut first = granted!(meter, value.clone_in(context.alloc));
+    step_state(context, left, inside, &mut first, meter)?;
+    step_state(context, right, inside, value, meter)?;
+    Ok(first)
 }
 
 // The next sample of stages, each on the value of the one before it, likewise.

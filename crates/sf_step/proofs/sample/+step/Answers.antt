@@ -14,7 +14,7 @@ use Rattle.sf_coincidence.proofs.Same.{alike_itself}
 use Rattle.sf_mean.specs.Lives.{step, Life, Process, each_frozen}
 use Rattle.sf_state.specs.declared.state.Frozen.{Frozen}
 use Rattle.sf_state.specs.declared.state.State.{State}
-use Rattle.sf_state.specs.declared.state.State.TheVariants.{Unborn, Mapped as SMapped}
+use Rattle.sf_state.specs.declared.state.State.TheVariants.{Unborn, Mapped as SMapped, Live' as Alive'}
 use Rattle.sf_state.specs.declared.state.Gathered.{Gathered}
 use Rattle.sf_state.specs.Held.{held_as}
 use Rattle.sf_state.specs.Names.{bound_value}
@@ -27,14 +27,14 @@ use Rattle.sf_step.specs.declared.turning.Turn.{Turn}
 use Rattle.sf_step.specs.declared.turning.Turn.TheVariants.{Stays, Begins}
 use Rattle.sf_begin.specs.Drafting.{drafted, all_changed}
 use Rattle.sf_step.proofs.Costs.{memory_exit, early_memory}
-use Rattle.sf_step.specs.Answering.{LiveSteps, fails}
+use Rattle.sf_step.specs.Answering.{LiveSteps, fails, whole_of}
 use Rattle.sf_step.specs.Around.{machine_around, dt_around}
 use Rattle.sf_begin.proofs.Begins.{parts_joined, two_joined}
 use Rattle.sf_step.proofs.References.{coded_arguments, call_steps, call_fails, process_steps}
 use Rattle.sf_step.specs.Sampling.{PartSteps, StateSteps, EachSteps, apart, stopped}
 use Rattle.sf_step.specs.Routing.{observation_of}
 use Rattle.sf_state.proofs.Copies.{list_follows}
-use Rattle.sf_step.proofs.Parts.{pass_exit, pass_apart, pass_valued, value_back, valued_as, failed, own_halves, gives_value, gives_no_value, stops_apart, apart_as, taken}
+use Rattle.sf_step.proofs.Parts.{pass_exit, pass_apart, pass_split, split_back, split_as, pass_valued, value_back, valued_as, failed, own_halves, gives_value, gives_no_value, stops_apart, apart_as, taken}
 use Rattle.sf_step.proofs.Stages.{StagesStep, continues_first, continues_next, continues_fails, continues_last, pipeline_steps, pipeline_fails}
 use Rattle.sf_step.proofs.Exits.{mapped_counted, mapped_is, primitives_counted, primitives_are, ticked_by, tick_fails, first_memory, join_left_fails, join_right_fails, join_steps, join_last, wrap_fails, wrap_steps, wrap_faults, wrap_last, late_memory, late_part, late_waiting, waits_alike, primitive_counted, live_counted, own_steps, primitive_is, live_is, awake_is, counted_steps, live_apart, first_counted, term_counted, begun_steps, begun_fails, late_term, joined_fails, joined_late, joined_steps}
 use Rattle.sf_step.proofs.Recurring.{run_fails, run_memory, new_fails, new_runs, runs_alone}
@@ -93,13 +93,13 @@ step_state-returns-in_ok-inside-in-Live g t c = λ P L A.
     counted_steps (context_machine g.R.Holds.answers c.args.context.now) _ _ _ (ticked_by c.in_ok-inside-in-Live.ensures.ticked) (live_is (context_machine g.R.Holds.answers c.args.context.now) c.in-Live.field-0 c.in-Live.node.value)
     (live_counted (context_machine g.R.Holds.answers c.args.context.now) _ c.in-Live.field-0 c.in-Live.node.value c.step_node.new.node.value _ c.step_node.new.value c.step_node.result _ c.step_node.ensures) P L (rw c.in-Live.is at A)
 
--- ## step_observer
+-- ## step_beside
 
-pub step_observer-returns-in_err-within : goal.step_observer-returns-in_err-within
-step_observer-returns-in_err-within g t c = λ P L A. pass_valued _ _ c.from_residual.ensures.0 (tick_fails (context_machine g.R.Holds.answers c.args.context.now) P _ c.in_err-within.ensures.ticked)
+pub step_beside-returns-in_err-within : goal.step_beside-returns-in_err-within
+step_beside-returns-in_err-within g t c = λ P L A. pass_valued _ _ c.from_residual.ensures.0 (tick_fails (context_machine g.R.Holds.answers c.args.context.now) P _ c.in_err-within.ensures.ticked)
 
-pub step_observer-returns-in-Mapped : goal.step_observer-returns-in-Mapped
-step_observer-returns-in-Mapped g t c = λ P L A.
+pub step_beside-returns-in-Mapped : goal.step_beside-returns-in-Mapped
+step_beside-returns-in-Mapped g t c = λ P L A.
     let μ = context_machine g.R.Holds.answers c.args.context.now in
     let r = c.step_mapped_beside.result in
     let n = c.step_mapped_beside.new.meter in
@@ -112,33 +112,39 @@ step_observer-returns-in-Mapped g t c = λ P L A.
     (λ own is. subst (λ q. LiveSteps μ (behind_arrow own c.in-Mapped.prim) s q c.tick.new.self n c.in_ok-within.within) (sym (valued_as r (behind_arrow own i) (meter_fault n))) (c.step_mapped_beside.ensures own is)))
     P L (rw c.in-Mapped.is at A))
 
-pub step_observer-returns-in-Err : goal.step_observer-returns-in-Err
-step_observer-returns-in-Err g t c = first_memory (context_machine g.R.Holds.answers c.args.context.now) c.stop.ensures.entered c.stop.ensures.height c.stop.ensures.fault
+pub step_beside-returns-in-Err : goal.step_beside-returns-in-Err
+step_beside-returns-in-Err g t c = first_memory (context_machine g.R.Holds.answers c.args.context.now) c.stop.ensures.entered c.stop.ensures.height c.stop.ensures.fault
 
-pub step_observer-returns-in_err-step_state : goal.step_observer-returns-in_err-step_state
-step_observer-returns-in_err-step_state g t c = λ P L A. pass_valued _ _ c.from_residual-in_err-step_state.ensures.0 (failed ((rw c.in-Ok.ensures at c.in_err-step_state.ensures) P L A))
+pub step_beside-returns-in_err-step_state : goal.step_beside-returns-in_err-step_state
+step_beside-returns-in_err-step_state g t c = λ P L A. pass_valued _ _ c.from_residual-in_err-step_state.ensures.0 (failed ((rw c.in-Ok.ensures at c.in_err-step_state.ensures) P L A))
 
-pub step_observer-returns : goal.step_observer-returns
-step_observer-returns g t c = rw c.in-Ok.ensures at c.in_ok-step_state.ensures
+pub step_beside-returns : goal.step_beside-returns
+step_beside-returns g t c = rw c.in-Ok.ensures at c.in_ok-step_state.ensures
 
--- ## first_of_observer
+pub step_beside-returns-in-Some : goal.step_beside-returns-in-Some
+step_beside-returns-in-Some g t c = rw c.in-Some.ensures c.count_and_map_beside.ensures
 
-pub first_of_observer-returns-in_err-inside : goal.first_of_observer-returns-in_err-inside
-first_of_observer-returns-in_err-inside g t c = λ P L A. pass_valued _ _ c.from_residual.ensures.0 (tick_fails (machine_around g.R.Holds.answers c.args.around.now) P _ c.in_err-inside.ensures.ticked)
+-- ## first_beside
 
-pub first_of_observer-returns-in-Some : goal.first_of_observer-returns-in-Some
-first_of_observer-returns-in-Some g t c =
+pub first_beside-returns-in_err-inside : goal.first_beside-returns-in_err-inside
+first_beside-returns-in_err-inside g t c = λ P L A. pass_valued _ _ c.from_residual.ensures.0 (tick_fails (machine_around g.R.Holds.answers c.args.around.now) P _ c.in_err-inside.ensures.ticked)
+
+pub first_beside-returns-in-Some : goal.first_beside-returns-in-Some
+first_beside-returns-in-Some g t c = c.first_arrow.ensures c.args.term c.in-Some.ensures
+
+pub first_beside-returns-in-Some-primitive_behind : goal.first_beside-returns-in-Some-primitive_behind
+first_beside-returns-in-Some-primitive_behind g t c =
     term_counted (machine_around g.R.Holds.answers c.args.around.now) c.args.term c.args.around.now.names.now (dt_around c.args.around.now) (pair c.args.input.now c.args.given.now) (ticked_by c.in_ok-inside.ensures.ticked) _
-    (c.first_behind.ensures _ c.in-Some.ensures)
+    (c.first_behind.ensures _ c.in-Some-primitive_behind.ensures)
 
-pub first_of_observer-returns-in-Err : goal.first_of_observer-returns-in-Err
-first_of_observer-returns-in-Err g t c = first_memory (machine_around g.R.Holds.answers c.args.around.now) c.stop.ensures.entered c.stop.ensures.height c.stop.ensures.fault
+pub first_beside-returns-in-Err : goal.first_beside-returns-in-Err
+first_beside-returns-in-Err g t c = first_memory (machine_around g.R.Holds.answers c.args.around.now) c.stop.ensures.entered c.stop.ensures.height c.stop.ensures.fault
 
-pub first_of_observer-returns-in_err-first_step : goal.first_of_observer-returns-in_err-first_step
-first_of_observer-returns-in_err-first_step g t c = λ P L A. pass_valued _ _ c.from_residual-in_err-first_step.ensures.0 (failed ((rw c.in-Ok.ensures at c.in_err-first_step.ensures) P L A))
+pub first_beside-returns-in_err-first_step : goal.first_beside-returns-in_err-first_step
+first_beside-returns-in_err-first_step g t c = λ P L A. pass_valued _ _ c.from_residual-in_err-first_step.ensures.0 (failed ((rw c.in-Ok.ensures at c.in_err-first_step.ensures) P L A))
 
-pub first_of_observer-returns : goal.first_of_observer-returns
-first_of_observer-returns g t c = rw c.in-Ok.ensures at c.in_ok-first_step.ensures
+pub first_beside-returns : goal.first_beside-returns
+first_beside-returns g t c = rw c.in-Ok.ensures at c.in_ok-first_step.ensures
 
 -- ## step_node
 
@@ -366,22 +372,22 @@ first_of_process-returns g t c = λ u B.
 pub first_sequence-returns-in-Primitive-node : goal.first_sequence-returns-in-Primitive-node
 first_sequence-returns-in-Primitive-node g t c = λ u J. c.first_two.ensures c.args.right u (rw c.in-Primitive.is at c.node.ensures.builds) (rw c.in-Primitive-node.is at c.node-in-Primitive.ensures.builds) J
 
-pub first_sequence-returns-in_err-first_step : goal.first_sequence-returns-in_err-first_step
-first_sequence-returns-in_err-first_step g t c = λ u J m depth T e N.
+pub first_sequence-returns-in_err-apart : goal.first_sequence-returns-in_err-apart
+first_sequence-returns-in_err-apart g t c = λ u J m depth T e N.
     let μ = machine_around g.R.Holds.answers c.args.around.now in
     let d = dt_around c.args.around.now in
     let x = c.args.value.now in
     pass_exit _ _ c.from_residual.ensures.0 (joined_fails μ InSequence c.args.left c.args.right c.args.around.now.names.now u J d x _
-    (join_left_fails μ InSequence _ _ c.args.meter.now c.first_step.new.meter c.args.around.now.inside d x x refl _ c.in_err-first_step.ensures) m depth T e N)
+    (join_left_fails μ InSequence _ _ c.args.meter.now c.first_split.new.meter c.args.around.now.inside d x x refl _ c.in_err-apart.ensures) m depth T e N)
 
-pub first_sequence-returns-in_err-first_step-2 : goal.first_sequence-returns-in_err-first_step-2
-first_sequence-returns-in_err-first_step-2 g t c = λ u J m depth T e N.
+pub first_sequence-returns-in_err-first_on_split : goal.first_sequence-returns-in_err-first_on_split
+first_sequence-returns-in_err-first_on_split g t c = λ u J m depth T e N.
     let μ = machine_around g.R.Holds.answers c.args.around.now in
     let d = dt_around c.args.around.now in
     let x = c.args.value.now in
-    pass_exit _ _ c.from_residual-in_err-first_step-2.ensures.0 (joined_fails μ InSequence c.args.left c.args.right c.args.around.now.names.now u J d x _
-    (join_right_fails μ InSequence _ _ c.args.meter.now c.first_step.new.meter c.args.around.now.inside d x x refl
-    c.first_step.new.state c.first_step.new.value c.first_step.new.value refl c.in_ok-first_step.ensures c.first_step-2.new.meter _ c.in_err-first_step-2.ensures) m depth T e N)
+    pass_exit _ _ c.from_residual-in_err-first_on_split.ensures.0 (joined_fails μ InSequence c.args.left c.args.right c.args.around.now.names.now u J d x _
+    (join_right_fails μ InSequence _ _ c.args.meter.now c.first_split.new.meter c.args.around.now.inside d x x refl
+    c.first_split.new.state (whole_of c.in_ok-apart.apart c.first_split.new.value) (whole_of c.in_ok-apart.apart c.first_split.new.value) refl c.in_ok-apart.ensures c.first_on_split.new.meter _ c.in_err-first_on_split.ensures) m depth T e N)
 
 pub first_sequence-returns-in-Err : goal.first_sequence-returns-in-Err
 first_sequence-returns-in-Err g t c = λ u J.
@@ -389,9 +395,9 @@ first_sequence-returns-in-Err g t c = λ u J.
     let d = dt_around c.args.around.now in
     let x = c.args.value.now in
     joined_late μ InSequence c.args.left c.args.right c.args.around.now.names.now u J d x
-    (join_steps μ InSequence _ _ c.args.meter.now c.first_step.new.meter c.args.around.now.inside d x x refl
-    c.first_step.new.state c.first_step.new.value c.first_step.new.value refl c.in_ok-first_step.ensures
-    c.first_step-2.new.meter c.first_step-2.new.state c.first_step-2.new.value c.first_step-2.new.value refl c.in_ok-first_step-2.ensures)
+    (join_steps μ InSequence _ _ c.args.meter.now c.first_split.new.meter c.args.around.now.inside d x x refl
+    c.first_split.new.state (whole_of c.in_ok-apart.apart c.first_split.new.value) (whole_of c.in_ok-apart.apart c.first_split.new.value) refl c.in_ok-apart.ensures
+    c.first_on_split.new.meter c.first_on_split.new.state c.first_on_split.new.value c.first_on_split.new.value refl c.in_ok-first_on_split.ensures)
     c.stop.ensures.entered c.stop.ensures.height c.stop.ensures.fault
 
 pub first_sequence-returns : goal.first_sequence-returns
@@ -401,9 +407,43 @@ first_sequence-returns g t c = λ u J.
     let d = dt_around c.args.around.now in
     let x = c.args.value.now in
     joined_steps μ InSequence c.args.left c.args.right c.args.around.now.names.now u J d x _ c.put_live.new.state _ (λ e N S. c.in-Ok.ensures μ u e _ N S)
-    (join_steps μ InSequence _ _ c.args.meter.now c.first_step.new.meter c.args.around.now.inside d x x refl
-    c.first_step.new.state c.first_step.new.value c.first_step.new.value refl c.in_ok-first_step.ensures
-    c.first_step-2.new.meter c.first_step-2.new.state c.first_step-2.new.value c.first_step-2.new.value refl c.in_ok-first_step-2.ensures)
+    (join_steps μ InSequence _ _ c.args.meter.now c.first_split.new.meter c.args.around.now.inside d x x refl
+    c.first_split.new.state (whole_of c.in_ok-apart.apart c.first_split.new.value) (whole_of c.in_ok-apart.apart c.first_split.new.value) refl c.in_ok-apart.ensures
+    c.first_on_split.new.meter c.first_on_split.new.state c.first_on_split.new.value c.first_on_split.new.value refl c.in_ok-first_on_split.ensures)
+
+-- ## first_split
+
+pub first_split-returns-in_err-inside : goal.first_split-returns-in_err-inside
+first_split-returns-in_err-inside g t c = λ P L A. pass_split _ _ _ c.from_residual.ensures.0 (tick_fails (machine_around g.R.Holds.answers c.args.around.now) P _ c.in_err-inside.ensures.ticked)
+
+pub first_split-returns-in_err-first : goal.first_split-returns-in_err-first
+first_split-returns-in_err-first g t c = λ P L A.
+    let μ = machine_around g.R.Holds.answers c.args.around.now in
+    pass_split _ _ _ c.from_residual-in_err-first.ensures.0 (failed (term_counted μ c.args.term c.args.around.now.names.now (dt_around c.args.around.now) c.args.value.now (ticked_by c.in_ok-inside.ensures.ticked) _
+    (c.in_err-first.ensures _ (parts_joined μ FannedOut c.in-Joined.left c.in-Joined.right _ (rw c.in-FannedOut.is at (rw c.in-Joined.is at c.node.ensures.builds)))) P L A))
+
+pub first_split-returns-in-FannedOut : goal.first_split-returns-in-FannedOut
+first_split-returns-in-FannedOut g t c =
+    let μ = machine_around g.R.Holds.answers c.args.around.now in
+    term_counted μ c.args.term c.args.around.now.names.now (dt_around c.args.around.now) c.args.value.now (ticked_by c.in_ok-inside.ensures.ticked) _
+    (c.in_ok-first.ensures _ (parts_joined μ FannedOut c.in-Joined.left c.in-Joined.right _ (rw c.in-FannedOut.is at (rw c.in-Joined.is at c.node.ensures.builds))))
+
+pub first_split-returns-in_err-first_step : goal.first_split-returns-in_err-first_step
+first_split-returns-in_err-first_step g t c = λ P L A. pass_split _ _ _ c.from_residual-in_err-first_step.ensures.0 (failed (c.in_err-first_step.ensures P L A))
+
+pub first_split-returns : goal.first_split-returns
+first_split-returns g t c = c.in_ok-first_step.ensures
+
+-- ## first_on_split
+
+pub first_on_split-returns-in-None : goal.first_on_split-returns-in-None
+first_on_split-returns-in-None g t c = rw c.in-None.is c.first_step.ensures
+
+pub first_on_split-returns-in_err-given-in-Some : goal.first_on_split-returns-in_err-given-in-Some
+first_on_split-returns-in_err-given-in-Some g t c = rw c.in-Some.is (λ P L A. pass_exit _ _ c.from_residual.ensures.0 (failed (c.in_err-given-in-Some.ensures P L A)))
+
+pub first_on_split-returns-in_ok-given-in-Some : goal.first_on_split-returns-in_ok-given-in-Some
+first_on_split-returns-in_ok-given-in-Some g t c = rw c.in-Some.is c.in_ok-given-in-Some.ensures
 
 -- ## first_halves
 
@@ -617,7 +657,7 @@ first_continuing-returns-in_err-seen g t c = λ u B m depth T e N.
     let names = c.args.around.now.names.now in
     let k = new_continuation c.args.form.now c.in-Ok.value (Unborn c.in-Ok.value) names in
     pass_exit _ _ c.from_residual-in_err-seen.ensures.0 (observer_fails μ names k d x c.args.meter.now c.first_step.new.meter c.args.around.now.inside
-    c.first_step.new.state c.first_step.new.value c.in_ok-first_step.ensures (pair c.in-Ok-clone_in.value c.first_step.new.value) (ap (λ (i : Data). pair i c.first_step.new.value) c.in-Ok-clone_in.ensures) c.first_of_observer.new.meter
+    c.first_step.new.state c.first_step.new.value c.in_ok-first_step.ensures (pair c.in-Ok-clone_in.value c.first_step.new.value) (ap (λ (i : Data). pair i c.first_step.new.value) c.in-Ok-clone_in.ensures) c.first_beside.new.meter
     _ c.in_err-seen.ensures m depth T u e [] N (continuation_waits μ c.args.form.now u c.in-Ok.value (Unborn c.in-Ok.value) names B e N (c.in-Ok.ensures μ.answers e N)))
 
 pub first_continuing-returns-in-Err-share : goal.first_continuing-returns-in-Err-share
@@ -628,8 +668,8 @@ first_continuing-returns-in-Err-share g t c = λ u B m depth T e N.
     let names = c.args.around.now.names.now in
     let k = new_continuation c.args.form.now c.in-Ok.value (Unborn c.in-Ok.value) names in
     memory_exit c.stop-in-Err-share.ensures.fault (observer_memory μ names k d x c.args.meter.now c.first_step.new.meter c.args.around.now.inside
-    c.first_step.new.state c.first_step.new.value c.in_ok-first_step.ensures (pair c.in-Ok-clone_in.value c.first_step.new.value) (ap (λ (i : Data). pair i c.first_step.new.value) c.in-Ok-clone_in.ensures) c.first_of_observer.new.meter
-    c.first_of_observer.new.observer c.in_ok-seen.seen c.in_ok-seen.ensures _ c.stop-in-Err-share.ensures.entered c.stop-in-Err-share.ensures.height m depth T u e [] N (continuation_waits μ c.args.form.now u c.in-Ok.value (Unborn c.in-Ok.value) names B e N (c.in-Ok.ensures μ.answers e N)))
+    c.first_step.new.state c.first_step.new.value c.in_ok-first_step.ensures (pair c.in-Ok-clone_in.value c.first_step.new.value) (ap (λ (i : Data). pair i c.first_step.new.value) c.in-Ok-clone_in.ensures) c.first_beside.new.meter
+    c.first_beside.new.state c.in_ok-seen.seen c.in_ok-seen.ensures _ c.stop-in-Err-share.ensures.entered c.stop-in-Err-share.ensures.height m depth T u e [] N (continuation_waits μ c.args.form.now u c.in-Ok.value (Unborn c.in-Ok.value) names B e N (c.in-Ok.ensures μ.answers e N)))
 
 pub first_continuing-returns-in-Err-new : goal.first_continuing-returns-in-Err-new
 first_continuing-returns-in-Err-new g t c = λ u B m depth T e N.
@@ -639,8 +679,8 @@ first_continuing-returns-in-Err-new g t c = λ u B m depth T e N.
     let names = c.args.around.now.names.now in
     let k = new_continuation c.args.form.now c.in-Ok.value (Unborn c.in-Ok.value) names in
     memory_exit c.stop-in-Err-new.ensures.fault (observer_memory μ names k d x c.args.meter.now c.first_step.new.meter c.args.around.now.inside
-    c.first_step.new.state c.first_step.new.value c.in_ok-first_step.ensures (pair c.in-Ok-clone_in.value c.first_step.new.value) (ap (λ (i : Data). pair i c.first_step.new.value) c.in-Ok-clone_in.ensures) c.first_of_observer.new.meter
-    c.first_of_observer.new.observer c.in_ok-seen.seen c.in_ok-seen.ensures _ c.stop-in-Err-new.ensures.entered c.stop-in-Err-new.ensures.height m depth T u e [] N (continuation_waits μ c.args.form.now u c.in-Ok.value (Unborn c.in-Ok.value) names B e N (c.in-Ok.ensures μ.answers e N)))
+    c.first_step.new.state c.first_step.new.value c.in_ok-first_step.ensures (pair c.in-Ok-clone_in.value c.first_step.new.value) (ap (λ (i : Data). pair i c.first_step.new.value) c.in-Ok-clone_in.ensures) c.first_beside.new.meter
+    c.first_beside.new.state c.in_ok-seen.seen c.in_ok-seen.ensures _ c.stop-in-Err-new.ensures.entered c.stop-in-Err-new.ensures.height m depth T u e [] N (continuation_waits μ c.args.form.now u c.in-Ok.value (Unborn c.in-Ok.value) names B e N (c.in-Ok.ensures μ.answers e N)))
 
 pub first_continuing-returns-in-Ok-new : goal.first_continuing-returns-in-Ok-new
 first_continuing-returns-in-Ok-new g t c = λ u B.
@@ -651,8 +691,8 @@ first_continuing-returns-in-Ok-new g t c = λ u B.
     let k = new_continuation c.args.form.now c.in-Ok.value (Unborn c.in-Ok.value) names in
     rw c.put.ensures (term_on μ (WaitsContinuation μ) names k u (λ e N. continuation_waits μ c.args.form.now u c.in-Ok.value (Unborn c.in-Ok.value) names B e N (c.in-Ok.ensures μ.answers e N)) _ (λ e N W. continuing_on (c.in-Ok-share.ensures μ e N) W)
     (keeps_on μ names k d x c.args.meter.now c.first_step.new.meter c.args.around.now.inside
-    c.first_step.new.state c.first_step.new.value c.in_ok-first_step.ensures (pair c.in-Ok-clone_in.value c.first_step.new.value) (ap (λ (i : Data). pair i c.first_step.new.value) c.in-Ok-clone_in.ensures) c.first_of_observer.new.meter
-    c.first_of_observer.new.observer c.in_ok-seen.seen c.in_ok-seen.ensures (none_occurs _ c.payload_of.result c.in_ok-seen.seen c.payload_of.ensures c.in-None.is) _ c.in-Ok-new.value.value c.in-Ok-new.ensures.ok))
+    c.first_step.new.state c.first_step.new.value c.in_ok-first_step.ensures (pair c.in-Ok-clone_in.value c.first_step.new.value) (ap (λ (i : Data). pair i c.first_step.new.value) c.in-Ok-clone_in.ensures) c.first_beside.new.meter
+    c.first_beside.new.state c.in_ok-seen.seen c.in_ok-seen.ensures (none_occurs _ c.payload_of.result c.in_ok-seen.seen c.payload_of.ensures c.in-None.is) _ c.in-Ok-new.value.value c.in-Ok-new.ensures.ok))
 
 pub first_continuing-returns-in-Err-begin : goal.first_continuing-returns-in-Err-begin
 first_continuing-returns-in-Err-begin g t c = λ u B m depth T e N.
@@ -662,8 +702,8 @@ first_continuing-returns-in-Err-begin g t c = λ u B m depth T e N.
     let names = c.args.around.now.names.now in
     let k = new_continuation c.args.form.now c.in-Ok.value (Unborn c.in-Ok.value) names in
     memory_exit c.stop-in-Err-begin.ensures.fault (observer_memory μ names k d x c.args.meter.now c.first_step.new.meter c.args.around.now.inside
-    c.first_step.new.state c.first_step.new.value c.in_ok-first_step.ensures (pair c.in-Ok-clone_in.value c.first_step.new.value) (ap (λ (i : Data). pair i c.first_step.new.value) c.in-Ok-clone_in.ensures) c.first_of_observer.new.meter
-    c.first_of_observer.new.observer c.in_ok-seen.seen c.in_ok-seen.ensures _ c.stop-in-Err-begin.ensures.entered c.stop-in-Err-begin.ensures.height m depth T u e [] N (continuation_waits μ c.args.form.now u c.in-Ok.value (Unborn c.in-Ok.value) names B e N (c.in-Ok.ensures μ.answers e N)))
+    c.first_step.new.state c.first_step.new.value c.in_ok-first_step.ensures (pair c.in-Ok-clone_in.value c.first_step.new.value) (ap (λ (i : Data). pair i c.first_step.new.value) c.in-Ok-clone_in.ensures) c.first_beside.new.meter
+    c.first_beside.new.state c.in_ok-seen.seen c.in_ok-seen.ensures _ c.stop-in-Err-begin.ensures.entered c.stop-in-Err-begin.ensures.height m depth T u e [] N (continuation_waits μ c.args.form.now u c.in-Ok.value (Unborn c.in-Ok.value) names B e N (c.in-Ok.ensures μ.answers e N)))
 
 pub first_continuing-returns-in_err-first_step-in-Some : goal.first_continuing-returns-in_err-first_step-in-Some
 first_continuing-returns-in_err-first_step-in-Some g t c = λ u B m depth T e N.
@@ -673,8 +713,8 @@ first_continuing-returns-in_err-first_step-in-Some g t c = λ u B m depth T e N.
     let names = c.args.around.now.names.now in
     let k = new_continuation c.args.form.now c.in-Ok.value (Unborn c.in-Ok.value) names in
     pass_exit _ _ c.from_residual-in_err-first_step-in-Some.ensures.0 (kept_body_fails μ names k d x c.args.meter.now c.first_step.new.meter c.args.around.now.inside
-    c.first_step.new.state c.first_step.new.value c.in_ok-first_step.ensures (pair c.in-Ok-clone_in.value c.first_step.new.value) (ap (λ (i : Data). pair i c.first_step.new.value) c.in-Ok-clone_in.ensures) c.first_of_observer.new.meter
-    c.first_of_observer.new.observer c.in_ok-seen.seen c.in_ok-seen.ensures (bound_value c.in-Some.payload) (some_occurs _ c.payload_of.result c.in-Some.payload c.in_ok-seen.seen c.payload_of.ensures c.in-Some.is)
+    c.first_step.new.state c.first_step.new.value c.in_ok-first_step.ensures (pair c.in-Ok-clone_in.value c.first_step.new.value) (ap (λ (i : Data). pair i c.first_step.new.value) c.in-Ok-clone_in.ensures) c.first_beside.new.meter
+    c.first_beside.new.state c.in_ok-seen.seen c.in_ok-seen.ensures (bound_value c.in-Some.payload) (some_occurs _ c.payload_of.result c.in-Some.payload c.in_ok-seen.seen c.payload_of.ensures c.in-Some.is)
     (Unborn c.in-Ok-begin.value) (c.in-Ok-begin.ensures μ.answers) c.in-Ok-clone_in.value c.in-Ok-clone_in.ensures c.first_step-in-Some.new.meter
     _ c.in_err-first_step-in-Some.ensures m depth T u e [] N (continuation_waits μ c.args.form.now u c.in-Ok.value (Unborn c.in-Ok.value) names B e N (c.in-Ok.ensures μ.answers e N)))
 
@@ -687,8 +727,8 @@ first_continuing-returns-in_ok-first_step-in-Some g t c = λ u B.
     let k = new_continuation c.args.form.now c.in-Ok.value (Unborn c.in-Ok.value) names in
     term_over μ (WaitsContinuation μ) names k u (λ e N. continuation_waits μ c.args.form.now u c.in-Ok.value (Unborn c.in-Ok.value) names B e N (c.in-Ok.ensures μ.answers e N))
     (continuation_takes_over μ names k d x c.args.meter.now c.first_step.new.meter c.args.around.now.inside
-    c.first_step.new.state c.first_step.new.value c.in_ok-first_step.ensures (pair c.in-Ok-clone_in.value c.first_step.new.value) (ap (λ (i : Data). pair i c.first_step.new.value) c.in-Ok-clone_in.ensures) c.first_of_observer.new.meter
-    c.first_of_observer.new.observer c.in_ok-seen.seen c.in_ok-seen.ensures (bound_value c.in-Some.payload) (some_occurs _ c.payload_of.result c.in-Some.payload c.in_ok-seen.seen c.payload_of.ensures c.in-Some.is)
+    c.first_step.new.state c.first_step.new.value c.in_ok-first_step.ensures (pair c.in-Ok-clone_in.value c.first_step.new.value) (ap (λ (i : Data). pair i c.first_step.new.value) c.in-Ok-clone_in.ensures) c.first_beside.new.meter
+    c.first_beside.new.state c.in_ok-seen.seen c.in_ok-seen.ensures (bound_value c.in-Some.payload) (some_occurs _ c.payload_of.result c.in-Some.payload c.in_ok-seen.seen c.payload_of.ensures c.in-Some.is)
     (Unborn c.in-Ok-begin.value) (c.in-Ok-begin.ensures μ.answers) c.in-Ok-clone_in.value c.in-Ok-clone_in.ensures c.first_step-in-Some.new.meter
     c.first_step-in-Some.new.state c.first_step-in-Some.new.value _ c.show.ensures k c.in_ok-first_step-in-Some.ensures)
 
@@ -739,25 +779,11 @@ step_basic-returns-in_ok-first_step-in-Some g t c =
 
 -- ## step_fan_apart
 
-pub step_fan_apart-returns-in-Err : goal.step_fan_apart-returns-in-Err
-step_fan_apart-returns-in-Err g t c = stopped (λ m depth t P L R. early_memory (context_machine g.R.Holds.answers c.args.context.now) t c.stop.ensures.entered c.stop.ensures.height c.stop.ensures.fault)
-
-pub step_fan_apart-returns-in_err-step_state : goal.step_fan_apart-returns-in_err-step_state
-step_fan_apart-returns-in_err-step_state g t c =
-    stops_apart c.from_residual.ensures.0 (λ m depth t P L R. fails (join_left_fails (context_machine g.R.Holds.answers c.args.context.now) FannedOut c.args.left.now c.args.right.now c.args.meter.now c.step_state.new.meter c.args.inside c.args.context.now.dt c.args.value.now c.in-Ok.value c.in-Ok.ensures
-    _ c.in_err-step_state.ensures m depth t P L R))
-
-pub step_fan_apart-returns-in_err-step_state-2 : goal.step_fan_apart-returns-in_err-step_state-2
-step_fan_apart-returns-in_err-step_state-2 g t c =
-    stops_apart c.from_residual-in_err-step_state-2.ensures.0 (λ m depth t P L R. fails (join_right_fails (context_machine g.R.Holds.answers c.args.context.now) FannedOut c.args.left.now c.args.right.now c.args.meter.now c.step_state.new.meter c.args.inside c.args.context.now.dt c.args.value.now c.in-Ok.value c.in-Ok.ensures
-    c.step_state.new.state c.step_state.new.value c.args.value.now refl c.in_ok-step_state.ensures
-    c.step_state-2.new.meter _ c.in_err-step_state-2.ensures m depth t P L R))
+pub step_fan_apart-returns-in_err-first : goal.step_fan_apart-returns-in_err-first
+step_fan_apart-returns-in_err-first g t c = stops_apart c.from_residual.ensures.0 c.in_err-first.ensures
 
 pub step_fan_apart-returns : goal.step_fan_apart-returns
-step_fan_apart-returns g t c =
-    apart (join_steps (context_machine g.R.Holds.answers c.args.context.now) FannedOut c.args.left.now c.args.right.now c.args.meter.now c.step_state.new.meter c.args.inside c.args.context.now.dt c.args.value.now c.in-Ok.value c.in-Ok.ensures
-    c.step_state.new.state c.step_state.new.value c.args.value.now refl c.in_ok-step_state.ensures
-    c.step_state-2.new.meter c.step_state-2.new.state c.step_state-2.new.value _ refl c.in_ok-step_state-2.ensures) refl (rw c.replace-second.ensures.value at c.payload_of.ensures)
+step_fan_apart-returns g t c = apart {y = pair c.in_ok-first.first c.step_halves.new.value} c.in_ok-first.ensures refl (rw c.replace-second.ensures.value at c.payload_of.ensures)
 
 -- ## step_apart
 
@@ -930,16 +956,102 @@ step_stage-returns-in_default g t c = c.step_state.ensures
 
 -- ## step_sequence
 
-pub step_sequence-returns-in_err-step_state : goal.step_sequence-returns-in_err-step_state
-step_sequence-returns-in_err-step_state g t c = λ m depth t P L R.
-    pass_exit _ _ c.from_residual.ensures.0 (join_left_fails (context_machine g.R.Holds.answers c.args.context.now) InSequence c.args.left.now c.args.right.now c.args.meter.now c.step_state.new.meter c.args.inside c.args.context.now.dt c.args.value.now c.args.value.now refl
-    _ c.in_err-step_state.ensures m depth t P L R)
+pub step_sequence-returns-in_err-apart : goal.step_sequence-returns-in_err-apart
+step_sequence-returns-in_err-apart g t c = λ m depth t P L R.
+    pass_exit _ _ c.from_residual.ensures.0 (join_left_fails (context_machine g.R.Holds.answers c.args.context.now) InSequence c.args.left.now c.args.right.now c.args.meter.now c.step_split.new.meter c.args.inside c.args.context.now.dt c.args.value.now c.args.value.now refl
+    _ c.in_err-apart.ensures m depth t P L R)
 
 pub step_sequence-returns : goal.step_sequence-returns
 step_sequence-returns g t c =
-    join_last (context_machine g.R.Holds.answers c.args.context.now) InSequence c.args.left.now c.args.right.now c.args.meter.now c.step_state.new.meter c.args.inside c.args.context.now.dt c.args.value.now c.args.value.now refl
-    c.step_state.new.state c.step_state.new.value c.step_state.new.value refl c.in_ok-step_state.ensures
-    c.step_state-2.new.meter c.step_state-2.new.state c.step_state-2.new.value c.step_state-2.new.value c.step_state-2.result _ refl c.step_state-2.ensures
+    join_last (context_machine g.R.Holds.answers c.args.context.now) InSequence c.args.left.now c.args.right.now c.args.meter.now c.step_split.new.meter c.args.inside c.args.context.now.dt c.args.value.now c.args.value.now refl
+    c.step_split.new.state (whole_of c.in_ok-apart.apart c.step_split.new.value) (whole_of c.in_ok-apart.apart c.step_split.new.value) refl c.in_ok-apart.ensures
+    c.step_on_split.new.meter c.step_on_split.new.state c.step_on_split.new.value c.step_on_split.new.value c.step_on_split.result _ refl c.step_on_split.ensures
+
+-- ## step_split
+
+pub step_split-returns-in_err-inside : goal.step_split-returns-in_err-inside
+step_split-returns-in_err-inside g t c = λ P L A. pass_split _ _ _ c.from_residual.ensures.0 (tick_fails (context_machine g.R.Holds.answers c.args.context.now) P _ c.in_err-inside.ensures.ticked)
+
+pub step_split-returns-in-Live : goal.step_split-returns-in-Live
+step_split-returns-in-Live g t c = λ P L A.
+    let μ = context_machine g.R.Holds.answers c.args.context.now in
+    let r = c.step_node_split.result in
+    let n = c.step_node_split.new.meter in
+    let y = c.step_node_split.new.value in
+    let l = c.step_node_split.new.node.value in
+    let s = step c.args.context.now.dt c.args.value.now in
+    subst (λ q. PartSteps μ P L s q c.args.meter.now n c.args.depth) (split_as r (Alive' c.in-Live.field-0 _ l) y (meter_fault n))
+    (counted_steps μ _ _ _ (ticked_by c.in_ok-inside.ensures.ticked) (live_is μ c.in-Live.field-0 c.in-Live.node.value)
+    (live_counted μ _ c.in-Live.field-0 c.in-Live.node.value l s (split_back r y) r (meter_fault n)
+    (subst (λ q. LiveSteps μ c.in-Live.node.value s q c.tick.new.self n c.in_ok-inside.inside) (sym (split_as r l y (meter_fault n))) c.step_node_split.ensures))
+    P L (rw c.in-Live.is at A))
+
+pub step_split-returns-in_err-step_state : goal.step_split-returns-in_err-step_state
+step_split-returns-in_err-step_state g t c = λ P L A. pass_split _ _ _ c.from_residual-in_err-step_state.ensures.0 (failed (c.in_err-step_state.ensures P L A))
+
+pub step_split-returns : goal.step_split-returns
+step_split-returns g t c = c.in_ok-step_state.ensures
+
+-- ## step_node_split
+
+pub step_node_split-returns-in-Some : goal.step_node_split-returns-in-Some
+step_node_split-returns-in-Some g t c =
+    own_steps (context_machine g.R.Holds.answers c.args.context.now) c.args.node.now.value c.in-Some.live.now _ _ (λ P x L R. rw c.in-Some.ensures.value R) c.step_live_split.ensures
+
+pub step_node_split-returns-in_err-step_node_copy-in-None : goal.step_node_split-returns-in_err-step_node_copy-in-None
+step_node_split-returns-in_err-step_node_copy-in-None g t c = λ m depth t P L R. pass_split _ _ _ c.from_residual.ensures.0 (failed (c.in_err-step_node_copy-in-None.ensures m depth t P L R))
+
+pub step_node_split-returns-in_ok-step_node_copy-in-None : goal.step_node_split-returns-in_ok-step_node_copy-in-None
+step_node_split-returns-in_ok-step_node_copy-in-None g t c = c.in_ok-step_node_copy-in-None.ensures
+
+-- ## step_live_split
+
+pub step_live_split-returns-in_err-step_sequence-in-InSequence : goal.step_live_split-returns-in_err-step_sequence-in-InSequence
+step_live_split-returns-in_err-step_sequence-in-InSequence g t c =
+    let same = sym c.in-Join.join-is ∙ c.in-InSequence.is in
+    rw c.in-Join.is (rw same (λ m depth t P L R. pass_split _ _ _ c.from_residual.ensures.0 (failed ((rw c.in-Join.left-is at rw c.in-Join.right-is at c.in_err-step_sequence-in-InSequence.ensures) m depth t P L R))))
+
+pub step_live_split-returns-in_ok-step_sequence-in-InSequence : goal.step_live_split-returns-in_ok-step_sequence-in-InSequence
+step_live_split-returns-in_ok-step_sequence-in-InSequence g t c =
+    let same = sym c.in-Join.join-is ∙ c.in-InSequence.is in
+    rw c.in-InSequence.is (rw c.in-Join.is (rw same (rw c.in-Join.left-is at rw c.in-Join.right-is at c.in_ok-step_sequence-in-InSequence.ensures)))
+
+pub step_live_split-returns-in_err-step_parallel-in-InParallel : goal.step_live_split-returns-in_err-step_parallel-in-InParallel
+step_live_split-returns-in_err-step_parallel-in-InParallel g t c =
+    let same = sym c.in-Join.join-is ∙ c.in-InParallel.is in
+    rw c.in-Join.is (rw same (λ m depth t P L R. pass_split _ _ _ c.from_residual-in_err-step_parallel-in-InParallel.ensures.0 (failed ((rw c.in-Join.left-is at rw c.in-Join.right-is at c.in_err-step_parallel-in-InParallel.ensures) m depth t P L R))))
+
+pub step_live_split-returns-in_ok-step_parallel-in-InParallel : goal.step_live_split-returns-in_ok-step_parallel-in-InParallel
+step_live_split-returns-in_ok-step_parallel-in-InParallel g t c =
+    let same = sym c.in-Join.join-is ∙ c.in-InParallel.is in
+    rw c.in-InParallel.is (rw c.in-Join.is (rw same (rw c.in-Join.left-is at rw c.in-Join.right-is at c.in_ok-step_parallel-in-InParallel.ensures)))
+
+pub step_live_split-returns-in_err-first-in-FannedOut : goal.step_live_split-returns-in_err-first-in-FannedOut
+step_live_split-returns-in_err-first-in-FannedOut g t c =
+    let same = sym c.in-Join.join-is ∙ c.in-FannedOut.is in
+    rw c.in-Join.is (rw same (λ m depth t P L R. pass_split _ _ _ c.from_residual-in_err-first-in-FannedOut.ensures.0 (failed ((rw c.in-Join.left-is at rw c.in-Join.right-is at c.in_err-first-in-FannedOut.ensures) m depth t P L R))))
+
+pub step_live_split-returns-in_ok-first-in-FannedOut : goal.step_live_split-returns-in_ok-first-in-FannedOut
+step_live_split-returns-in_ok-first-in-FannedOut g t c =
+    let same = sym c.in-Join.join-is ∙ c.in-FannedOut.is in
+    rw c.in-FannedOut.is (rw c.in-Join.is (rw same (rw c.in-Join.left-is at rw c.in-Join.right-is at c.in_ok-first-in-FannedOut.ensures)))
+
+pub step_live_split-returns-in_err-step_live-in_default : goal.step_live_split-returns-in_err-step_live-in_default
+step_live_split-returns-in_err-step_live-in_default g t c = λ m depth t P L R. pass_split _ _ _ c.from_residual-in_err-step_live-in_default.ensures.0 (failed (c.in_err-step_live-in_default.ensures m depth t P L R))
+
+pub step_live_split-returns-in_ok-step_live-in_default : goal.step_live_split-returns-in_ok-step_live-in_default
+step_live_split-returns-in_ok-step_live-in_default g t c = c.in_ok-step_live-in_default.ensures
+
+-- ## step_on_split
+
+pub step_on_split-returns-in-None : goal.step_on_split-returns-in-None
+step_on_split-returns-in-None g t c = rw c.in-None.is c.step_state.ensures
+
+pub step_on_split-returns-in_err-given-in-Some : goal.step_on_split-returns-in_err-given-in-Some
+step_on_split-returns-in_err-given-in-Some g t c = rw c.in-Some.is (λ P L A. pass_exit _ _ c.from_residual.ensures.0 (failed (c.in_err-given-in-Some.ensures P L A)))
+
+pub step_on_split-returns-in_ok-given-in-Some : goal.step_on_split-returns-in_ok-given-in-Some
+step_on_split-returns-in_ok-given-in-Some g t c = rw c.in-Some.is c.in_ok-given-in-Some.ensures
 
 -- ## step_parallel
 
@@ -968,32 +1080,36 @@ step_parallel-returns g t c =
 
 -- ## step_fan
 
-pub step_fan-returns-in-Err : goal.step_fan-returns-in-Err
-step_fan-returns-in-Err g t c = λ m depth t P L R. early_memory (context_machine g.R.Holds.answers c.args.context.now) t c.stop.ensures.entered c.stop.ensures.height c.stop.ensures.fault
+pub step_fan-returns-in_err-first : goal.step_fan-returns-in_err-first
+step_fan-returns-in_err-first g t c = λ m depth t P L R. pass_exit _ _ c.from_residual.ensures.0 (failed (c.in_err-first.ensures m depth t P L R))
 
-pub step_fan-returns-in_err-step_state : goal.step_fan-returns-in_err-step_state
-step_fan-returns-in_err-step_state g t c = λ m depth t P L R.
-    pass_exit _ _ c.from_residual.ensures.0 (join_left_fails (context_machine g.R.Holds.answers c.args.context.now) FannedOut c.args.left.now c.args.right.now c.args.meter.now c.step_state.new.meter c.args.inside c.args.context.now.dt c.args.value.now c.in-Ok.value c.in-Ok.ensures
+pub step_fan-returns-in-Err : goal.step_fan-returns-in-Err
+step_fan-returns-in-Err g t c = late_memory (context_machine g.R.Holds.answers c.args.context.now) c.in_ok-first.ensures c.stop.ensures.entered c.stop.ensures.height c.stop.ensures.fault
+
+pub step_fan-returns : goal.step_fan-returns
+step_fan-returns g t c = rw (rw c.replace-second.ensures.value at c.in-Ok.ensures) c.in_ok-first.ensures
+
+-- ## step_halves
+
+pub step_halves-returns-in-Err : goal.step_halves-returns-in-Err
+step_halves-returns-in-Err g t c = λ m depth t P L R. early_memory (context_machine g.R.Holds.answers c.args.context.now) t c.stop.ensures.entered c.stop.ensures.height c.stop.ensures.fault
+
+pub step_halves-returns-in_err-step_state : goal.step_halves-returns-in_err-step_state
+step_halves-returns-in_err-step_state g t c = λ m depth t P L R.
+    pass_apart _ _ _ c.from_residual.ensures.0 (join_left_fails (context_machine g.R.Holds.answers c.args.context.now) FannedOut c.args.left.now c.args.right.now c.args.meter.now c.step_state.new.meter c.args.inside c.args.context.now.dt c.args.value.now c.in-Ok.value c.in-Ok.ensures
     _ c.in_err-step_state.ensures m depth t P L R)
 
-pub step_fan-returns-in_err-step_state-2 : goal.step_fan-returns-in_err-step_state-2
-step_fan-returns-in_err-step_state-2 g t c = λ m depth t P L R.
-    pass_exit _ _ c.from_residual-in_err-step_state-2.ensures.0 (join_right_fails (context_machine g.R.Holds.answers c.args.context.now) FannedOut c.args.left.now c.args.right.now c.args.meter.now c.step_state.new.meter c.args.inside c.args.context.now.dt c.args.value.now c.in-Ok.value c.in-Ok.ensures
+pub step_halves-returns-in_err-step_state-2 : goal.step_halves-returns-in_err-step_state-2
+step_halves-returns-in_err-step_state-2 g t c = λ m depth t P L R.
+    pass_apart _ _ _ c.from_residual-in_err-step_state-2.ensures.0 (join_right_fails (context_machine g.R.Holds.answers c.args.context.now) FannedOut c.args.left.now c.args.right.now c.args.meter.now c.step_state.new.meter c.args.inside c.args.context.now.dt c.args.value.now c.in-Ok.value c.in-Ok.ensures
     c.step_state.new.state c.step_state.new.value c.args.value.now refl c.in_ok-step_state.ensures
     c.step_state-2.new.meter _ c.in_err-step_state-2.ensures m depth t P L R)
 
-pub step_fan-returns-in-Err-pair : goal.step_fan-returns-in-Err-pair
-step_fan-returns-in-Err-pair g t c =
-    late_memory (context_machine g.R.Holds.answers c.args.context.now) (join_steps (context_machine g.R.Holds.answers c.args.context.now) FannedOut c.args.left.now c.args.right.now c.args.meter.now c.step_state.new.meter c.args.inside c.args.context.now.dt c.args.value.now c.in-Ok.value c.in-Ok.ensures
-    c.step_state.new.state c.step_state.new.value c.args.value.now refl c.in_ok-step_state.ensures
-    c.step_state-2.new.meter c.step_state-2.new.state c.step_state-2.new.value _ refl c.in_ok-step_state-2.ensures)
-    c.stop-in-Err-pair.ensures.entered c.stop-in-Err-pair.ensures.height c.stop-in-Err-pair.ensures.fault
-
-pub step_fan-returns : goal.step_fan-returns
-step_fan-returns g t c =
+pub step_halves-returns : goal.step_halves-returns
+step_halves-returns g t c =
     join_steps (context_machine g.R.Holds.answers c.args.context.now) FannedOut c.args.left.now c.args.right.now c.args.meter.now c.step_state.new.meter c.args.inside c.args.context.now.dt c.args.value.now c.in-Ok.value c.in-Ok.ensures
     c.step_state.new.state c.step_state.new.value c.args.value.now refl c.in_ok-step_state.ensures
-    c.step_state-2.new.meter c.step_state-2.new.state c.step_state-2.new.value c.in-Ok-pair.value (rw c.replace-second.ensures.value at c.in-Ok-pair.ensures) c.in_ok-step_state-2.ensures
+    c.step_state-2.new.meter c.step_state-2.new.state c.step_state-2.new.value _ refl c.in_ok-step_state-2.ensures
 
 -- ## step_first
 
@@ -1116,33 +1232,33 @@ step_continuing-returns-in_err-step_state g t c = λ m depth t T e L N W.
 pub step_continuing-returns-in_err-seen : goal.step_continuing-returns-in_err-seen
 step_continuing-returns-in_err-seen g t c = λ m depth t T e L N W.
     pass_beside (context_machine g.R.Holds.answers c.args.context.now) _ _ _ c.from_residual-in_err-seen.ensures.0 (observer_fails (context_machine g.R.Holds.answers c.args.context.now) c.args.names.now c.args.continuing.now c.args.context.now.dt c.args.value.now c.args.meter.now c.step_state.new.meter c.args.inside
-    c.step_state.new.state c.step_state.new.value (runs_alike (context_machine g.R.Holds.answers c.args.context.now) (c.in-Ok.ensures.runs_on (context_machine g.R.Holds.answers c.args.context.now)) c.in_ok-step_state.ensures) (pair c.in-Ok-clone_in.value c.step_state.new.value) (ap (λ (i : Data). pair i c.step_state.new.value) c.in-Ok-clone_in.ensures) c.step_observer.new.meter
+    c.step_state.new.state c.step_state.new.value (runs_alike (context_machine g.R.Holds.answers c.args.context.now) (c.in-Ok.ensures.runs_on (context_machine g.R.Holds.answers c.args.context.now)) c.in_ok-step_state.ensures) (pair c.in-Ok-clone_in.value c.step_state.new.value) (ap (λ (i : Data). pair i c.step_state.new.value) c.in-Ok-clone_in.ensures) c.step_beside.new.meter
     _ c.in_err-seen.ensures m depth t T e L N W)
 
 pub step_continuing-returns-in-None : goal.step_continuing-returns-in-None
 step_continuing-returns-in-None g t c =
     keeps_on (context_machine g.R.Holds.answers c.args.context.now) c.args.names.now c.args.continuing.now c.args.context.now.dt c.args.value.now c.args.meter.now c.step_state.new.meter c.args.inside
-    c.step_state.new.state c.step_state.new.value (runs_alike (context_machine g.R.Holds.answers c.args.context.now) (c.in-Ok.ensures.runs_on (context_machine g.R.Holds.answers c.args.context.now)) c.in_ok-step_state.ensures) (pair c.in-Ok-clone_in.value c.step_state.new.value) (ap (λ (i : Data). pair i c.step_state.new.value) c.in-Ok-clone_in.ensures) c.step_observer.new.meter
-    c.step_observer.new.observer c.in_ok-seen.seen c.in_ok-seen.ensures (none_occurs _ c.payload_of.result c.in_ok-seen.seen c.payload_of.ensures c.in-None.is) _ _ refl
+    c.step_state.new.state c.step_state.new.value (runs_alike (context_machine g.R.Holds.answers c.args.context.now) (c.in-Ok.ensures.runs_on (context_machine g.R.Holds.answers c.args.context.now)) c.in_ok-step_state.ensures) (pair c.in-Ok-clone_in.value c.step_state.new.value) (ap (λ (i : Data). pair i c.step_state.new.value) c.in-Ok-clone_in.ensures) c.step_beside.new.meter
+    c.step_beside.new.state c.in_ok-seen.seen c.in_ok-seen.ensures (none_occurs _ c.payload_of.result c.in_ok-seen.seen c.payload_of.ensures c.in-None.is) _ _ refl
 
 pub step_continuing-returns-in-Err-begin : goal.step_continuing-returns-in-Err-begin
 step_continuing-returns-in-Err-begin g t c = λ m depth t T e L N W.
     memory_exit c.stop-in-Err-begin.ensures.fault (observer_memory (context_machine g.R.Holds.answers c.args.context.now) c.args.names.now c.args.continuing.now c.args.context.now.dt c.args.value.now c.args.meter.now c.step_state.new.meter c.args.inside
-    c.step_state.new.state c.step_state.new.value (runs_alike (context_machine g.R.Holds.answers c.args.context.now) (c.in-Ok.ensures.runs_on (context_machine g.R.Holds.answers c.args.context.now)) c.in_ok-step_state.ensures) (pair c.in-Ok-clone_in.value c.step_state.new.value) (ap (λ (i : Data). pair i c.step_state.new.value) c.in-Ok-clone_in.ensures) c.step_observer.new.meter
-    c.step_observer.new.observer c.in_ok-seen.seen c.in_ok-seen.ensures _ c.stop-in-Err-begin.ensures.entered c.stop-in-Err-begin.ensures.height m depth t T e L N W)
+    c.step_state.new.state c.step_state.new.value (runs_alike (context_machine g.R.Holds.answers c.args.context.now) (c.in-Ok.ensures.runs_on (context_machine g.R.Holds.answers c.args.context.now)) c.in_ok-step_state.ensures) (pair c.in-Ok-clone_in.value c.step_state.new.value) (ap (λ (i : Data). pair i c.step_state.new.value) c.in-Ok-clone_in.ensures) c.step_beside.new.meter
+    c.step_beside.new.state c.in_ok-seen.seen c.in_ok-seen.ensures _ c.stop-in-Err-begin.ensures.entered c.stop-in-Err-begin.ensures.height m depth t T e L N W)
 
 pub step_continuing-returns-in_err-first_step-in-Some : goal.step_continuing-returns-in_err-first_step-in-Some
 step_continuing-returns-in_err-first_step-in-Some g t c = λ m depth t T e L N W.
     pass_beside (context_machine g.R.Holds.answers c.args.context.now) _ _ _ c.from_residual-in_err-first_step-in-Some.ensures.0 (kept_body_fails (context_machine g.R.Holds.answers c.args.context.now) c.args.names.now c.args.continuing.now c.args.context.now.dt c.args.value.now c.args.meter.now c.step_state.new.meter c.args.inside
-    c.step_state.new.state c.step_state.new.value (runs_alike (context_machine g.R.Holds.answers c.args.context.now) (c.in-Ok.ensures.runs_on (context_machine g.R.Holds.answers c.args.context.now)) c.in_ok-step_state.ensures) (pair c.in-Ok-clone_in.value c.step_state.new.value) (ap (λ (i : Data). pair i c.step_state.new.value) c.in-Ok-clone_in.ensures) c.step_observer.new.meter
-    c.step_observer.new.observer c.in_ok-seen.seen c.in_ok-seen.ensures (bound_value c.in-Some.payload) (some_occurs _ c.payload_of.result c.in-Some.payload c.in_ok-seen.seen c.payload_of.ensures c.in-Some.is)
+    c.step_state.new.state c.step_state.new.value (runs_alike (context_machine g.R.Holds.answers c.args.context.now) (c.in-Ok.ensures.runs_on (context_machine g.R.Holds.answers c.args.context.now)) c.in_ok-step_state.ensures) (pair c.in-Ok-clone_in.value c.step_state.new.value) (ap (λ (i : Data). pair i c.step_state.new.value) c.in-Ok-clone_in.ensures) c.step_beside.new.meter
+    c.step_beside.new.state c.in_ok-seen.seen c.in_ok-seen.ensures (bound_value c.in-Some.payload) (some_occurs _ c.payload_of.result c.in-Some.payload c.in_ok-seen.seen c.payload_of.ensures c.in-Some.is)
     (Unborn c.in-Ok-begin.value) (rw c.in-Ok.ensures.held at (c.in-Ok-begin.ensures (g.R.Holds.answers c.args.context.now.functions.now))) c.in-Ok-clone_in.value c.in-Ok-clone_in.ensures c.first_step.new.meter _ c.in_err-first_step-in-Some.ensures m depth t T e L N W)
 
 pub step_continuing-returns-in_ok-first_step-in-Some : goal.step_continuing-returns-in_ok-first_step-in-Some
 step_continuing-returns-in_ok-first_step-in-Some g t c =
     continuation_takes_over (context_machine g.R.Holds.answers c.args.context.now) c.args.names.now c.args.continuing.now c.args.context.now.dt c.args.value.now c.args.meter.now c.step_state.new.meter c.args.inside
-    c.step_state.new.state c.step_state.new.value (runs_alike (context_machine g.R.Holds.answers c.args.context.now) (c.in-Ok.ensures.runs_on (context_machine g.R.Holds.answers c.args.context.now)) c.in_ok-step_state.ensures) (pair c.in-Ok-clone_in.value c.step_state.new.value) (ap (λ (i : Data). pair i c.step_state.new.value) c.in-Ok-clone_in.ensures) c.step_observer.new.meter
-    c.step_observer.new.observer c.in_ok-seen.seen c.in_ok-seen.ensures (bound_value c.in-Some.payload) (some_occurs _ c.payload_of.result c.in-Some.payload c.in_ok-seen.seen c.payload_of.ensures c.in-Some.is)
+    c.step_state.new.state c.step_state.new.value (runs_alike (context_machine g.R.Holds.answers c.args.context.now) (c.in-Ok.ensures.runs_on (context_machine g.R.Holds.answers c.args.context.now)) c.in_ok-step_state.ensures) (pair c.in-Ok-clone_in.value c.step_state.new.value) (ap (λ (i : Data). pair i c.step_state.new.value) c.in-Ok-clone_in.ensures) c.step_beside.new.meter
+    c.step_beside.new.state c.in_ok-seen.seen c.in_ok-seen.ensures (bound_value c.in-Some.payload) (some_occurs _ c.payload_of.result c.in-Some.payload c.in_ok-seen.seen c.payload_of.ensures c.in-Some.is)
     (Unborn c.in-Ok-begin.value) (rw c.in-Ok.ensures.held at (c.in-Ok-begin.ensures (g.R.Holds.answers c.args.context.now.functions.now))) c.in-Ok-clone_in.value c.in-Ok-clone_in.ensures c.first_step.new.meter
     c.first_step.new.state c.first_step.new.value _ c.show.ensures _ c.in_ok-first_step-in-Some.ensures
 
@@ -1201,34 +1317,34 @@ step_releasing-returns-in_err-step_members g t c = λ m depth t T e L N W.
 pub step_releasing-returns-in_err-seen : goal.step_releasing-returns-in_err-seen
 step_releasing-returns-in_err-seen g t c = λ m depth t T e L N W.
     pass_beside (context_machine g.R.Holds.answers c.args.context.now) _ _ _ c.from_residual-in_err-seen.ensures.0 (sight_fails (context_machine g.R.Holds.answers c.args.context.now) c.args.names.now c.args.releasing.now c.args.context.now.dt c.args.value.now c.args.meter.now c.step_members.new.meter c.args.inside
-    c.step_members.new.members c.step_members.new.value (run_alike (context_machine g.R.Holds.answers c.args.context.now) c.args.releasing.now.members c.hold_back_members.new.members (c.in-Ok.ensures.runs_on (context_machine g.R.Holds.answers c.args.context.now)) c.in_ok-step_members.ensures) (pair c.in-Ok-clone_in.value c.step_members.new.value) (ap (λ (i : Data). pair i c.step_members.new.value) c.in-Ok-clone_in.ensures) c.step_observer.new.meter
+    c.step_members.new.members c.step_members.new.value (run_alike (context_machine g.R.Holds.answers c.args.context.now) c.args.releasing.now.members c.hold_back_members.new.members (c.in-Ok.ensures.runs_on (context_machine g.R.Holds.answers c.args.context.now)) c.in_ok-step_members.ensures) (pair c.in-Ok-clone_in.value c.step_members.new.value) (ap (λ (i : Data). pair i c.step_members.new.value) c.in-Ok-clone_in.ensures) c.step_beside.new.meter
     _ c.in_err-seen.ensures m depth t T e L N W)
 
 pub step_releasing-returns-in-None : goal.step_releasing-returns-in-None
 step_releasing-returns-in-None g t c =
     members_go_on (context_machine g.R.Holds.answers c.args.context.now) c.args.names.now c.args.releasing.now c.args.context.now.dt c.args.value.now c.args.meter.now c.step_members.new.meter c.args.inside
-    c.step_members.new.members c.step_members.new.value (run_alike (context_machine g.R.Holds.answers c.args.context.now) c.args.releasing.now.members c.hold_back_members.new.members (c.in-Ok.ensures.runs_on (context_machine g.R.Holds.answers c.args.context.now)) c.in_ok-step_members.ensures) (pair c.in-Ok-clone_in.value c.step_members.new.value) (ap (λ (i : Data). pair i c.step_members.new.value) c.in-Ok-clone_in.ensures) c.step_observer.new.meter
-    c.step_observer.new.observer c.in_ok-seen.seen c.in_ok-seen.ensures (none_occurs _ c.payload_of.result c.in_ok-seen.seen c.payload_of.ensures c.in-None.is) _ _ refl
+    c.step_members.new.members c.step_members.new.value (run_alike (context_machine g.R.Holds.answers c.args.context.now) c.args.releasing.now.members c.hold_back_members.new.members (c.in-Ok.ensures.runs_on (context_machine g.R.Holds.answers c.args.context.now)) c.in_ok-step_members.ensures) (pair c.in-Ok-clone_in.value c.step_members.new.value) (ap (λ (i : Data). pair i c.step_members.new.value) c.in-Ok-clone_in.ensures) c.step_beside.new.meter
+    c.step_beside.new.state c.in_ok-seen.seen c.in_ok-seen.ensures (none_occurs _ c.payload_of.result c.in_ok-seen.seen c.payload_of.ensures c.in-None.is) _ _ refl
 
 pub step_releasing-returns-in-Err-begin : goal.step_releasing-returns-in-Err-begin
 step_releasing-returns-in-Err-begin g t c = λ m depth t T e L N W.
     memory_exit c.stop-in-Err-begin.ensures.fault (sight_memory (context_machine g.R.Holds.answers c.args.context.now) c.args.names.now c.args.releasing.now c.args.context.now.dt c.args.value.now c.args.meter.now c.step_members.new.meter c.args.inside
-    c.step_members.new.members c.step_members.new.value (run_alike (context_machine g.R.Holds.answers c.args.context.now) c.args.releasing.now.members c.hold_back_members.new.members (c.in-Ok.ensures.runs_on (context_machine g.R.Holds.answers c.args.context.now)) c.in_ok-step_members.ensures) (pair c.in-Ok-clone_in.value c.step_members.new.value) (ap (λ (i : Data). pair i c.step_members.new.value) c.in-Ok-clone_in.ensures) c.step_observer.new.meter
-    c.step_observer.new.observer c.in_ok-seen.seen c.in_ok-seen.ensures _ c.stop-in-Err-begin.ensures.entered c.stop-in-Err-begin.ensures.height m depth t T e L N W)
+    c.step_members.new.members c.step_members.new.value (run_alike (context_machine g.R.Holds.answers c.args.context.now) c.args.releasing.now.members c.hold_back_members.new.members (c.in-Ok.ensures.runs_on (context_machine g.R.Holds.answers c.args.context.now)) c.in_ok-step_members.ensures) (pair c.in-Ok-clone_in.value c.step_members.new.value) (ap (λ (i : Data). pair i c.step_members.new.value) c.in-Ok-clone_in.ensures) c.step_beside.new.meter
+    c.step_beside.new.state c.in_ok-seen.seen c.in_ok-seen.ensures _ c.stop-in-Err-begin.ensures.entered c.stop-in-Err-begin.ensures.height m depth t T e L N W)
 
 pub step_releasing-returns-in_err-first_step-in-Some : goal.step_releasing-returns-in_err-first_step-in-Some
 step_releasing-returns-in_err-first_step-in-Some g t c = λ m depth t T e L N W.
     pass_beside (context_machine g.R.Holds.answers c.args.context.now) _ _ _ c.from_residual-in_err-first_step-in-Some.ensures.0 (released_body_fails (context_machine g.R.Holds.answers c.args.context.now) c.args.names.now c.args.releasing.now c.args.context.now.dt c.args.value.now c.args.meter.now c.step_members.new.meter c.args.inside
-    c.step_members.new.members c.step_members.new.value (run_alike (context_machine g.R.Holds.answers c.args.context.now) c.args.releasing.now.members c.hold_back_members.new.members (c.in-Ok.ensures.runs_on (context_machine g.R.Holds.answers c.args.context.now)) c.in_ok-step_members.ensures) (pair c.in-Ok-clone_in.value c.step_members.new.value) (ap (λ (i : Data). pair i c.step_members.new.value) c.in-Ok-clone_in.ensures) c.step_observer.new.meter
-    c.step_observer.new.observer c.in_ok-seen.seen c.in_ok-seen.ensures (bound_value c.in-Some.payload) (some_occurs _ c.payload_of.result c.in-Some.payload c.in_ok-seen.seen c.payload_of.ensures c.in-Some.is)
+    c.step_members.new.members c.step_members.new.value (run_alike (context_machine g.R.Holds.answers c.args.context.now) c.args.releasing.now.members c.hold_back_members.new.members (c.in-Ok.ensures.runs_on (context_machine g.R.Holds.answers c.args.context.now)) c.in_ok-step_members.ensures) (pair c.in-Ok-clone_in.value c.step_members.new.value) (ap (λ (i : Data). pair i c.step_members.new.value) c.in-Ok-clone_in.ensures) c.step_beside.new.meter
+    c.step_beside.new.state c.in_ok-seen.seen c.in_ok-seen.ensures (bound_value c.in-Some.payload) (some_occurs _ c.payload_of.result c.in-Some.payload c.in_ok-seen.seen c.payload_of.ensures c.in-Some.is)
     (Unborn c.in-Ok-begin.value) (rw c.in-Ok.ensures.held at (c.in-Ok-begin.ensures (g.R.Holds.answers c.args.context.now.functions.now)))
     c.in-Ok-clone_in.value c.in-Ok-clone_in.ensures c.first_step.new.meter _ c.in_err-first_step-in-Some.ensures m depth t T e L N W)
 
 pub step_releasing-returns-in_ok-first_step-in-Some : goal.step_releasing-returns-in_ok-first_step-in-Some
 step_releasing-returns-in_ok-first_step-in-Some g t c =
     released_body_takes_over (context_machine g.R.Holds.answers c.args.context.now) c.args.names.now c.args.releasing.now c.args.context.now.dt c.args.value.now c.args.meter.now c.step_members.new.meter c.args.inside
-    c.step_members.new.members c.step_members.new.value (run_alike (context_machine g.R.Holds.answers c.args.context.now) c.args.releasing.now.members c.hold_back_members.new.members (c.in-Ok.ensures.runs_on (context_machine g.R.Holds.answers c.args.context.now)) c.in_ok-step_members.ensures) (pair c.in-Ok-clone_in.value c.step_members.new.value) (ap (λ (i : Data). pair i c.step_members.new.value) c.in-Ok-clone_in.ensures) c.step_observer.new.meter
-    c.step_observer.new.observer c.in_ok-seen.seen c.in_ok-seen.ensures (bound_value c.in-Some.payload) (some_occurs _ c.payload_of.result c.in-Some.payload c.in_ok-seen.seen c.payload_of.ensures c.in-Some.is)
+    c.step_members.new.members c.step_members.new.value (run_alike (context_machine g.R.Holds.answers c.args.context.now) c.args.releasing.now.members c.hold_back_members.new.members (c.in-Ok.ensures.runs_on (context_machine g.R.Holds.answers c.args.context.now)) c.in_ok-step_members.ensures) (pair c.in-Ok-clone_in.value c.step_members.new.value) (ap (λ (i : Data). pair i c.step_members.new.value) c.in-Ok-clone_in.ensures) c.step_beside.new.meter
+    c.step_beside.new.state c.in_ok-seen.seen c.in_ok-seen.ensures (bound_value c.in-Some.payload) (some_occurs _ c.payload_of.result c.in-Some.payload c.in_ok-seen.seen c.payload_of.ensures c.in-Some.is)
     (Unborn c.in-Ok-begin.value) (rw c.in-Ok.ensures.held at (c.in-Ok-begin.ensures (g.R.Holds.answers c.args.context.now.functions.now)))
     c.in-Ok-clone_in.value c.in-Ok-clone_in.ensures c.first_step.new.meter
     c.first_step.new.state c.first_step.new.value _ c.show.ensures _ c.in_ok-first_step-in-Some.ensures

@@ -60,7 +60,28 @@ abbrev pub decreases-step_frozen : goal.decreases-step_frozen
 decreases-step_frozen g l = 26 * (1600 - l.depth) + 4
 
 abbrev pub decreases-step_sequence : goal.decreases-step_sequence
-decreases-step_sequence g l = 26 * (1600 - l.inside) + 8
+decreases-step_sequence g l = 26 * (1600 - l.inside) + 9
+
+abbrev pub decreases-step_on_split : goal.decreases-step_on_split
+decreases-step_on_split g l = 26 * (1600 - l.depth) + 8
+
+abbrev pub decreases-step_split : goal.decreases-step_split
+decreases-step_split g l = 26 * (1600 - l.depth) + 7
+
+abbrev pub decreases-step_node_split : goal.decreases-step_node_split
+decreases-step_node_split g l = 26 * (1600 - l.inside) + 17
+
+abbrev pub decreases-step_live_split : goal.decreases-step_live_split
+decreases-step_live_split g l = 26 * (1600 - l.inside) + 15
+
+abbrev pub decreases-step_halves : goal.decreases-step_halves
+decreases-step_halves g l = 26 * (1600 - l.inside) + 7
+
+abbrev pub decreases-first_split : goal.decreases-first_split
+decreases-first_split g l = 26 * (1600 - l.around.now.inside) + 1
+
+abbrev pub decreases-first_on_split : goal.decreases-first_on_split
+decreases-first_on_split g l = 26 * (1600 - l.around.now.inside) + 2
 
 abbrev pub decreases-step_parallel : goal.decreases-step_parallel
 decreases-step_parallel g l = 26 * (1600 - l.inside) + 8
@@ -149,11 +170,11 @@ decreases-step_recurring g l = 26 * (1600 - l.inside) + 12
 abbrev pub decreases-step_continuing : goal.decreases-step_continuing
 decreases-step_continuing g l = 26 * (1600 - l.inside) + 12
 
-abbrev pub decreases-step_observer : goal.decreases-step_observer
-decreases-step_observer g l = 26 * (1600 - l.inside) + 7
+abbrev pub decreases-step_beside : goal.decreases-step_beside
+decreases-step_beside g l = 26 * (1600 - l.inside) + 7
 
-abbrev pub decreases-first_of_observer : goal.decreases-first_of_observer
-decreases-first_of_observer g l = 26 * (1600 - l.around.now.inside) + 1
+abbrev pub decreases-first_beside : goal.decreases-first_beside
+decreases-first_beside g l = 26 * (1600 - l.around.now.inside) + 1
 
 abbrev pub invariant-step_pipeline-loop-stage : goal.invariant-step_pipeline-loop-stage
 invariant-step_pipeline-loop-stage g l = record {

@@ -1,2 +1,0 @@
-use Rattle.std.proofs.Common.{sym, ◌∙◌, ap, subst}
-use Rattle.sf_step.proofs.leaves.primitive_behind.Goals as goal
